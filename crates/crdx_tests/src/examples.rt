@@ -1,7 +1,8 @@
 //! The examples at the heads of the crates, line by line, each a test.
 use crate::support::documents::{SPEC, WIDGET, ZERO_AND_ONE};
 use crate::support::fakes::{FailingSink, FakeInputs};
-use crate::support::harness::{made, pools_of, schema_of, words_of};
+use crate::support::given::{TWO_FIELDS, made};
+use crate::support::harness::{pools_of, schema_of, words_of};
 use cover::cover;
 use crdx::run;
 use enumerate::page;
@@ -62,7 +63,7 @@ fn plan(rt: HostRuntime) -> Result<(), Fail> {
 #[test]
 fn enumerate(rt: HostRuntime) -> Result<(), Fail> {
     let alloc = rt.alloc();
-    let mut plan = made(alloc, (SPEC, ZERO_AND_ONE, 4))?;
+    let mut plan = made(alloc, TWO_FIELDS)?;
     let mut meter = plan.meter();
     let first = page(alloc, &plan, None, 2, &mut meter)?;
     assert_eq!(rt; first.items.len(), 2);

@@ -2,30 +2,36 @@
 //!
 //! | File | What is tested |
 //! |---|---|
-//! | `jtree_tests/tree_cases` | trees: read and written, their order, pointers, the value under a name, the last node |
+//! | `jtree_tests/tree_cases` | trees: read, copied and written |
+//! | `jtree_tests/order_cases`, `pointer_cases` | the order of trees, and the tokens of pointers |
+//! | `jtree_tests/part_cases` | how many nodes a tree has, the value under a name, the last node |
 //! | `jtree_tests/refusal_cases` | why bytes are no document: a number and where it is, a line and a column, a length |
 //! | `jtree_tests/source_cases` | documents in pieces, sources that fail, and readers that are interrupted |
 //! | `jtree_tests/line_cases` | lines of a source: the last one, empty and long ones, and sources that fail |
 //! | `schema_tests/reading_cases` | definitions that are read or refused, and the form of each keyword |
 //! | `schema_tests/limit_cases` | schemas at each limit and past it |
 //! | `schema_tests/marker_cases` | the markers of lists and maps (V10 to V13) |
-//! | `schema_tests/profile_cases` | junctors and the profile (V16, V17) |
+//! | `schema_tests/junctor_cases` | junctors (V16) |
+//! | `schema_tests/profile_cases`, `root_cases` | the profile (V17), below the root and at it |
 //! | `schema_tests/reason_cases` | the reasons of violations, a row for each |
 //! | `schema_tests/node_cases` | the nodes of each sort |
 //! | `stored_tests/default_cases` | defaults that are misplaced or bad (V15, V14) |
-//! | `stored_tests/object_cases` | objects that are valid or not, pruned, completed |
-//! | `stored_tests/part_cases` | numbers of parts within bounds, and junctors by any test of a branch |
+//! | `stored_tests/object_cases` | objects: their faults, pruned, completed |
+//! | `stored_tests/value_cases` | values of a field that are valid or not, stored or not |
+//! | `stored_tests/bound_cases` | numbers of parts within bounds, and junctors by any test of a branch |
 //! | `explain_tests/field_cases` | the fields of a listing, and the field and the node of a path |
-//! | `plan_tests/pools_cases` | documents of pools |
+//! | `plan_tests/pools_cases`, `pool_limit_cases` | documents of pools, and how many entries they may have |
 //! | `plan_tests/size_set_cases` | sets of sizes |
-//! | `plan_tests/plan_cases` | plans: their nodes, sizes, candidates and slots |
-//! | `suggest_tests/document_cases` | the pools document that is suggested for a schema, for objects, and around an object |
+//! | `plan_tests/plan_cases`, `size_cases` | plans: their nodes, slots and limits, and the sizes of what may be there |
+//! | `suggest_tests/document_cases`, `varied_cases` | the pools document that is suggested for a schema and for objects, and around an object |
 //! | `enumerate_tests/lending_cases` | samples lent to a taker, page by page |
-//! | `enumerate_tests/page_cases` | pages, walks and enumerations, with their steps |
+//! | `enumerate_tests/page_cases`, `walk_cases` | pages, enumerations with their steps, and walks |
 //! | `enumerate_tests/reference_cases` | the plain reference, and walks, against lists made by hand |
-//! | `enumerate_tests/small_plan_cases` | 2,124 small plans, 402 of them with a list for a path, 546 with fixed values and 216 with present paths, and their pages against the plain reference |
+//! | `enumerate_tests/small_plan_cases` | 2,124 small plans against the plain reference: their nodes, their pages and what is stored |
+//! | `enumerate_tests/stored_cases` | what is stored, by the plain reference and by `stored`, against values that were judged by hand |
 //! | `enumerate_tests/wide_cases` | plans over words of 128 bits |
-//! | `program/argument_cases` | the arguments, mistakes in them, and help |
+//! | `program/argument_cases` | what the arguments ask for |
+//! | `program/help_cases` | mistakes in the arguments, and help |
 //! | `program/check_cases`, `validate_cases`, `prune_cases`, `sample_cases` | what each command prints |
 //! | `program/all_cases` | `sample --all`: all lines, past 10,000 too, flushes, and sinks that fail |
 //! | `program/line_cases` | `validate`, `prune`, `default` and `leaves` of objects on lines |
@@ -34,17 +40,17 @@
 //! | `program/limit_cases` | `sample` with limits up to 127 |
 //! | `program/path_cases`, `bad_path_cases` | `sample` with values listed for the paths of fields, and paths that are refused |
 //! | `program/fixed_path_cases`, `present_path_cases` | `sample` with fixed values for paths, and with paths that are always there |
-//! | `program/presence_cases` | junctors that ask which fields an object has: judged, validated and listed |
+//! | `program/presence_cases`, `presence_sample_cases` | junctors that ask which fields an object has: judged and validated, and listed |
 //! | `program/explain_cases`, `leaf_cases` | what `explain` and `leaves` print, and what they refuse |
 //! | `program/explanation_cases`, `large_cases` | what `--why` says below a refusal, and what `--large` lets through |
-//! | `program/refusal_cases` | inputs that are refused, and which is judged first |
+//! | `program/refusal_cases`, `sample_refusal_cases` | inputs that are refused, and which is judged first |
 //! | `program/input_cases` | documents in files, reads that fail after each byte, and which inputs a run reads |
 //! | `program/broken_sink_cases` | sinks that fail after each byte |
 //! | `program/resume_cases` | walks that stop after each byte, and the walks that go on there |
 //! | `program/hostile_cases` | documents that are cut, deep or long, and places that are no samples |
 //! | `program/envelope_cases` | the envelope of a resource, taken off and put back |
 //! | `examples` | the examples at the heads of the crates |
-//! | `support` | documents, fakes, the plain reference, and what several files use |
+//! | `support` | documents, fakes, reports of rows, phrases, the plain reference, and what several files use |
 #![tactic(auto)]
 
 #[cfg(test)]

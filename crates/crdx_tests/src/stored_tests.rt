@@ -1,4 +1,5 @@
 //! Tests of `stored`.
+mod bound_cases;
 mod default_cases;
 mod object_cases;
-mod part_cases;
+mod value_cases;

@@ -1,2 +1,3 @@
 //! Tests of `suggest`.
 mod document_cases;
+mod varied_cases;

@@ -4,14 +4,14 @@ ghost use Rattle.std.specs.Prelude.{◌≡◌, ◌++◌, IfOk};
 ghost use Rattle.jtree.specs.View.{data_of};
 ghost use Rattle.enumerate.specs.View.{trees_of};
 
-use crate::support::documents::{SPEC, ZERO_AND_ONE};
-use crate::support::harness::{is_said, is_value, made};
+use crate::support::given::{TWO_FIELDS, made};
+use crate::support::harness::is_said;
 use crate::support::pages::place_of;
+use crate::support::report::Report;
 use enumerate::{Change, EFault, Live, Taker};
 use jtree::Tree;
 use plan::Meter;
 use std::alloc::{AllocError, Global};
-use std::process::Abort;
 use std::test::Fail;
 
 /// Copies of samples, with room for so many. It fails where a sample differs from the one before in more than the change.
@@ -78,73 +78,80 @@ fn copied(alloc: Global, tree: &Tree) -> Result<Tree, AllocError>
     }
 }
 
-// A name, the place to go on from, how much room the taker has, the sizes of two pages, what it has taken of both, what the
-// second answers, and where the enumeration is then.
-type LentRow = (
-    &'static str,
-    Option<&'static str>,
-    usize,
-    (u32, u32),
-    &'static str,
-    Result<bool, EFault>,
-    &'static str,
-);
+/// The place to go on from, how much room the taker has, the sizes of two pages, what it has taken of both, what the second answers,
+/// and where the enumeration is then.
+struct LentRow {
+    name: &'static str,
+    place: Option<&'static str>,
+    room: usize,
+    first: u32,
+    second: u32,
+    taken: &'static str,
+    answer: Result<bool, EFault>,
+    at: &'static str,
+}
 
 static LENT: [LentRow; 6] = [
-    (
-        "two pages",
-        None,
-        100,
-        (2, 3),
-        r#"{} {"spec":{}} {"spec":{"b":false}} {"spec":{"b":true}} {"spec":{"a":0}} "#,
-        Ok(false),
-        r#"{"spec":{"a":1}}"#,
-    ),
-    (
-        "past a sample",
-        Some(r#"{"spec":{"a":0}}"#),
-        100,
-        (1, 1),
-        r#"{"spec":{"a":1}} {"spec":{"a":0,"b":false}} "#,
-        Ok(false),
-        r#"{"spec":{"a":0,"b":true}}"#,
-    ),
-    (
-        "exactly to the end",
-        Some(r#"{"spec":{"a":0,"b":false}}"#),
-        100,
-        (1, 2),
-        r#"{"spec":{"a":0,"b":true}} {"spec":{"a":1,"b":false}} {"spec":{"a":1,"b":true}} "#,
-        Ok(true),
-        "ended",
-    ),
-    (
-        "more room than samples",
-        Some(r#"{"spec":{"a":0,"b":true}}"#),
-        100,
-        (1, 10000),
-        r#"{"spec":{"a":1,"b":false}} {"spec":{"a":1,"b":true}} "#,
-        Ok(true),
-        "ended",
-    ),
-    (
-        "a page of none",
-        None,
-        100,
-        (1, 0),
-        "{} ",
-        Ok(false),
-        r#"{"spec":{}}"#,
-    ),
-    (
-        "a taker that fails",
-        None,
-        3,
-        (2, 3),
-        r#"{} {"spec":{}} {"spec":{"b":false}} "#,
-        Err(EFault::NoMemory),
-        "ended",
-    ),
+    LentRow {
+        name: "two pages",
+        place: None,
+        room: 100,
+        first: 2,
+        second: 3,
+        taken: r#"{} {"spec":{}} {"spec":{"b":false}} {"spec":{"b":true}} {"spec":{"a":0}} "#,
+        answer: Ok(false),
+        at: r#"{"spec":{"a":1}}"#,
+    },
+    LentRow {
+        name: "past a sample",
+        place: Some(r#"{"spec":{"a":0}}"#),
+        room: 100,
+        first: 1,
+        second: 1,
+        taken: r#"{"spec":{"a":1}} {"spec":{"a":0,"b":false}} "#,
+        answer: Ok(false),
+        at: r#"{"spec":{"a":0,"b":true}}"#,
+    },
+    LentRow {
+        name: "exactly to the end",
+        place: Some(r#"{"spec":{"a":0,"b":false}}"#),
+        room: 100,
+        first: 1,
+        second: 2,
+        taken: r#"{"spec":{"a":0,"b":true}} {"spec":{"a":1,"b":false}} {"spec":{"a":1,"b":true}} "#,
+        answer: Ok(true),
+        at: "ended",
+    },
+    LentRow {
+        name: "more room than samples",
+        place: Some(r#"{"spec":{"a":0,"b":true}}"#),
+        room: 100,
+        first: 1,
+        second: 10000,
+        taken: r#"{"spec":{"a":1,"b":false}} {"spec":{"a":1,"b":true}} "#,
+        answer: Ok(true),
+        at: "ended",
+    },
+    LentRow {
+        name: "a page of none",
+        place: None,
+        room: 100,
+        first: 1,
+        second: 0,
+        taken: "{} ",
+        answer: Ok(false),
+        at: r#"{"spec":{}}"#,
+    },
+    LentRow {
+        name: "a taker that fails",
+        place: None,
+        room: 3,
+        first: 2,
+        second: 3,
+        taken: r#"{} {"spec":{}} {"spec":{"b":false}} "#,
+        answer: Err(EFault::NoMemory),
+        at: "ended",
+    },
 ];
 
 /// The texts of the trees, each with a space after it.
@@ -165,52 +172,52 @@ fn said_of_tree(alloc: Global, tree: Option<&Tree>) -> Result<String, Fail> {
 }
 
 fn lends(
-    rt: &impl Abort,
+    report: &mut Report,
     alloc: Global,
     live: &mut Live<'_, u64>,
     row: &LentRow,
     meter: &mut Meter,
 ) -> Result<(), Fail> {
-    let (name, _place, room, (first, second), taken, answer, at) = *row;
     let mut copies = Copies {
         alloc,
-        room,
+        room: row.room,
         trees: Vec::new(alloc),
     };
-    let goes_on = live.lend_page(first, &mut copies, meter);
-    is_value(rt, &goes_on, &Ok(false), "the first answer", name);
-    let found = live.lend_page(second, &mut copies, meter);
-    is_value(rt, &found, &answer, "the second answer", name);
+    let first = live.lend_page(row.first, &mut copies, meter);
+    report.is_value("the first answer", &first, &Ok(false))?;
+    let second = live.lend_page(row.second, &mut copies, meter);
+    report.is_value("the second answer", &second, &row.answer)?;
     if live.tree().is_none() {
         for count in [0, 1] {
             let again = live.lend_page(count, &mut copies, meter);
-            is_value(
-                rt,
-                &again,
-                &Err(EFault::Ended),
-                "an answer after the end",
-                name,
-            );
+            report.is_value("an answer after the end", &again, &Err(EFault::Ended))?;
         }
     }
-    is_said(rt, texts(alloc, &copies.trees), taken, "taken", name)?;
-    is_said(rt, said_of_tree(alloc, live.tree()), at, "the place", name)
+    is_said(report, "taken", texts(alloc, &copies.trees), row.taken)?;
+    is_said(
+        report,
+        "the place",
+        said_of_tree(alloc, live.tree()),
+        row.at,
+    )
 }
 
-fn try_lent(rt: &impl Abort, alloc: Global, row: &LentRow) -> Result<(), Fail> {
-    let mut plan = made(alloc, (SPEC, ZERO_AND_ONE, 4))?;
+fn try_lent(report: &mut Report, alloc: Global, row: &LentRow) -> Result<(), Fail> {
+    let mut plan = made(alloc, TWO_FIELDS)?;
     let mut meter = plan.meter();
-    let place = place_of(alloc, row.1)?;
+    let place = place_of(alloc, row.place)?;
     match Live::past(alloc, &plan, place.as_ref(), &mut meter)? {
-        Some(mut live) => lends(rt, alloc, &mut live, row, &mut meter),
+        Some(mut live) => lends(report, alloc, &mut live, row, &mut meter),
         None => Err(Fail::from("no sample")),
     }
 }
 
 #[test]
 fn lent(rt: HostRuntime) -> Result<(), Fail> {
+    let mut report = Report::new(rt.alloc());
     for row in &LENT {
-        try_lent(&rt, rt.alloc(), row)?;
+        let ended = try_lent(&mut report, rt.alloc(), row);
+        report.row(row.name, ended)?;
     }
-    Ok(())
+    report.end(&rt)
 }

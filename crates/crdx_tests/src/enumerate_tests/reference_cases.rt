@@ -1,20 +1,25 @@
 //! The plain reference, and walks, against lists of samples that were made by hand.
-use crate::support::comparison::try_plan;
+use crate::support::comparison::compare_plan;
 use crate::support::documents::{
-    DEFAULTED, LABELS, LONG_MAP_LIST, MAP_LIST, NAMES, NULLABLE, OPEN, OPEN_NULLABLE, REPEATED,
-    REQUIRED_LONG_MAP_LIST, SET, SIX_SETS, SPEC, TEN_LINES, TRUTHS, TWO_INTEGER_KEYS, TWO_TEXTS,
-    ZERO_AND_ONE, ZERO_AND_SEVEN,
+    DEFAULTED, LABELS, LONG_MAP_LIST, OPEN, OPEN_NULLABLE, REQUIRED_LONG_MAP_LIST, SIX_SETS, SPEC,
+    TEN_LINES, TWO_TEXTS, ZERO_AND_ONE,
 };
 use crate::support::fakes::FailingSink;
-use crate::support::harness::{is_number, is_said, is_tree};
-use crate::support::pages::{listed, plain_lines, walked};
+use crate::support::given::{
+    DEFAULTS, Given, LABELLED, MAP_LISTS, NULLABLE_OBJECTS, SETS, TWO_FIELDS, TWO_KEYED_LISTS,
+    TWO_OF_THREE,
+};
+use crate::support::harness::{is_said, is_tree};
+use crate::support::pages::{WalkInput, listed, plain_lines, walked};
+use crate::support::report::Report;
 use jtree::Tree;
-use std::alloc::Global;
-use std::process::Abort;
+use std::alloc::{AllocError, Global};
 use std::test::Fail;
 
 const TWO_KEYS: &str =
-    r#"{"type":"object","properties":{"m":{"type":"array","x-kubernetes-list-type":"map","x-kubernetes-list-map-keys":["host","port"],"items":{"type":"object","properties":{"host":{"type":"string"},"port":{"type":"integer"}},"required":["host","port"]}}}}"#;
+    r#"{"type":"object","properties":{"m":{"type":"array","x-kubernetes-list-type":"map",
+        "x-kubernetes-list-map-keys":["host","port"],"items":{"type":"object",
+        "properties":{"host":{"type":"string"},"port":{"type":"integer"}},"required":["host","port"]}}}}"#;
 
 const ONE_OF: &str =
     r#"{"type":"object","required":["n"],"properties":{"n":{"type":"integer","oneOf":[{"minimum":1},{"maximum":3}]}}}"#;
@@ -28,23 +33,45 @@ const LISTS_OF_LISTS: &str =
 const ALL_POOLS: &str =
     r#"{"any":[{"q":1},"z"],"integers":[0,1],"names":["k"],"strings":["a","b"]}"#;
 
-// A name, a schema with its pools and limit, and all samples.
-static SAMPLES: [(&str, (&str, &str, u32), &str); 16] = [
-    ("two fields", (SPEC, ZERO_AND_ONE, 4), TEN_LINES),
-    ("one node", (SPEC, ZERO_AND_ONE, 1), "{}\n"),
-    (
-        "an object that may be null",
-        (NULLABLE, "{}", 2),
-        r#"{}
+/// All samples of a plan.
+struct SamplesRow {
+    name: &'static str,
+    given: Given<'static>,
+    lines: &'static str,
+}
+
+static SAMPLES: [SamplesRow; 16] = [
+    SamplesRow {
+        name: "two fields",
+        given: TWO_FIELDS,
+        lines: TEN_LINES,
+    },
+    SamplesRow {
+        name: "one node",
+        given: Given {
+            schema: SPEC,
+            pools: ZERO_AND_ONE,
+            limit: 1,
+        },
+        lines: "{}\n",
+    },
+    SamplesRow {
+        name: "an object that may be null",
+        given: NULLABLE_OBJECTS,
+        lines: r#"{}
 {"n":null}
 {"n":{}}
 "#,
-    ),
-    ("a set", (SET, REPEATED, 4), SIX_SETS),
-    (
-        "a map list",
-        (MAP_LIST, TWO_TEXTS, 8),
-        r#"{}
+    },
+    SamplesRow {
+        name: "a set",
+        given: SETS,
+        lines: SIX_SETS,
+    },
+    SamplesRow {
+        name: "a map list",
+        given: MAP_LISTS,
+        lines: r#"{}
 {"m":[]}
 {"m":[{"k":"a"}]}
 {"m":[{"k":"b"}]}
@@ -59,22 +86,26 @@ static SAMPLES: [(&str, (&str, &str, u32), &str); 16] = [
 {"m":[{"k":"a","v":0},{"k":"b","v":0}]}
 {"m":[{"k":"b","v":0},{"k":"a","v":0}]}
 "#,
-    ),
-    (
-        "a map list by two keys",
-        (TWO_KEYS, r#"{"strings":["x"],"integers":[0,1]}"#, 8),
-        r#"{}
+    },
+    SamplesRow {
+        name: "a map list by two keys",
+        given: Given {
+            schema: TWO_KEYS,
+            pools: r#"{"strings":["x"],"integers":[0,1]}"#,
+            limit: 8,
+        },
+        lines: r#"{}
 {"m":[]}
 {"m":[{"host":"x","port":0}]}
 {"m":[{"host":"x","port":1}]}
 {"m":[{"host":"x","port":0},{"host":"x","port":1}]}
 {"m":[{"host":"x","port":1},{"host":"x","port":0}]}
 "#,
-    ),
-    (
-        "at least two of three truth values",
-        (TRUTHS, "{}", 4),
-        r#"{}
+    },
+    SamplesRow {
+        name: "at least two of three truth values",
+        given: TWO_OF_THREE,
+        lines: r#"{}
 {"o":{"b":false,"c":false}}
 {"o":{"b":false,"c":true}}
 {"o":{"b":true,"c":false}}
@@ -88,148 +119,194 @@ static SAMPLES: [(&str, (&str, &str, u32), &str); 16] = [
 {"o":{"a":true,"b":false}}
 {"o":{"a":true,"b":true}}
 "#,
-    ),
-    (
-        "a map over two names",
-        (LABELS, r#"{"names":["k","j"],"strings":["x"]}"#, 4),
-        r#"{}
+    },
+    SamplesRow {
+        name: "a map over two names",
+        given: Given {
+            schema: LABELS,
+            pools: r#"{"names":["k","j"],"strings":["x"]}"#,
+            limit: 4,
+        },
+        lines: r#"{}
 {"labels":{}}
 {"labels":{"k":"x"}}
 {"labels":{"j":"x"}}
 {"labels":{"j":"x","k":"x"}}
 "#,
-    ),
-    (
-        "a map over names with a repeat",
-        (LABELS, NAMES, 4),
-        r#"{}
+    },
+    SamplesRow {
+        name: "a map over names with a repeat",
+        given: LABELLED,
+        lines: r#"{}
 {"labels":{}}
 {"labels":{"k":"x"}}
 {"labels":{"j":"x"}}
 {"labels":{"j":"x","k":"x"}}
 "#,
-    ),
-    (
-        "one of two branches",
-        (ONE_OF, r#"{"integers":[0,1,2,3,4]}"#, 2),
-        r#"{"n":0}
+    },
+    SamplesRow {
+        name: "one of two branches",
+        given: Given {
+            schema: ONE_OF,
+            pools: r#"{"integers":[0,1,2,3,4]}"#,
+            limit: 2,
+        },
+        lines: r#"{"n":0}
 {"n":4}
 "#,
-    ),
-    (
-        "a default",
-        (DEFAULTED, ZERO_AND_SEVEN, 3),
-        r#"{}
+    },
+    SamplesRow {
+        name: "a default",
+        given: DEFAULTS,
+        lines: r#"{}
 {"spec":{"f":0}}
 {"spec":{"f":7}}
 "#,
-    ),
-    (
-        "int-or-string",
-        (INT_OR_STRING, r#"{"integers":[1],"strings":["1"]}"#, 2),
-        r#"{}
+    },
+    SamplesRow {
+        name: "int-or-string",
+        given: Given {
+            schema: INT_OR_STRING,
+            pools: r#"{"integers":[1],"strings":["1"]}"#,
+            limit: 2,
+        },
+        lines: r#"{}
 {"p":1}
 {"p":"1"}
 "#,
-    ),
-    (
-        "any value",
-        (OPEN, ALL_POOLS, 3),
-        r#"{}
+    },
+    SamplesRow {
+        name: "any value",
+        given: Given {
+            schema: OPEN,
+            pools: ALL_POOLS,
+            limit: 3,
+        },
+        lines: r#"{}
 {"x":"z"}
 {"x":{"q":1}}
 "#,
-    ),
-    (
-        "lists of lists",
-        (LISTS_OF_LISTS, r#"{"integers":[0]}"#, 4),
-        r#"{}
+    },
+    SamplesRow {
+        name: "lists of lists",
+        given: Given {
+            schema: LISTS_OF_LISTS,
+            pools: r#"{"integers":[0]}"#,
+            limit: 4,
+        },
+        lines: r#"{}
 {"l":[]}
 {"l":[[]]}
 {"l":[[],[]]}
 {"l":[[0]]}
 "#,
-    ),
-    ("no null", (OPEN, r#"{"any":[null]}"#, 2), "{}\n"),
-    (
-        "null",
-        (OPEN_NULLABLE, r#"{"any":[null]}"#, 2),
-        r#"{}
+    },
+    SamplesRow {
+        name: "no null",
+        given: Given {
+            schema: OPEN,
+            pools: r#"{"any":[null]}"#,
+            limit: 2,
+        },
+        lines: "{}\n",
+    },
+    SamplesRow {
+        name: "null",
+        given: Given {
+            schema: OPEN_NULLABLE,
+            pools: r#"{"any":[null]}"#,
+            limit: 2,
+        },
+        lines: r#"{}
 {"x":null}
 "#,
-    ),
+    },
 ];
 
-// A name, and the schema of a map list of more items than keys.
-static LONG_LISTS: [(&str, &str); 2] = [
-    ("a list that cannot be", LONG_MAP_LIST),
-    ("a required list that cannot be", REQUIRED_LONG_MAP_LIST),
+/// The schema of a map list of more items than keys.
+struct LongList {
+    name: &'static str,
+    schema: &'static str,
+}
+
+static LONG_LISTS: [LongList; 2] = [
+    LongList {
+        name: "a list that cannot be",
+        schema: LONG_MAP_LIST,
+    },
+    LongList {
+        name: "a required list that cannot be",
+        schema: REQUIRED_LONG_MAP_LIST,
+    },
 ];
 
 /// What a walk writes by pages of three.
-fn walked_lines(alloc: Global, given: (&str, &str, u32)) -> Result<String, Fail> {
+fn walked_lines(alloc: Global, given: Given<'_>) -> Result<String, Fail> {
+    let walk = WalkInput {
+        given,
+        place: None,
+        page: 3,
+        total: 10000,
+    };
     let mut sink = FailingSink::endless(alloc);
-    let walked = walked(alloc, given, None, 3, 10000, &mut sink)??;
+    let walked = walked(alloc, walk, &mut sink)??;
     if !walked.end {
         return Err(Fail::from("no end"));
     }
     Ok(String::from_str(alloc, sink.text())?)
 }
 
+fn try_samples(report: &mut Report, alloc: Global, row: &SamplesRow) -> Result<(), Fail> {
+    is_said(report, "samples", plain_lines(alloc, row.given), row.lines)?;
+    is_said(report, "lines", walked_lines(alloc, row.given), row.lines)
+}
+
 #[test]
 fn samples(rt: HostRuntime) -> Result<(), Fail> {
-    for (name, given, wanted) in &SAMPLES {
-        is_said(
-            &rt,
-            plain_lines(rt.alloc(), *given),
-            wanted,
-            "samples",
-            name,
-        )?;
-        is_said(&rt, walked_lines(rt.alloc(), *given), wanted, "lines", name)?;
+    let mut report = Report::new(rt.alloc());
+    for row in &SAMPLES {
+        let ended = try_samples(&mut report, rt.alloc(), row);
+        report.row(row.name, ended)?;
     }
-    Ok(())
+    report.end(&rt)
 }
 
-/// A plan of at most so many nodes is as the plain reference has it.
-fn is_plain(
-    rt: &impl Abort,
-    alloc: Global,
-    given: (&str, &str, u32),
-    name: &str,
-) -> Result<(), Fail> {
-    let (_schema, _pools, limit) = given;
-    let name = format!(in alloc; "{name}, of at most {limit} nodes")?;
-    try_plan(rt, alloc, given, name.as_str())
-}
-
+/// The plans of at most 1 to 8 nodes are as the plain reference has them.
 fn are_plain(
-    rt: &impl Abort,
+    report: &mut Report,
     alloc: Global,
     schema: &str,
     pools: &str,
     name: &str,
-) -> Result<(), Fail> {
+) -> Result<(), AllocError> {
     for limit in 1..9 {
-        is_plain(rt, alloc, (schema, pools, limit), name)?;
+        let given = Given {
+            schema,
+            pools,
+            limit,
+        };
+        compare_plan(report, alloc, given, name)?;
     }
     Ok(())
 }
 
 #[test]
 fn plans_at_each_limit(rt: HostRuntime) -> Result<(), Fail> {
-    for (name, given, _lines) in &SAMPLES {
-        are_plain(&rt, rt.alloc(), given.0, given.1, name)?;
+    let mut report = Report::new(rt.alloc());
+    for row in &SAMPLES {
+        let Given { schema, pools, .. } = row.given;
+        are_plain(&mut report, rt.alloc(), schema, pools, row.name)?;
     }
-    Ok(())
+    report.end(&rt)
 }
 
 #[test]
 fn plans_of_long_lists(rt: HostRuntime) -> Result<(), Fail> {
-    for (name, schema) in &LONG_LISTS {
-        are_plain(&rt, rt.alloc(), schema, TWO_TEXTS, name)?;
+    let mut report = Report::new(rt.alloc());
+    for row in &LONG_LISTS {
+        are_plain(&mut report, rt.alloc(), row.schema, TWO_TEXTS, row.name)?;
     }
-    Ok(())
+    report.end(&rt)
 }
 
 fn of_nodes(samples: &[Tree], nodes: u64) -> u64 {
@@ -243,20 +320,22 @@ fn of_nodes(samples: &[Tree], nodes: u64) -> u64 {
 }
 
 /// Of 74 samples 48 have nine nodes, and come after the others.
-fn are_many(rt: &impl Abort, alloc: Global, samples: &[Tree], name: &str) -> Result<(), Fail> {
-    is_number(rt, samples.len() as u64, 74, "the number", name);
-    is_number(rt, of_nodes(samples, 9), 48, "nine nodes", name);
+fn are_many(report: &mut Report, alloc: Global) -> Result<(), Fail> {
+    let samples = listed(alloc, TWO_KEYED_LISTS)?;
+    report.is_number("the number", samples.len() as u64, 74)?;
+    report.is_number("nine nodes", of_nodes(&samples, 9), 48)?;
     let Some(first) = samples.get(26) else {
         return Err(Fail::from("no sample of nine nodes"));
     };
     let wanted = r#"{"m":[{"a":0,"c":0},{"a":0,"b":false,"c":1}]}"#;
-    is_tree(rt, alloc, first, wanted, "the first of nine nodes", name)
+    is_tree(report, alloc, "the first of nine nodes", first, wanted)
 }
 
 #[test]
 fn many_samples(rt: HostRuntime) -> Result<(), Fail> {
-    let given = (TWO_INTEGER_KEYS, ZERO_AND_ONE, 9);
-    let samples = listed(rt.alloc(), given)?;
-    are_many(&rt, rt.alloc(), &samples, "many samples")?;
-    is_plain(&rt, rt.alloc(), given, "many samples")
+    let mut report = Report::new(rt.alloc());
+    let ended = are_many(&mut report, rt.alloc());
+    report.row("many samples", ended)?;
+    compare_plan(&mut report, rt.alloc(), TWO_KEYED_LISTS, "many samples")?;
+    report.end(&rt)
 }

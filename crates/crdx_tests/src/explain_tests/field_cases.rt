@@ -1,11 +1,11 @@
 //! The fields of a listing, and the field and the node of a path.
 use crate::support::documents::MAP_LIST;
-use crate::support::harness::{holds, is_number, is_said, schema_of};
+use crate::support::harness::{is_said, schema_of};
 use crate::support::nodes::{node_text, push_flag, push_keyword};
+use crate::support::report::Report;
 use explain::{Field, Listing, XFault, resolve};
 use schema::{ListType, MapType};
 use std::alloc::Global;
-use std::process::Abort;
 use std::test::Fail;
 use stored::Schema;
 
@@ -27,21 +27,69 @@ fn fault_text(alloc: Global, fault: &XFault) -> Result<String, Fail> {
     Ok(fault.to_string(alloc)?)
 }
 
-// A path, the text of its field, and its node; or the code of the fault of both.
-static PATHS: [(&str, &str, &str); 9] = [
-    ("/m", "[]Object map list key=k", "list of=object map key=k"),
-    (
-        "/m/[]",
-        "Object granular",
-        "object k=string required v=integer",
-    ),
-    ("/m/[]/k", "string required", "string"),
-    ("/m/[]/v", "integer", "integer"),
-    ("", "X2", "X2"),
-    ("/m/k", "X2", "X2"),
-    ("/m/[]/k/", "X2", "X2"),
-    ("m", "X1", "X1"),
-    ("/m/[", "X1", "X1"),
+/// A path, the text of its field, and its node; or the code of the fault of both.
+struct Path {
+    name: &'static str,
+    path: &'static str,
+    field: &'static str,
+    node: &'static str,
+}
+
+static PATHS: [Path; 9] = [
+    Path {
+        name: "a map list",
+        path: "/m",
+        field: "[]Object map list key=k",
+        node: "list of=object map key=k",
+    },
+    Path {
+        name: "an item of a map list",
+        path: "/m/[]",
+        field: "Object granular",
+        node: "object k=string required v=integer",
+    },
+    Path {
+        name: "a key",
+        path: "/m/[]/k",
+        field: "string required",
+        node: "string",
+    },
+    Path {
+        name: "a field of an item",
+        path: "/m/[]/v",
+        field: "integer",
+        node: "integer",
+    },
+    Path {
+        name: "the root",
+        path: "",
+        field: "X2",
+        node: "X2",
+    },
+    Path {
+        name: "a field of an item, without the item",
+        path: "/m/k",
+        field: "X2",
+        node: "X2",
+    },
+    Path {
+        name: "a slash after a key",
+        path: "/m/[]/k/",
+        field: "X2",
+        node: "X2",
+    },
+    Path {
+        name: "no slash before a name",
+        path: "m",
+        field: "X1",
+        node: "X1",
+    },
+    Path {
+        name: "a bracket alone",
+        path: "/m/[",
+        field: "X1",
+        node: "X1",
+    },
 ];
 
 fn said_of_field(alloc: Global, listing: &Listing, path: &str) -> Result<String, Fail> {
@@ -58,29 +106,33 @@ fn said_of_node(alloc: Global, schema: &Schema, path: &str) -> Result<String, Fa
     }
 }
 
-fn are_said(
-    rt: &impl Abort,
+fn try_path(
+    report: &mut Report,
     alloc: Global,
     schema: &Schema,
     listing: &Listing,
+    row: &Path,
 ) -> Result<(), Fail> {
-    for (path, field, node) in &PATHS {
-        let found = said_of_field(alloc, listing, path);
-        is_said(rt, found, field, "the field", path)?;
-        let found = said_of_node(alloc, schema, path);
-        is_said(rt, found, node, "the node", path)?;
-    }
-    Ok(())
+    let found = said_of_field(alloc, listing, row.path);
+    is_said(report, "the field", found, row.field)?;
+    let found = said_of_node(alloc, schema, row.path);
+    is_said(report, "the node", found, row.node)
 }
 
 #[test]
 fn fields_and_nodes_of_paths(rt: HostRuntime) -> Result<(), Fail> {
     explain::laws::paths_have_one_text();
+    let mut report = Report::new(rt.alloc());
     let schema = schema_of(rt.alloc(), MAP_LIST)?;
     let listing = Listing::new(rt.alloc(), &schema)?;
     let fields = listing.fields();
-    is_number(&rt, fields.len() as u64, 4, "the number", "fields");
+    report.is_number("the fields", fields.len() as u64, 4)?;
     let last = fields.last().map(|field| field.path.as_str());
-    holds(&rt, last == Some("/m/[]/v"), "the last path", "fields");
-    are_said(&rt, rt.alloc(), &schema, &listing)
+    report.is_value("the last path", &last, &Some("/m/[]/v"))?;
+    report.row("all fields", Ok(()))?;
+    for row in &PATHS {
+        let ended = try_path(&mut report, rt.alloc(), &schema, &listing, row);
+        report.row(row.name, ended)?;
+    }
+    report.end(&rt)
 }

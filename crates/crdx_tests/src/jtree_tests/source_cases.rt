@@ -1,13 +1,13 @@
 //! Documents that come in pieces, and sources that fail.
 use crate::support::documents::WIDGET;
 use crate::support::fakes::FailingSource;
-use crate::support::harness::{holds, is_number, is_said, is_text};
+use crate::support::harness::is_said;
+use crate::support::report::Report;
 use crate::support::texts::padded;
 use jtree::source::{Feed, Source, read_bytes};
 use jtree::{JFault, Tree};
-use std::alloc::Global;
+use std::alloc::{AllocError, Global};
 use std::io::{self, Error, ErrorKind, Read};
-use std::process::Abort;
 use std::test::Fail;
 
 fn said(alloc: Global, read: Result<Tree, JFault>) -> Result<String, Fail> {
@@ -24,103 +24,124 @@ fn said_of(alloc: Global, source: &mut impl Source) -> Result<String, Fail> {
 // How long pieces are: one byte, the length of a piece that is asked for, those beside it, and all at once.
 static STEPS: [usize; 6] = [1, 7, 8191, 8192, 8193, usize::MAX];
 
+fn try_piece(
+    report: &mut Report,
+    alloc: Global,
+    document: &str,
+    wanted: &str,
+    step: usize,
+) -> Result<(), Fail> {
+    let mut source = FailingSource::new(document.as_bytes(), step, usize::MAX);
+    let found = said_of(alloc, &mut source);
+    is_said(report, "what is read", found, wanted)?;
+    Ok(report.is_number("the failures", source.failures, 0)?)
+}
+
 /// A document of 20,000 bytes is the tree of `from_bytes` in pieces of any length.
 #[test]
 fn pieces(rt: HostRuntime) -> Result<(), Fail> {
-    let document = padded(rt.alloc(), WIDGET, 20_000usize.saturating_sub(WIDGET.len()))?;
-    let bytes = document.as_bytes();
-    let whole = said(rt.alloc(), Tree::from_bytes(rt.alloc(), bytes))?;
+    let alloc = rt.alloc();
+    let document = padded(alloc, WIDGET, 20_000usize.saturating_sub(WIDGET.len()))?;
+    let whole = said(alloc, Tree::from_bytes(alloc, document.as_bytes()))?;
+    let mut report = Report::new(alloc);
     for step in STEPS {
-        let mut source = FailingSource::new(bytes, step, usize::MAX);
-        let found = said_of(rt.alloc(), &mut source);
-        is_said(
-            &rt,
-            found,
-            whole.as_str(),
-            "what is read",
-            "a document in pieces",
-        )?;
-        is_number(
-            &rt,
-            source.failures,
-            0,
-            "the failures",
-            "a document in pieces",
-        );
+        let name = step_name(alloc, step)?;
+        let ended = try_piece(&mut report, alloc, &document, &whole, step);
+        report.row(name.as_str(), ended)?;
     }
-    is_said(
-        &rt,
-        said_of(rt.alloc(), &mut Feed::new(bytes)),
-        whole.as_str(),
-        "what is read",
-        "a document of a reader",
-    )
+    let found = said_of(alloc, &mut Feed::new(document.as_bytes()));
+    let ended = is_said(&mut report, "what is read", found, &whole);
+    report.row("a document of a reader", ended)?;
+    report.end(&rt)
+}
+
+fn step_name(alloc: Global, step: usize) -> Result<String, AllocError> {
+    format!(in alloc; "pieces of {step} bytes")
 }
 
 /// The bytes themselves are those of the source, document or not.
 #[test]
 fn bytes(rt: HostRuntime) -> Result<(), Fail> {
     let wanted: &[u8] = b"{\xff: 0.5";
+    let mut report = Report::new(rt.alloc());
     for step in STEPS {
         let mut source = FailingSource::new(wanted, step, usize::MAX);
         let found = read_bytes(rt.alloc(), &mut source)?;
-        holds(&rt, found.as_slice() == wanted, "the bytes", "a source");
+        report.is_value("the bytes", &found.as_slice(), &wanted)?;
+        report.row(step_name(rt.alloc(), step)?.as_str(), Ok(()))?;
     }
-    Ok(())
+    report.end(&rt)
+}
+
+fn try_failure(report: &mut Report, alloc: Global, step: usize, left: usize) -> Result<(), Fail> {
+    let mut source = FailingSource::new(WIDGET.as_bytes(), step, left);
+    is_said(report, "what is read", said_of(alloc, &mut source), "J5")?;
+    report.is_number("the failures", source.failures, 1)?;
+    let taken = WIDGET.len().saturating_sub(source.bytes.len());
+    Ok(report.is_number("the bytes taken", taken as u64, left as u64)?)
 }
 
 /// A source that fails after each number of bytes, also after the last one.
 #[test]
 fn failures(rt: HostRuntime) -> Result<(), Fail> {
+    let mut report = Report::new(rt.alloc());
     for left in 0..WIDGET.len() + 1 {
         for step in [1, usize::MAX] {
-            let mut source = FailingSource::new(WIDGET.as_bytes(), step, left);
-            let found = said_of(rt.alloc(), &mut source);
-            is_said(&rt, found, "J5", "what is read", "a source that fails")?;
-            is_number(
-                &rt,
-                source.failures,
-                1,
-                "the failures",
-                "a source that fails",
-            );
-            let taken = WIDGET.len().saturating_sub(source.bytes.len());
-            is_number(
-                &rt,
-                taken as u64,
-                left as u64,
-                "the bytes taken",
-                "a source that fails",
-            );
+            let name = format!(in rt.alloc(); "{left} bytes in pieces of {step}")?;
+            let ended = try_failure(&mut report, rt.alloc(), step, left);
+            report.row(name.as_str(), ended)?;
         }
     }
-    Ok(())
+    report.end(&rt)
 }
 
-// A name, how many spaces there are, what is read, and how many of them are left.
-static LENGTHS: [(&str, usize, &str, u64); 3] = [
-    ("the longest text", 1_048_576, "J3", 0),
-    ("one byte more", 1_048_577, "J4", 0),
-    ("100 bytes more", 1_048_676, "J4", 99),
+/// How many spaces there are, what is read, and how many of them are left.
+struct Length {
+    name: &'static str,
+    spaces: usize,
+    wanted: &'static str,
+    left: u64,
+}
+
+static LENGTHS: [Length; 3] = [
+    Length {
+        name: "the longest text",
+        spaces: 1_048_576,
+        wanted: "J3",
+        left: 0,
+    },
+    Length {
+        name: "one byte more",
+        spaces: 1_048_577,
+        wanted: "J4",
+        left: 0,
+    },
+    Length {
+        name: "100 bytes more",
+        spaces: 1_048_676,
+        wanted: "J4",
+        left: 99,
+    },
 ];
+
+fn try_length(report: &mut Report, alloc: Global, row: &Length) -> Result<(), Fail> {
+    let document = padded(alloc, "", row.spaces)?;
+    let mut source = FailingSource::new(document.as_bytes(), 10_000, usize::MAX);
+    let found = said_of(alloc, &mut source);
+    is_said(report, "what is read", found, row.wanted)?;
+    let left = source.bytes.len() as u64;
+    Ok(report.is_number("the bytes that are left", left, row.left)?)
+}
 
 /// Of a document that is too long, no more is taken than tells so.
 #[test]
 fn lengths(rt: HostRuntime) -> Result<(), Fail> {
-    for (name, spaces, wanted, left) in &LENGTHS {
-        let document = padded(rt.alloc(), "", *spaces)?;
-        let mut source = FailingSource::new(document.as_bytes(), 10_000, usize::MAX);
-        let found = said_of(rt.alloc(), &mut source);
-        is_said(&rt, found, wanted, "what is read", name)?;
-        is_number(
-            &rt,
-            source.bytes.len() as u64,
-            *left,
-            "the bytes that are left",
-            name,
-        );
+    let mut report = Report::new(rt.alloc());
+    for row in &LENGTHS {
+        let ended = try_length(&mut report, rt.alloc(), row);
+        report.row(row.name, ended)?;
     }
-    Ok(())
+    report.end(&rt)
 }
 
 /// Is interrupted so many times, and then gives what it has, or fails.
@@ -144,24 +165,53 @@ impl Read for Interrupted<'_> {
     }
 }
 
-// A name, how often a reader is interrupted, whether it fails then, and what is read.
-static READERS: [(&str, u32, bool, &str); 4] = [
-    ("a reader", 0, false, "[1]"),
-    ("an interrupted reader", 3, false, "[1]"),
-    ("a reader that fails", 0, true, "J5"),
-    ("an interrupted reader that fails", 3, true, "J5"),
+/// How often a reader is interrupted, whether it fails then, and what is read.
+struct Readable {
+    name: &'static str,
+    times: u32,
+    fails: bool,
+    wanted: &'static str,
+}
+
+static READERS: [Readable; 4] = [
+    Readable {
+        name: "a reader",
+        times: 0,
+        fails: false,
+        wanted: "[1]",
+    },
+    Readable {
+        name: "an interrupted reader",
+        times: 3,
+        fails: false,
+        wanted: "[1]",
+    },
+    Readable {
+        name: "a reader that fails",
+        times: 0,
+        fails: true,
+        wanted: "J5",
+    },
+    Readable {
+        name: "an interrupted reader that fails",
+        times: 3,
+        fails: true,
+        wanted: "J5",
+    },
 ];
 
 #[test]
 fn readers(rt: HostRuntime) -> Result<(), Fail> {
-    for (name, times, fails, wanted) in &READERS {
+    let mut report = Report::new(rt.alloc());
+    for row in &READERS {
         let reader = Interrupted {
-            times: *times,
+            times: row.times,
             bytes: b"[1]",
-            fails: *fails,
+            fails: row.fails,
         };
-        let found = said_of(rt.alloc(), &mut Feed::new(reader))?;
-        is_text(&rt, found.as_str(), wanted, "what is read", name);
+        let found = said_of(rt.alloc(), &mut Feed::new(reader));
+        let ended = is_said(&mut report, "what is read", found, row.wanted);
+        report.row(row.name, ended)?;
     }
-    Ok(())
+    report.end(&rt)
 }

@@ -1,85 +1,84 @@
 //! `sample --all`: all samples, however many, with flushes between blocks of lines.
 use crate::support::documents::{LAST_LINES, TEN_LINES, WIDGET, ZERO_AND_ONE};
 use crate::support::fakes::{FailingSink, FakeInputs};
-use crate::support::harness::{
-    Output, all_runs, definition, has_failed, holds, is_number, is_text, run_on,
-};
+use crate::support::harness::{Output, Run, all_runs, definition, has_failed, is_answer, run_on};
+use crate::support::report::Report;
 use crate::support::texts::beginning;
 use std::alloc::{AllocError, Global};
-use std::process::Abort;
 use std::test::Fail;
 
 const NAMED_LAST: &str =
     r#"{"apiVersion":"example.org/v1","kind":"Widget","metadata":{"name":"w"},"spec":{"a":1,"b":true}}
 "#;
 
-// A name, a command line, the two documents, standard output, standard error and the status.
-static LISTINGS: [(&str, &str, &str, &str, &str, &str, u8); 6] = [
-    (
-        "every sample of four nodes",
-        "crdx sample crd.json v1 --pools pools.json --limit 4 --all",
-        WIDGET,
-        ZERO_AND_ONE,
-        TEN_LINES,
-        "crdx: end\n",
-        0,
-    ),
-    (
-        "the samples past the third one",
-        "crdx sample crd.json v1 --pools pools.json --limit 4 --all --after {\"spec\":{\"b\":false}}",
-        WIDGET,
-        ZERO_AND_ONE,
-        LAST_LINES,
-        "crdx: end\n",
-        0,
-    ),
-    (
-        "the last sample as a resource",
-        "crdx sample crd.json v1 --pools pools.json --limit 4 --name w --all --after {\"spec\":{\"a\":1,\"b\":false}}",
-        WIDGET,
-        ZERO_AND_ONE,
-        NAMED_LAST,
-        "crdx: end\n",
-        0,
-    ),
-    (
-        "nothing past the last sample",
-        "crdx sample crd.json v1 --pools pools.json --limit 4 --all --after {\"spec\":{\"a\":1,\"b\":true}}",
-        WIDGET,
-        ZERO_AND_ONE,
-        "",
-        "crdx: end\n",
-        0,
-    ),
-    (
-        "past what is no sample",
-        "crdx sample crd.json v1 --pools pools.json --limit 4 --all --after {\"spec\":{\"a\":2}}",
-        WIDGET,
-        ZERO_AND_ONE,
-        "",
-        "crdx: after: not a sample\n",
-        1,
-    ),
-    (
-        "within words of 128 bits",
-        "crdx sample crd.json v1 --pools pools.json --limit 64 --all",
-        WIDGET,
-        ZERO_AND_ONE,
-        TEN_LINES,
-        "crdx: end\n",
-        0,
-    ),
+static LISTINGS: [Run<'static>; 6] = [
+    Run {
+        name: "every sample of four nodes",
+        command: "crdx sample crd.json v1 --pools pools.json --limit 4 --all",
+        crd: WIDGET,
+        second: ZERO_AND_ONE,
+        out: TEN_LINES,
+        err: "crdx: end\n",
+        status: 0,
+    },
+    Run {
+        name: "the samples past the third one",
+        command: "crdx sample crd.json v1 --pools pools.json --limit 4 --all --after {\"spec\":{\"b\":false}}",
+        crd: WIDGET,
+        second: ZERO_AND_ONE,
+        out: LAST_LINES,
+        err: "crdx: end\n",
+        status: 0,
+    },
+    Run {
+        name: "the last sample as a resource",
+        command: "crdx sample crd.json v1 --pools pools.json --limit 4 --name w --all --after {\"spec\":{\"a\":1,\"b\":false}}",
+        crd: WIDGET,
+        second: ZERO_AND_ONE,
+        out: NAMED_LAST,
+        err: "crdx: end\n",
+        status: 0,
+    },
+    Run {
+        name: "nothing past the last sample",
+        command: "crdx sample crd.json v1 --pools pools.json --limit 4 --all --after {\"spec\":{\"a\":1,\"b\":true}}",
+        crd: WIDGET,
+        second: ZERO_AND_ONE,
+        out: "",
+        err: "crdx: end\n",
+        status: 0,
+    },
+    Run {
+        name: "past what is no sample",
+        command: "crdx sample crd.json v1 --pools pools.json --limit 4 --all --after {\"spec\":{\"a\":2}}",
+        crd: WIDGET,
+        second: ZERO_AND_ONE,
+        out: "",
+        err: "crdx: after: not a sample\n",
+        status: 1,
+    },
+    Run {
+        name: "within words of 128 bits",
+        command: "crdx sample crd.json v1 --pools pools.json --limit 64 --all",
+        crd: WIDGET,
+        second: ZERO_AND_ONE,
+        out: TEN_LINES,
+        err: "crdx: end\n",
+        status: 0,
+    },
 ];
 
 #[test]
 fn listings(rt: HostRuntime) -> Result<(), Fail> {
-    all_runs(&rt, rt.alloc(), &LISTINGS)?;
-    Ok(())
+    let mut report = Report::new(rt.alloc());
+    all_runs(&mut report, rt.alloc(), &LISTINGS)?;
+    report.end(&rt)
 }
 
 // Three integers, each of 23: 12,167 samples of four nodes, from all 0 to all 22.
-const THREE_INTEGERS: &str =
-    r#"{"type":"object","required":["a","b","c"],"properties":{"a":{"type":"integer"},"b":{"type":"integer"},"c":{"type":"integer"}}}"#;
+const THREE_INTEGERS: &str = r#"{"type":"object","required":["a","b","c"],"properties":{
+    "a":{"type":"integer"},"b":{"type":"integer"},"c":{"type":"integer"}
+}}"#;
 
 const TWENTY_THREE: &str =
     r#"{"integers":[0,1,2,3,4,5,6,7,8,9,10,11,12,13,14,15,16,17,18,19,20,21,22]}"#;
@@ -105,99 +104,77 @@ fn large_lines(alloc: Global) -> Result<String, AllocError> {
     Ok(lines)
 }
 
+const ALL: &str = "crdx sample crd.json v1 --pools pools.json --all";
+
 /// More lines than `--count` can ask for.
-#[test]
-fn more_than_a_count(rt: HostRuntime) -> Result<(), Fail> {
-    let lines = large_lines(rt.alloc())?;
-    let name = "12,167 samples";
-    let command = "crdx sample crd.json v1 --pools pools.json --all";
-    let output = run_large(rt.alloc(), command, FailingSink::endless(rt.alloc()))?;
-    is_text(
-        &rt,
-        output.out.text(),
-        lines.as_str(),
-        "standard output",
-        name,
-    );
-    is_text(
-        &rt,
-        output.err.text(),
-        "crdx: end\n",
-        "standard error",
-        name,
-    );
-    is_number(&rt, output.status as u64, 0, "the status", name);
-    holds(
-        &rt,
-        output.out.flushes >= LEAST_FLUSHES,
-        "enough flushes",
-        name,
-    );
-    Ok(())
+fn try_all(report: &mut Report, alloc: Global) -> Result<(), Fail> {
+    let lines = large_lines(alloc)?;
+    let output = run_large(alloc, ALL, FailingSink::endless(alloc))?;
+    is_answer(report, &output, lines.as_str(), "crdx: end\n", 0)?;
+    Ok(report.holds("enough flushes", output.out.flushes >= LEAST_FLUSHES)?)
 }
 
 /// A count is flushed once, at its end.
-#[test]
-fn flushes_of_a_count(rt: HostRuntime) -> Result<(), Fail> {
+fn try_count(report: &mut Report, alloc: Global) -> Result<(), Fail> {
     let command = "crdx sample crd.json v1 --pools pools.json --count 1000";
-    let output = run_large(rt.alloc(), command, FailingSink::endless(rt.alloc()))?;
-    is_text(
-        &rt,
-        output.err.text(),
-        "crdx: more\n",
-        "standard error",
-        "a count",
-    );
-    is_number(&rt, output.out.flushes, 1, "the flushes", "a count");
-    Ok(())
+    let output = run_large(alloc, command, FailingSink::endless(alloc))?;
+    report.is_text("standard error", output.err.text(), "crdx: more\n")?;
+    Ok(report.is_number("the flushes", output.out.flushes, 1)?)
+}
+
+#[test]
+fn large_listings(rt: HostRuntime) -> Result<(), Fail> {
+    let mut report = Report::new(rt.alloc());
+    let ended = try_all(&mut report, rt.alloc());
+    report.row("12,167 samples, more than a count", ended)?;
+    let ended = try_count(&mut report, rt.alloc());
+    report.row("a count", ended)?;
+    report.end(&rt)
+}
+
+/// How many bytes so many lines have.
+fn bytes_of(lines: &str, count: usize) -> usize {
+    let mut bytes = 0usize;
+    for line in lines.lines().take(count) {
+        bytes = bytes.saturating_add(line.len()).saturating_add(1);
+    }
+    bytes
 }
 
 /// The sink is full within the line of this index, from 0, past 10,000 too.
-fn try_full(rt: &impl Abort, alloc: Global, lines: &str, index: usize) -> Result<(), AllocError> {
-    let command = "crdx sample crd.json v1 --pools pools.json --all";
-    let mut whole = 0usize;
-    for line in lines.lines().take(index) {
-        whole = whole.saturating_add(line.len()).saturating_add(1);
-    }
-    let room = whole.saturating_add(3);
-    let output = run_large(
-        alloc,
-        command,
-        FailingSink::new(alloc, room, usize::MAX, false),
-    )?;
-    let name = "a sink that is full";
-    has_failed(
-        rt,
-        alloc,
-        &output,
-        beginning(lines, room),
-        index as u64,
-        name,
-    )
+fn try_full(report: &mut Report, alloc: Global, lines: &str, index: usize) -> Result<(), Fail> {
+    let room = bytes_of(lines, index).saturating_add(3);
+    let sink = FailingSink::new(alloc, room, usize::MAX, false);
+    let output = run_large(alloc, ALL, sink)?;
+    Ok(has_failed(report, alloc, &output, beginning(lines, room), index as u64)?)
 }
 
 #[test]
 fn full_sinks(rt: HostRuntime) -> Result<(), Fail> {
+    let mut report = Report::new(rt.alloc());
     let lines = large_lines(rt.alloc())?;
-    for index in [0, 1, 63, 64, 65, 10_000, 12_166] {
-        try_full(&rt, rt.alloc(), lines.as_str(), index)?;
+    for index in [0, 1, 127, 128, 129, 10_000, 12_166] {
+        let name = format!(in rt.alloc(); "a sink that is full after {index} lines")?;
+        let ended = try_full(&mut report, rt.alloc(), lines.as_str(), index);
+        report.row(name.as_str(), ended)?;
     }
-    Ok(())
+    report.end(&rt)
 }
 
 /// A flush that fails ends the listing after its first block of 128 lines.
+fn try_failed_flush(report: &mut Report, alloc: Global) -> Result<(), Fail> {
+    let lines = large_lines(alloc)?;
+    let mut sink = FailingSink::endless(alloc);
+    sink.flush_fails = true;
+    let output = run_large(alloc, ALL, sink)?;
+    let out = beginning(lines.as_str(), bytes_of(lines.as_str(), 128));
+    Ok(has_failed(report, alloc, &output, out, 128)?)
+}
+
 #[test]
 fn failed_flushes(rt: HostRuntime) -> Result<(), Fail> {
-    let lines = large_lines(rt.alloc())?;
-    let command = "crdx sample crd.json v1 --pools pools.json --all";
-    let mut sink = FailingSink::endless(rt.alloc());
-    sink.flush_fails = true;
-    let output = run_large(rt.alloc(), command, sink)?;
-    let mut block = 0usize;
-    for line in lines.as_str().lines().take(128) {
-        block = block.saturating_add(line.len()).saturating_add(1);
-    }
-    let out = beginning(lines.as_str(), block);
-    has_failed(&rt, rt.alloc(), &output, out, 128, "a flush that fails")?;
-    Ok(())
+    let mut report = Report::new(rt.alloc());
+    let ended = try_failed_flush(&mut report, rt.alloc());
+    report.row("a flush that fails", ended)?;
+    report.end(&rt)
 }

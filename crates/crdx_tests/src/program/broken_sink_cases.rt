@@ -1,24 +1,44 @@
 //! Sinks that fail: what is out by then, and what is said of it.
 use crate::support::documents::{BROKEN, BROKEN_LINES, TEN_LINES, WIDGET, ZERO_AND_ONE};
 use crate::support::fakes::{FailingSink, FakeInputs};
-use crate::support::harness::{Output, has_failed, is_answer, is_text, is_value, run_on};
+use crate::support::harness::{Output, has_failed, is_answer, run_on};
+use crate::support::phrases::with_phrases;
+use crate::support::report::Report;
 use crate::support::texts::beginning;
 use crdx::sink::{Plain, Sink, SinkFault};
 use crdx::walk::WFault;
 use std::alloc::{AllocError, Global};
 use std::io;
 use std::io::Write;
-use std::process::Abort;
 use std::test::Fail;
 
-const SOUND: &str =
-    r#"{"apiVersion":"apiextensions.k8s.io/v1","kind":"CustomResourceDefinition","spec":{"group":"example.com","names":{"kind":"Widget"},"versions":[{"name":"v1","schema":{"openAPIV3Schema":{"type":"object"}}}]}}"#;
+const SOUND: &str = r#"{
+    "apiVersion":"apiextensions.k8s.io/v1","kind":"CustomResourceDefinition",
+    "spec":{
+        "group":"example.com","names":{"kind":"Widget"},
+        "versions":[{"name":"v1","schema":{"openAPIV3Schema":{"type":"object"}}}]
+    }
+}"#;
 
-const LIST_OF_TEXTS: &str =
-    r#"{"apiVersion":"apiextensions.k8s.io/v1","kind":"CustomResourceDefinition","spec":{"group":"example.com","names":{"kind":"Widget"},"versions":[{"name":"v1","schema":{"openAPIV3Schema":{"type":"object","properties":{"integers":{"type":"array","items":{"type":"string"}}}}}}]}}"#;
+const LIST_OF_TEXTS: &str = r#"{
+    "apiVersion":"apiextensions.k8s.io/v1","kind":"CustomResourceDefinition",
+    "spec":{
+        "group":"example.com","names":{"kind":"Widget"},
+        "versions":[{"name":"v1","schema":{"openAPIV3Schema":{
+            "type":"object","properties":{"integers":{"type":"array","items":{"type":"string"}}}
+        }}}]
+    }
+}"#;
 
-const LIST_OF_INTEGERS: &str =
-    r#"{"apiVersion":"apiextensions.k8s.io/v1","kind":"CustomResourceDefinition","spec":{"group":"example.com","names":{"kind":"Widget"},"versions":[{"name":"v1","schema":{"openAPIV3Schema":{"type":"object","properties":{"integers":{"type":"array","items":{"type":"integer"}}}}}}]}}"#;
+const LIST_OF_INTEGERS: &str = r#"{
+    "apiVersion":"apiextensions.k8s.io/v1","kind":"CustomResourceDefinition",
+    "spec":{
+        "group":"example.com","names":{"kind":"Widget"},
+        "versions":[{"name":"v1","schema":{"openAPIV3Schema":{
+            "type":"object","properties":{"integers":{"type":"array","items":{"type":"integer"}}}
+        }}}]
+    }
+}"#;
 
 /// The fields of `WIDGET`.
 const FIELDS: &str = r#""/spec" <Object>
@@ -27,76 +47,85 @@ const FIELDS: &str = r#""/spec" <Object>
 "#;
 
 /// The faults of `ZERO_AND_ONE` by `LIST_OF_TEXTS`.
-const TWO_FAULTS: &str = r#"F01 "/integers/0" kind
-F01 "/integers/1" kind
+const TWO_FAULTS: &str = r#"F01 "/integers/0"
+F01 "/integers/1"
 "#;
 
-// A name, a command line, a definition, standard output, standard error and the status.
-static RUNS: [(&str, &str, &str, &str, &str, u8); 8] = [
-    (
-        "a sample",
-        "crdx sample crd.json v1 --pools pools.json --limit 4",
-        WIDGET,
-        TEN_LINES,
-        "crdx: end\n",
-        0,
-    ),
-    (
-        "all samples",
-        "crdx sample crd.json v1 --pools pools.json --limit 4 --all",
-        WIDGET,
-        TEN_LINES,
-        "crdx: end\n",
-        0,
-    ),
-    (
-        "a check of what breaks rules",
-        "crdx check crd.json v1",
-        BROKEN,
-        BROKEN_LINES,
-        "",
-        1,
-    ),
-    (
-        "a check of what breaks none",
-        "crdx check crd.json v1",
-        SOUND,
-        "structural\n",
-        "",
-        0,
-    ),
-    (
-        "an object with two faults, on the standard input",
-        "crdx validate crd.json v1",
-        LIST_OF_TEXTS,
-        TWO_FAULTS,
-        "",
-        1,
-    ),
-    (
-        "all fields",
-        "crdx explain crd.json v1",
-        WIDGET,
-        FIELDS,
-        "",
-        0,
-    ),
-    (
-        "the leaves of an object",
-        "crdx leaves crd.json v1 object.json",
-        LIST_OF_INTEGERS,
-        "[\"f:integers\"]\n",
-        "",
-        0,
-    ),
-    (
-        "an object without what is pruned",
-        "crdx prune crd.json v1 object.json",
-        SOUND,
-        "{}\n",
-        "",
-        0,
-    ),
+/// A run over `ZERO_AND_ONE`, and what it writes and answers on a sink that does not fail.
+struct SinkRun {
+    name: &'static str,
+    command: &'static str,
+    crd: &'static str,
+    out: &'static str,
+    err: &'static str,
+    status: u8,
+}
+
+static RUNS: [SinkRun; 8] = [
+    SinkRun {
+        name: "a sample",
+        command: "crdx sample crd.json v1 --pools pools.json --limit 4",
+        crd: WIDGET,
+        out: TEN_LINES,
+        err: "crdx: end\n",
+        status: 0,
+    },
+    SinkRun {
+        name: "all samples",
+        command: "crdx sample crd.json v1 --pools pools.json --limit 4 --all",
+        crd: WIDGET,
+        out: TEN_LINES,
+        err: "crdx: end\n",
+        status: 0,
+    },
+    SinkRun {
+        name: "a check of what breaks rules",
+        command: "crdx check crd.json v1",
+        crd: BROKEN,
+        out: BROKEN_LINES,
+        err: "",
+        status: 1,
+    },
+    SinkRun {
+        name: "a check of what breaks none",
+        command: "crdx check crd.json v1",
+        crd: SOUND,
+        out: "structural\n",
+        err: "",
+        status: 0,
+    },
+    SinkRun {
+        name: "an object with two faults, on the standard input",
+        command: "crdx validate crd.json v1",
+        crd: LIST_OF_TEXTS,
+        out: TWO_FAULTS,
+        err: "",
+        status: 1,
+    },
+    SinkRun {
+        name: "all fields",
+        command: "crdx explain crd.json v1",
+        crd: WIDGET,
+        out: FIELDS,
+        err: "",
+        status: 0,
+    },
+    SinkRun {
+        name: "the leaves of an object",
+        command: "crdx leaves crd.json v1 object.json",
+        crd: LIST_OF_INTEGERS,
+        out: "[\"f:integers\"]\n",
+        err: "",
+        status: 0,
+    },
+    SinkRun {
+        name: "an object without what is pruned",
+        command: "crdx prune crd.json v1 object.json",
+        crd: SOUND,
+        out: "{}\n",
+        err: "",
+        status: 0,
+    },
 ];
 
 fn count_lines(text: &str) -> u64 {
@@ -109,87 +138,113 @@ fn count_lines(text: &str) -> u64 {
     lines
 }
 
-fn run_row(
-    alloc: Global,
-    row: &(&str, &str, &str, &str, &str, u8),
-    sink: FailingSink,
-) -> Result<Output, AllocError> {
-    let inputs = FakeInputs::new(alloc, row.2, ZERO_AND_ONE);
-    run_on(alloc, row.1, inputs, sink)
-}
-
-/// The sink takes at most `step` bytes a call, and is full after `room` bytes: then it fails, or answers 0.
-fn try_room(
-    rt: &impl Abort,
-    alloc: Global,
-    row: &(&str, &str, &str, &str, &str, u8),
-    room: usize,
+/// The sinks of a run: its row, all that it writes, and how many bytes are taken in one call, after which a full sink answers 0 or fails.
+#[derive(Clone, Copy)]
+struct Sinks<'a> {
+    row: &'a SinkRun,
+    out: &'a str,
     step: usize,
     answers_zero: bool,
+}
+
+fn run_row(alloc: Global, row: &SinkRun, sink: FailingSink) -> Result<Output, AllocError> {
+    let inputs = FakeInputs::new(alloc, row.crd, ZERO_AND_ONE);
+    run_on(alloc, row.command, inputs, sink)
+}
+
+/// The sink is full after `room` bytes.
+fn try_room(
+    report: &mut Report,
+    alloc: Global,
+    sinks: &Sinks<'_>,
+    room: usize,
 ) -> Result<(), AllocError> {
-    let (name, _command, _crd, out, err, status) = *row;
-    let sink = FailingSink::new(alloc, room, step, answers_zero);
-    let output = run_row(alloc, row, sink)?;
-    if room < out.len() {
-        let out = beginning(out, room);
-        return has_failed(rt, alloc, &output, out, count_lines(out), name);
+    let sink = FailingSink::new(alloc, room, sinks.step, sinks.answers_zero);
+    let output = run_row(alloc, sinks.row, sink)?;
+    if room < sinks.out.len() {
+        let out = beginning(sinks.out, room);
+        return has_failed(report, alloc, &output, out, count_lines(out));
     }
-    is_answer(rt, &output, out, err, status, name);
-    Ok(())
+    is_answer(report, &output, sinks.out, sinks.row.err, sinks.row.status)
 }
 
 /// The sink is full after each byte in turn; then it takes all.
-fn try_step(
-    rt: &impl Abort,
-    alloc: Global,
-    row: &(&str, &str, &str, &str, &str, u8),
-    step: usize,
-    answers_zero: bool,
-) -> Result<(), AllocError> {
-    for room in 0..=row.3.len() {
-        try_room(rt, alloc, row, room, step, answers_zero)?;
+fn try_step(report: &mut Report, alloc: Global, sinks: &Sinks<'_>) -> Result<(), AllocError> {
+    for room in 0..=sinks.out.len() {
+        try_room(report, alloc, sinks, room)?;
     }
     Ok(())
 }
 
 /// All is taken, but the flush after it fails.
 fn try_unflushed(
-    rt: &impl Abort,
+    report: &mut Report,
     alloc: Global,
-    row: &(&str, &str, &str, &str, &str, u8),
+    row: &SinkRun,
+    out: &str,
 ) -> Result<(), AllocError> {
     let mut sink = FailingSink::endless(alloc);
     sink.flush_fails = true;
     let output = run_row(alloc, row, sink)?;
-    has_failed(rt, alloc, &output, row.3, count_lines(row.3), row.0)
+    has_failed(report, alloc, &output, out, count_lines(out))
 }
 
 /// Standard output fails after each byte in turn, whole and in pieces, and after all.
-#[test]
-fn cut_runs(rt: HostRuntime) -> Result<(), Fail> {
-    for row in &RUNS {
-        try_step(&rt, rt.alloc(), row, usize::MAX, false)?;
-        try_step(&rt, rt.alloc(), row, 7, true)?;
-        try_step(&rt, rt.alloc(), row, 1, false)?;
-        try_unflushed(&rt, rt.alloc(), row)?;
+fn try_sinks(report: &mut Report, alloc: Global, row: &SinkRun) -> Result<(), Fail> {
+    let out = with_phrases(alloc, row.out)?;
+    let out = out.as_str();
+    for (step, answers_zero) in [(usize::MAX, false), (7, true), (1, false)] {
+        let sinks = Sinks {
+            row,
+            out,
+            step,
+            answers_zero,
+        };
+        try_step(report, alloc, &sinks)?;
     }
-    Ok(())
+    Ok(try_unflushed(report, alloc, row, out)?)
 }
 
-// A fault of a walk, and its code.
-static FAULTS: [(WFault, &str); 3] = [
-    (WFault::NotASample, "W1"),
-    (WFault::NoMemory(3), "W2"),
-    (WFault::Write(3), "W3"),
+#[test]
+fn cut_runs(rt: HostRuntime) -> Result<(), Fail> {
+    let mut report = Report::new(rt.alloc());
+    for row in &RUNS {
+        let ended = try_sinks(&mut report, rt.alloc(), row);
+        report.row(row.name, ended)?;
+    }
+    report.end(&rt)
+}
+
+/// A fault of a walk, and its code.
+struct FaultCode {
+    code: &'static str,
+    fault: WFault,
+}
+
+static FAULTS: [FaultCode; 3] = [
+    FaultCode {
+        code: "W1",
+        fault: WFault::NotASample,
+    },
+    FaultCode {
+        code: "W2",
+        fault: WFault::NoMemory(3),
+    },
+    FaultCode {
+        code: "W3",
+        fault: WFault::Write(3),
+    },
 ];
 
 #[test]
 fn codes_of_faults(rt: HostRuntime) -> Result<(), Fail> {
-    for (fault, code) in &FAULTS {
-        let text = fault.to_string(rt.alloc())?;
-        is_text(&rt, text.as_str(), code, "the code", "a fault of a walk");
+    let mut report = Report::new(rt.alloc());
+    for row in &FAULTS {
+        let text = row.fault.to_string(rt.alloc())?;
+        report.is_text("the code", text.as_str(), row.code)?;
+        report.row(row.code, Ok(()))?;
     }
-    Ok(())
+    report.end(&rt)
 }
 
 /// A writer that takes nothing or fails, and does not flush.
@@ -213,42 +268,58 @@ impl Write for Broken {
 }
 
 fn is_put<W: Sink>(
-    rt: &impl Abort,
+    report: &mut Report,
     sink: &mut W,
     bytes: &[u8],
     wanted: Result<usize, SinkFault>,
-    name: &str,
-) {
-    is_value(rt, &sink.put(bytes), &wanted, "a write", name);
+) -> Result<(), AllocError> {
+    report.is_value("a write", &sink.put(bytes), &wanted)
 }
 
-fn is_flushed<W: Sink>(rt: &impl Abort, sink: &mut W, wanted: Result<(), SinkFault>, name: &str) {
-    is_value(rt, &sink.flush(), &wanted, "a flush", name);
+fn is_flushed<W: Sink>(
+    report: &mut Report,
+    sink: &mut W,
+    wanted: Result<(), SinkFault>,
+) -> Result<(), AllocError> {
+    report.is_value("a flush", &sink.flush(), &wanted)
 }
 
-fn try_broken_writers(rt: &impl Abort) {
+fn try_failing_writer(report: &mut Report) -> Result<(), Fail> {
     let mut sink = Plain::new(Broken {
         answers_zero: false,
     });
-    let name = "a writer that fails";
-    is_put(rt, &mut sink, b"x", Err(SinkFault::Failed), name);
-    is_flushed(rt, &mut sink, Err(SinkFault::Failed), name);
-    let mut sink = Plain::new(Broken { answers_zero: true });
-    is_put(rt, &mut sink, b"x", Ok(0), "a writer that takes nothing");
-    is_put(rt, &mut sink, b"", Ok(0), "a writer that takes nothing");
+    is_put(report, &mut sink, b"x", Err(SinkFault::Failed))?;
+    Ok(is_flushed(report, &mut sink, Err(SinkFault::Failed))?)
 }
 
-fn try_whole_writer(rt: &impl Abort, bytes: &mut Vec<u8>) {
+fn try_full_writer(report: &mut Report) -> Result<(), Fail> {
+    let mut sink = Plain::new(Broken { answers_zero: true });
+    is_put(report, &mut sink, b"x", Ok(0))?;
+    Ok(is_put(report, &mut sink, b"", Ok(0))?)
+}
+
+fn put_and_flush(report: &mut Report, bytes: &mut Vec<u8>) -> Result<(), AllocError> {
     let mut sink = Plain::new(bytes);
-    is_put(rt, &mut sink, b"xyz", Ok(3), "a writer that takes all");
-    is_flushed(rt, &mut sink, Ok(()), "a writer that takes all");
+    is_put(report, &mut sink, b"xyz", Ok(3))?;
+    is_flushed(report, &mut sink, Ok(()))
+}
+
+fn try_whole_writer(report: &mut Report, alloc: Global) -> Result<(), Fail> {
+    let mut bytes = Vec::new(alloc);
+    put_and_flush(report, &mut bytes)?;
+    let written = bytes.as_slice() == b"xyz".as_slice();
+    Ok(report.holds("what is written", written)?)
 }
 
 /// Sinks of writers that fail, that take nothing, and that take all.
 #[test]
-fn writers(rt: HostRuntime) {
-    try_broken_writers(&rt);
-    let mut bytes = Vec::new(rt.alloc());
-    try_whole_writer(&rt, &mut bytes);
-    assert_eq!(rt; bytes.as_slice(), b"xyz".as_slice(), "what is written");
+fn writers(rt: HostRuntime) -> Result<(), Fail> {
+    let mut report = Report::new(rt.alloc());
+    let ended = try_failing_writer(&mut report);
+    report.row("a writer that fails", ended)?;
+    let ended = try_full_writer(&mut report);
+    report.row("a writer that takes nothing", ended)?;
+    let ended = try_whole_writer(&mut report, rt.alloc());
+    report.row("a writer that takes all", ended)?;
+    report.end(&rt)
 }

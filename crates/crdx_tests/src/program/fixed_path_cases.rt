@@ -1,22 +1,23 @@
 //! `sample` with fixed values for paths.
 use crate::support::documents::{
-    DEFAULTED, LABELS, MAP_LIST, NULLABLE, OPEN, OPEN_NULLABLE, REQUIRED_LONG_MAP_LIST, SET, SPEC,
+    DEFAULTED, LABELS, LIST_OF_OBJECTS, MAP_LIST, NULLABLE, OPEN, OPEN_NULLABLE,
+    REQUIRED_LONG_MAP_LIST, SET, SPEC,
 };
-use crate::support::harness::all_runs_by_schema;
+use crate::support::harness::{SchemaRun, all_schema_runs};
+use crate::support::report::Report;
 use std::test::Fail;
 
 // A list of truth values.
 const LIST: &str =
     r#"{"type":"object","properties":{"l":{"type":"array","items":{"type":"boolean"}}}}"#;
 
-// A name, a command line, a schema with its pools, standard output, standard error and the status.
-static ROWS: [(&str, &str, &str, &str, &str, &str, u8); 30] = [
-    (
-        "a scalar",
-        "crdx sample crd.json v1 --pools pools.json --limit 4",
-        SPEC,
-        r#"{"integers":[0],"fixed":{"/spec/a":[7,"x",null,7]}}"#,
-        r#"{}
+static ROWS: [SchemaRun<'static>; 30] = [
+    SchemaRun {
+        name: "a scalar",
+        command: "crdx sample crd.json v1 --pools pools.json --limit 4",
+        schema: SPEC,
+        second: r#"{"integers":[0],"fixed":{"/spec/a":[7,"x",null,7]}}"#,
+        out: r#"{}
 {"spec":{}}
 {"spec":{"b":false}}
 {"spec":{"b":true}}
@@ -24,110 +25,110 @@ static ROWS: [(&str, &str, &str, &str, &str, &str, u8); 30] = [
 {"spec":{"a":7,"b":false}}
 {"spec":{"a":7,"b":true}}
 "#,
-        "crdx: end\n",
-        0,
-    ),
-    (
-        "a value that enum does not list",
-        "crdx sample crd.json v1 --pools pools.json --limit 9",
-        r#"{"type":"object","properties":{"e":{"type":"string","enum":["a","b"]}}}"#,
-        r#"{"fixed":{"/e":["c","b"]}}"#,
-        r#"{}
+        err: "crdx: end\n",
+        status: 0,
+    },
+    SchemaRun {
+        name: "a value that enum does not list",
+        command: "crdx sample crd.json v1 --pools pools.json --limit 9",
+        schema: r#"{"type":"object","properties":{"e":{"type":"string","enum":["a","b"]}}}"#,
+        second: r#"{"fixed":{"/e":["c","b"]}}"#,
+        out: r#"{}
 {"e":"b"}
 "#,
-        "crdx: end\n",
-        0,
-    ),
-    (
-        "objects, one of them with an undeclared name",
-        "crdx sample crd.json v1 --pools pools.json --limit 4",
-        SPEC,
-        r#"{"integers":[0],"fixed":{"/spec":[{"b":true,"a":5},{"c":1},{"a":5}]}}"#,
-        r#"{}
+        err: "crdx: end\n",
+        status: 0,
+    },
+    SchemaRun {
+        name: "objects, one of them with an undeclared name",
+        command: "crdx sample crd.json v1 --pools pools.json --limit 4",
+        schema: SPEC,
+        second: r#"{"integers":[0],"fixed":{"/spec":[{"b":true,"a":5},{"c":1},{"a":5}]}}"#,
+        out: r#"{}
 {"spec":{"a":5}}
 {"spec":{"a":5,"b":true}}
 "#,
-        "crdx: end\n",
-        0,
-    ),
-    (
-        "objects, one of them without a default",
-        "crdx sample crd.json v1 --pools pools.json --limit 9",
-        DEFAULTED,
-        r#"{"fixed":{"/spec":[{},{"f":3}]}}"#,
-        r#"{}
+        err: "crdx: end\n",
+        status: 0,
+    },
+    SchemaRun {
+        name: "objects, one of them without a default",
+        command: "crdx sample crd.json v1 --pools pools.json --limit 9",
+        schema: DEFAULTED,
+        second: r#"{"fixed":{"/spec":[{},{"f":3}]}}"#,
+        out: r#"{}
 {"spec":{"f":3}}
 "#,
-        "crdx: end\n",
-        0,
-    ),
-    (
-        "lists",
-        "crdx sample crd.json v1 --pools pools.json --limit 5",
-        LIST,
-        r#"{"fixed":{"/l":[[true,true,true],[],"x"]}}"#,
-        r#"{}
+        err: "crdx: end\n",
+        status: 0,
+    },
+    SchemaRun {
+        name: "lists",
+        command: "crdx sample crd.json v1 --pools pools.json --limit 5",
+        schema: LIST,
+        second: r#"{"fixed":{"/l":[[true,true,true],[],"x"]}}"#,
+        out: r#"{}
 {"l":[]}
 {"l":[true,true,true]}
 "#,
-        "crdx: end\n",
-        0,
-    ),
-    (
-        "lists, one of them with more nodes than the limit",
-        "crdx sample crd.json v1 --pools pools.json --limit 4",
-        LIST,
-        r#"{"fixed":{"/l":[[true,true,true],[]]}}"#,
-        r#"{}
+        err: "crdx: end\n",
+        status: 0,
+    },
+    SchemaRun {
+        name: "lists, one of them with more nodes than the limit",
+        command: "crdx sample crd.json v1 --pools pools.json --limit 4",
+        schema: LIST,
+        second: r#"{"fixed":{"/l":[[true,true,true],[]]}}"#,
+        out: r#"{}
 {"l":[]}
 "#,
-        "crdx: end\n",
-        0,
-    ),
-    (
-        "a map of names that are not in the pools",
-        "crdx sample crd.json v1 --pools pools.json --limit 9",
-        LABELS,
-        r#"{"names":["k"],"strings":["x"],"fixed":{"/labels":[{"z":"q"}]}}"#,
-        r#"{}
+        err: "crdx: end\n",
+        status: 0,
+    },
+    SchemaRun {
+        name: "a map of names that are not in the pools",
+        command: "crdx sample crd.json v1 --pools pools.json --limit 9",
+        schema: LABELS,
+        second: r#"{"names":["k"],"strings":["x"],"fixed":{"/labels":[{"z":"q"}]}}"#,
+        out: r#"{}
 {"labels":{"z":"q"}}
 "#,
-        "crdx: end\n",
-        0,
-    ),
-    (
-        "the values of a map",
-        "crdx sample crd.json v1 --pools pools.json --limit 4",
-        LABELS,
-        r#"{"names":["k","j"],"strings":["x"],"fixed":{"/labels/{}":["p"]}}"#,
-        r#"{}
+        err: "crdx: end\n",
+        status: 0,
+    },
+    SchemaRun {
+        name: "the values of a map",
+        command: "crdx sample crd.json v1 --pools pools.json --limit 4",
+        schema: LABELS,
+        second: r#"{"names":["k","j"],"strings":["x"],"fixed":{"/labels/{}":["p"]}}"#,
+        out: r#"{}
 {"labels":{}}
 {"labels":{"k":"p"}}
 {"labels":{"j":"p"}}
 {"labels":{"j":"p","k":"p"}}
 "#,
-        "crdx: end\n",
-        0,
-    ),
-    (
-        "the items of a list",
-        "crdx sample crd.json v1 --pools pools.json --limit 4",
-        LIST,
-        r#"{"fixed":{"/l/[]":[true]}}"#,
-        r#"{}
+        err: "crdx: end\n",
+        status: 0,
+    },
+    SchemaRun {
+        name: "the items of a list",
+        command: "crdx sample crd.json v1 --pools pools.json --limit 4",
+        schema: LIST,
+        second: r#"{"fixed":{"/l/[]":[true]}}"#,
+        out: r#"{}
 {"l":[]}
 {"l":[true]}
 {"l":[true,true]}
 "#,
-        "crdx: end\n",
-        0,
-    ),
-    (
-        "the items of a list of objects",
-        "crdx sample crd.json v1 --pools pools.json --limit 5",
-        r#"{"type":"object","properties":{"l":{"type":"array","items":{"type":"object","properties":{"a":{"type":"boolean"},"b":{"type":"boolean"}}}}}}"#,
-        r#"{"fixed":{"/l/[]":[{"b":true},{}]}}"#,
-        r#"{}
+        err: "crdx: end\n",
+        status: 0,
+    },
+    SchemaRun {
+        name: "the items of a list of objects",
+        command: "crdx sample crd.json v1 --pools pools.json --limit 5",
+        schema: LIST_OF_OBJECTS,
+        second: r#"{"fixed":{"/l/[]":[{"b":true},{}]}}"#,
+        out: r#"{}
 {"l":[]}
 {"l":[{}]}
 {"l":[{},{}]}
@@ -136,232 +137,234 @@ static ROWS: [(&str, &str, &str, &str, &str, &str, u8); 30] = [
 {"l":[{},{"b":true}]}
 {"l":[{"b":true},{}]}
 "#,
-        "crdx: end\n",
-        0,
-    ),
-    (
-        "the items of a set",
-        "crdx sample crd.json v1 --pools pools.json --limit 9",
-        SET,
-        r#"{"integers":[2],"fixed":{"/s/[]":[5,"x",5]}}"#,
-        r#"{}
+        err: "crdx: end\n",
+        status: 0,
+    },
+    SchemaRun {
+        name: "the items of a set",
+        command: "crdx sample crd.json v1 --pools pools.json --limit 9",
+        schema: SET,
+        second: r#"{"integers":[2],"fixed":{"/s/[]":[5,"x",5]}}"#,
+        out: r#"{}
 {"s":[]}
 {"s":[5]}
 "#,
-        "crdx: end\n",
-        0,
-    ),
-    (
-        "the key of a map list",
-        "crdx sample crd.json v1 --pools pools.json --limit 63",
-        MAP_LIST,
-        r#"{"strings":["a"],"integers":[0],"fixed":{"/m/[]/k":["b"]}}"#,
-        r#"{}
+        err: "crdx: end\n",
+        status: 0,
+    },
+    SchemaRun {
+        name: "the key of a map list",
+        command: "crdx sample crd.json v1 --pools pools.json --limit 63",
+        schema: MAP_LIST,
+        second: r#"{"strings":["a"],"integers":[0],"fixed":{"/m/[]/k":["b"]}}"#,
+        out: r#"{}
 {"m":[]}
 {"m":[{"k":"b"}]}
 {"m":[{"k":"b","v":0}]}
 "#,
-        "crdx: end\n",
-        0,
-    ),
-    (
-        "a map list",
-        "crdx sample crd.json v1 --pools pools.json --limit 63",
-        MAP_LIST,
-        r#"{"strings":["a"],"fixed":{"/m":[[{"k":"y"},{"k":"z"}],[{"k":"y"},{"k":"y"}]]}}"#,
-        r#"{}
+        err: "crdx: end\n",
+        status: 0,
+    },
+    SchemaRun {
+        name: "a map list",
+        command: "crdx sample crd.json v1 --pools pools.json --limit 63",
+        schema: MAP_LIST,
+        second: r#"{"strings":["a"],"fixed":{"/m":[[{"k":"y"},{"k":"z"}],[{"k":"y"},{"k":"y"}]]}}"#,
+        out: r#"{}
 {"m":[{"k":"y"},{"k":"z"}]}
 "#,
-        "crdx: end\n",
-        0,
-    ),
-    (
-        "an open place",
-        "crdx sample crd.json v1 --pools pools.json --limit 9",
-        OPEN,
-        r#"{"any":[2],"fixed":{"/x":[{"q":1},null]}}"#,
-        r#"{}
+        err: "crdx: end\n",
+        status: 0,
+    },
+    SchemaRun {
+        name: "an open place",
+        command: "crdx sample crd.json v1 --pools pools.json --limit 9",
+        schema: OPEN,
+        second: r#"{"any":[2],"fixed":{"/x":[{"q":1},null]}}"#,
+        out: r#"{}
 {"x":{"q":1}}
 "#,
-        "crdx: end\n",
-        0,
-    ),
-    (
-        "an open place that may be null, with null",
-        "crdx sample crd.json v1 --pools pools.json --limit 9",
-        OPEN_NULLABLE,
-        r#"{"any":[2],"fixed":{"/x":[1,null]}}"#,
-        r#"{}
+        err: "crdx: end\n",
+        status: 0,
+    },
+    SchemaRun {
+        name: "an open place that may be null, with null",
+        command: "crdx sample crd.json v1 --pools pools.json --limit 9",
+        schema: OPEN_NULLABLE,
+        second: r#"{"any":[2],"fixed":{"/x":[1,null]}}"#,
+        out: r#"{}
 {"x":null}
 {"x":1}
 "#,
-        "crdx: end\n",
-        0,
-    ),
-    (
-        "an open place that may be null, without null",
-        "crdx sample crd.json v1 --pools pools.json --limit 9",
-        OPEN_NULLABLE,
-        r#"{"any":[2],"fixed":{"/x":[1]}}"#,
-        r#"{}
+        err: "crdx: end\n",
+        status: 0,
+    },
+    SchemaRun {
+        name: "an open place that may be null, without null",
+        command: "crdx sample crd.json v1 --pools pools.json --limit 9",
+        schema: OPEN_NULLABLE,
+        second: r#"{"any":[2],"fixed":{"/x":[1]}}"#,
+        out: r#"{}
 {"x":1}
 "#,
-        "crdx: end\n",
-        0,
-    ),
-    (
-        "null for an object",
-        "crdx sample crd.json v1 --pools pools.json --limit 9",
-        NULLABLE,
-        r#"{"fixed":{"/n":[null]}}"#,
-        r#"{}
+        err: "crdx: end\n",
+        status: 0,
+    },
+    SchemaRun {
+        name: "null for an object",
+        command: "crdx sample crd.json v1 --pools pools.json --limit 9",
+        schema: NULLABLE,
+        second: r#"{"fixed":{"/n":[null]}}"#,
+        out: r#"{}
 {"n":null}
 "#,
-        "crdx: end\n",
-        0,
-    ),
-    (
-        "an object that may be null, without null",
-        "crdx sample crd.json v1 --pools pools.json --limit 9",
-        NULLABLE,
-        r#"{"fixed":{"/n":[{}]}}"#,
-        r#"{}
+        err: "crdx: end\n",
+        status: 0,
+    },
+    SchemaRun {
+        name: "an object that may be null, without null",
+        command: "crdx sample crd.json v1 --pools pools.json --limit 9",
+        schema: NULLABLE,
+        second: r#"{"fixed":{"/n":[{}]}}"#,
+        out: r#"{}
 {"n":{}}
 "#,
-        "crdx: end\n",
-        0,
-    ),
-    (
-        "no values",
-        "crdx sample crd.json v1 --pools pools.json --limit 9",
-        SPEC,
-        r#"{"integers":[0],"fixed":{"/spec":[]}}"#,
-        r#"{}
+        err: "crdx: end\n",
+        status: 0,
+    },
+    SchemaRun {
+        name: "no values",
+        command: "crdx sample crd.json v1 --pools pools.json --limit 9",
+        schema: SPEC,
+        second: r#"{"integers":[0],"fixed":{"/spec":[]}}"#,
+        out: r#"{}
 "#,
-        "crdx: end\n",
-        0,
-    ),
-    (
-        "no values for what is required",
-        "crdx sample crd.json v1 --pools pools.json --limit 63",
-        REQUIRED_LONG_MAP_LIST,
-        r#"{"strings":["a","b","c"],"fixed":{"/m":[]}}"#,
-        "",
-        "crdx: end\n",
-        0,
-    ),
-    (
-        "a path below another fixed path",
-        "crdx sample crd.json v1 --pools pools.json --limit 9",
-        SPEC,
-        r#"{"integers":[0],"fixed":{"/spec":[{"a":5}],"/spec/a":[7]}}"#,
-        r#"{}
+        err: "crdx: end\n",
+        status: 0,
+    },
+    SchemaRun {
+        name: "no values for what is required",
+        command: "crdx sample crd.json v1 --pools pools.json --limit 63",
+        schema: REQUIRED_LONG_MAP_LIST,
+        second: r#"{"strings":["a","b","c"],"fixed":{"/m":[]}}"#,
+        out: "",
+        err: "crdx: end\n",
+        status: 0,
+    },
+    SchemaRun {
+        name: "a path below another fixed path",
+        command: "crdx sample crd.json v1 --pools pools.json --limit 9",
+        schema: SPEC,
+        second: r#"{"integers":[0],"fixed":{"/spec":[{"a":5}],"/spec/a":[7]}}"#,
+        out: r#"{}
 {"spec":{"a":5}}
 "#,
-        "crdx: end\n",
-        0,
-    ),
-    (
-        "a list of values for a fixed path",
-        "crdx sample crd.json v1 --pools pools.json --limit 3",
-        SPEC,
-        r#"{"paths":{"/spec/a":[1]},"fixed":{"/spec/a":[2]}}"#,
-        r#"{}
+        err: "crdx: end\n",
+        status: 0,
+    },
+    SchemaRun {
+        name: "a list of values for a fixed path",
+        command: "crdx sample crd.json v1 --pools pools.json --limit 3",
+        schema: SPEC,
+        second: r#"{"paths":{"/spec/a":[1]},"fixed":{"/spec/a":[2]}}"#,
+        out: r#"{}
 {"spec":{}}
 {"spec":{"b":false}}
 {"spec":{"b":true}}
 {"spec":{"a":2}}
 "#,
-        "crdx: end\n",
-        0,
-    ),
-    (
-        "a list of values below a fixed path",
-        "crdx sample crd.json v1 --pools pools.json --limit 3",
-        SPEC,
-        r#"{"paths":{"/spec/a":[1]},"fixed":{"/spec":[{"a":2}]}}"#,
-        r#"{}
+        err: "crdx: end\n",
+        status: 0,
+    },
+    SchemaRun {
+        name: "a list of values below a fixed path",
+        command: "crdx sample crd.json v1 --pools pools.json --limit 3",
+        schema: SPEC,
+        second: r#"{"paths":{"/spec/a":[1]},"fixed":{"/spec":[{"a":2}]}}"#,
+        out: r#"{}
 {"spec":{"a":2}}
 "#,
-        "crdx: end\n",
-        0,
-    ),
-    (
-        "a fixed path that is always there",
-        "crdx sample crd.json v1 --pools pools.json --limit 9",
-        SPEC,
-        r#"{"fixed":{"/spec":[{"a":5}]},"present":["/spec"]}"#,
-        r#"{"spec":{"a":5}}
+        err: "crdx: end\n",
+        status: 0,
+    },
+    SchemaRun {
+        name: "a fixed path that is always there",
+        command: "crdx sample crd.json v1 --pools pools.json --limit 9",
+        schema: SPEC,
+        second: r#"{"fixed":{"/spec":[{"a":5}]},"present":["/spec"]}"#,
+        out: r#"{"spec":{"a":5}}
 "#,
-        "crdx: end\n",
-        0,
-    ),
-    (
-        "a path below a fixed path that is always there",
-        "crdx sample crd.json v1 --pools pools.json --limit 9",
-        SPEC,
-        r#"{"fixed":{"/spec":[{},{"a":5}]},"present":["/spec/a"]}"#,
-        r#"{}
+        err: "crdx: end\n",
+        status: 0,
+    },
+    SchemaRun {
+        name: "a path below a fixed path that is always there",
+        command: "crdx sample crd.json v1 --pools pools.json --limit 9",
+        schema: SPEC,
+        second: r#"{"fixed":{"/spec":[{},{"a":5}]},"present":["/spec/a"]}"#,
+        out: r#"{}
 {"spec":{}}
 {"spec":{"a":5}}
 "#,
-        "crdx: end\n",
-        0,
-    ),
-    (
-        "an item of a list whose items are fixed to nothing",
-        "crdx sample crd.json v1 --pools pools.json --limit 9",
-        LIST,
-        r#"{"fixed":{"/l/[]":[]},"present":["/l/[]"]}"#,
-        r#"{}
+        err: "crdx: end\n",
+        status: 0,
+    },
+    SchemaRun {
+        name: "an item of a list whose items are fixed to nothing",
+        command: "crdx sample crd.json v1 --pools pools.json --limit 9",
+        schema: LIST,
+        second: r#"{"fixed":{"/l/[]":[]},"present":["/l/[]"]}"#,
+        out: r#"{}
 "#,
-        "crdx: end\n",
-        0,
-    ),
-    (
-        "a field with a default",
-        "crdx sample crd.json v1 --pools pools.json --limit 9",
-        DEFAULTED,
-        r#"{"integers":[0,7],"fixed":{"/spec/f":[3]}}"#,
-        r#"{}
+        err: "crdx: end\n",
+        status: 0,
+    },
+    SchemaRun {
+        name: "a field with a default",
+        command: "crdx sample crd.json v1 --pools pools.json --limit 9",
+        schema: DEFAULTED,
+        second: r#"{"integers":[0,7],"fixed":{"/spec/f":[3]}}"#,
+        out: r#"{}
 {"spec":{"f":3}}
 "#,
-        "crdx: end\n",
-        0,
-    ),
-    (
-        "past a fixed value",
-        r#"crdx sample crd.json v1 --pools pools.json --limit 4 --after {"spec":{"a":5}}"#,
-        SPEC,
-        r#"{"fixed":{"/spec":[{"b":true,"a":5},{"a":5}]}}"#,
-        r#"{"spec":{"a":5,"b":true}}
+        err: "crdx: end\n",
+        status: 0,
+    },
+    SchemaRun {
+        name: "past a fixed value",
+        command: r#"crdx sample crd.json v1 --pools pools.json --limit 4 --after {"spec":{"a":5}}"#,
+        schema: SPEC,
+        second: r#"{"fixed":{"/spec":[{"b":true,"a":5},{"a":5}]}}"#,
+        out: r#"{"spec":{"a":5,"b":true}}
 "#,
-        "crdx: end\n",
-        0,
-    ),
-    (
-        "past what is not a fixed value",
-        r#"crdx sample crd.json v1 --pools pools.json --limit 4 --after {"spec":{}}"#,
-        SPEC,
-        r#"{"fixed":{"/spec":[{"b":true,"a":5},{"a":5}]}}"#,
-        "",
-        "crdx: after: not a sample\n",
-        1,
-    ),
-    (
-        "with room for 127 nodes",
-        "crdx sample crd.json v1 --pools pools.json --limit 127",
-        SPEC,
-        r#"{"fixed":{"/spec":[{"b":true,"a":5},{"a":5}]},"present":["/spec"]}"#,
-        r#"{"spec":{"a":5}}
+        err: "crdx: end\n",
+        status: 0,
+    },
+    SchemaRun {
+        name: "past what is not a fixed value",
+        command: r#"crdx sample crd.json v1 --pools pools.json --limit 4 --after {"spec":{}}"#,
+        schema: SPEC,
+        second: r#"{"fixed":{"/spec":[{"b":true,"a":5},{"a":5}]}}"#,
+        out: "",
+        err: "crdx: after: not a sample\n",
+        status: 1,
+    },
+    SchemaRun {
+        name: "with room for 127 nodes",
+        command: "crdx sample crd.json v1 --pools pools.json --limit 127",
+        schema: SPEC,
+        second: r#"{"fixed":{"/spec":[{"b":true,"a":5},{"a":5}]},"present":["/spec"]}"#,
+        out: r#"{"spec":{"a":5}}
 {"spec":{"a":5,"b":true}}
 "#,
-        "crdx: end\n",
-        0,
-    ),
+        err: "crdx: end\n",
+        status: 0,
+    },
 ];
 
 #[test]
 fn fixed_paths(rt: HostRuntime) -> Result<(), Fail> {
-    Ok(all_runs_by_schema(&rt, rt.alloc(), &ROWS)?)
+    let mut report = Report::new(rt.alloc());
+    all_schema_runs(&mut report, rt.alloc(), &ROWS)?;
+    report.end(&rt)
 }

@@ -1,115 +1,171 @@
 //! Documents that are cut, nested deep or long, and trees to go on from that are no samples.
 use crate::support::documents::{MAP_LIST, TWO_TEXTS, WIDGET, ZERO_AND_ONE};
 use crate::support::fakes::{FailingSink, FakeInputs};
-use crate::support::harness::{definition, is_answer, run_on, try_run};
+use crate::support::harness::{Run, definition, is_answer, run_on, try_run};
+use crate::support::report::Report;
 use crate::support::texts::{beginning, nested, padded};
-use std::alloc::{AllocError, Global};
-use std::process::Abort;
+use std::alloc::Global;
 use std::test::Fail;
 
-fn is_refused(
-    rt: &impl Abort,
+/// Tries a run that refuses one of its documents.
+fn try_refused<'a>(
+    report: &mut Report,
     alloc: Global,
-    crd: &str,
-    pools: &str,
-    err: &str,
-    name: &str,
-) -> Result<(), AllocError> {
-    let command = "crdx sample crd.json v1 --pools pools.json";
-    try_run(rt, alloc, &(name, command, crd, pools, "", err, 3))
+    crd: &'a str,
+    pools: &'a str,
+    err: &'a str,
+) -> Result<(), Fail> {
+    let run = Run {
+        name: "a refusal",
+        command: "crdx sample crd.json v1 --pools pools.json",
+        crd,
+        second: pools,
+        out: "",
+        err,
+        status: 3,
+    };
+    try_run(report, alloc, &run)
 }
 
 /// Each proper beginning of a definition and of pools.
 #[test]
 fn cut_documents(rt: HostRuntime) -> Result<(), Fail> {
+    let mut report = Report::new(rt.alloc());
     for room in 0..WIDGET.len() {
         let crd = beginning(WIDGET, room);
-        is_refused(&rt, rt.alloc(), crd, "{}", "crdx: crd: J3\n", crd)?;
+        let ended = try_refused(&mut report, rt.alloc(), crd, "{}", "crdx: crd: J3\n");
+        report.row(crd, ended)?;
     }
     for room in 0..ZERO_AND_ONE.len() {
         let pools = beginning(ZERO_AND_ONE, room);
-        is_refused(&rt, rt.alloc(), WIDGET, pools, "crdx: pools: J3\n", pools)?;
+        let ended = try_refused(&mut report, rt.alloc(), WIDGET, pools, "crdx: pools: J3\n");
+        report.row(pools, ended)?;
     }
-    Ok(())
+    report.end(&rt)
+}
+
+/// So many lists in one another.
+fn try_deep(report: &mut Report, alloc: Global, depth: usize, err: &str) -> Result<(), Fail> {
+    let pools = nested(alloc, "[", depth, "", "]")?;
+    try_refused(report, alloc, WIDGET, pools.as_str(), err)
+}
+
+fn try_long(report: &mut Report, alloc: Global) -> Result<(), Fail> {
+    let pools = padded(alloc, "", 1_048_577)?;
+    try_refused(report, alloc, WIDGET, pools.as_str(), "crdx: pools: J4\n")
 }
 
 #[test]
 fn deep_and_long_pools(rt: HostRuntime) -> Result<(), Fail> {
-    let deep = nested(rt.alloc(), "[", 127, "", "]")?;
-    let err = "crdx: pools: P1 \"\"\n";
-    is_refused(&rt, rt.alloc(), WIDGET, deep.as_str(), err, "127 deep")?;
-    let deeper = nested(rt.alloc(), "[", 128, "", "]")?;
-    let err = "crdx: pools: J3\n";
-    is_refused(&rt, rt.alloc(), WIDGET, deeper.as_str(), err, "128 deep")?;
-    let long = padded(rt.alloc(), "", 1_048_577)?;
-    let err = "crdx: pools: J4\n";
-    is_refused(
-        &rt,
-        rt.alloc(),
-        WIDGET,
-        long.as_str(),
-        err,
-        "1,048,577 spaces",
-    )?;
-    Ok(())
+    let mut report = Report::new(rt.alloc());
+    let ended = try_deep(&mut report, rt.alloc(), 127, "crdx: pools: P1 \"\"\n");
+    report.row("127 deep", ended)?;
+    let ended = try_deep(&mut report, rt.alloc(), 128, "crdx: pools: J3\n");
+    report.row("128 deep", ended)?;
+    let ended = try_long(&mut report, rt.alloc());
+    report.row("1,048,577 spaces", ended)?;
+    report.end(&rt)
+}
+
+fn try_no_text(report: &mut Report, alloc: Global) -> Result<(), Fail> {
+    let command = "crdx sample crd.json v1 --pools pools.json";
+    let mut inputs = FakeInputs::new(alloc, WIDGET, "");
+    inputs.second = b"\xff";
+    let output = run_on(alloc, command, inputs, FailingSink::endless(alloc))?;
+    Ok(is_answer(report, &output, "", "crdx: pools: J3\n", 3)?)
 }
 
 #[test]
 fn pools_that_are_no_text(rt: HostRuntime) -> Result<(), Fail> {
-    let command = "crdx sample crd.json v1 --pools pools.json";
-    let mut inputs = FakeInputs::new(rt.alloc(), WIDGET, "");
-    inputs.second = b"\xff";
-    let output = run_on(
-        rt.alloc(),
-        command,
-        inputs,
-        FailingSink::endless(rt.alloc()),
-    )?;
-    is_answer(&rt, &output, "", "crdx: pools: J3\n", 3, "a byte of 255");
-    Ok(())
+    let mut report = Report::new(rt.alloc());
+    let ended = try_no_text(&mut report, rt.alloc());
+    report.row("a byte of 255", ended)?;
+    report.end(&rt)
 }
 
-// A node limit, what `sample` is to go on from, standard error and the status.
-static PLACES: [(u32, &str, &str, u8); 8] = [
-    (
-        8,
-        r#"{"m":[{"k":"a"},{"k":"a"}]}"#,
-        "crdx: after: not a sample\n",
-        1,
-    ),
-    (8, r#"{"m":[{"k":"c"}]}"#, "crdx: after: not a sample\n", 1),
-    (8, r#"{"m":[{"v":0}]}"#, "crdx: after: not a sample\n", 1),
-    (8, r#"{"m":[],"z":1}"#, "crdx: after: not a sample\n", 1),
-    (8, "[]", "crdx: after: not a sample\n", 1),
-    (
-        4,
-        r#"{"m":[{"k":"a"},{"k":"b"}]}"#,
-        "crdx: after: not a sample\n",
-        1,
-    ),
-    (8, r#"{"m":["#, "crdx: after: J3\n", 3),
-    (8, r#"{"m":1.5}"#, "crdx: after: J1\n", 3),
+/// What `sample` is to go on from, a node limit, and what is said of it.
+struct Place {
+    place: &'static str,
+    limit: u32,
+    err: &'static str,
+    status: u8,
+}
+
+static PLACES: [Place; 8] = [
+    Place {
+        place: r#"{"m":[{"k":"a"},{"k":"a"}]}"#,
+        limit: 8,
+        err: "crdx: after: not a sample\n",
+        status: 1,
+    },
+    Place {
+        place: r#"{"m":[{"k":"c"}]}"#,
+        limit: 8,
+        err: "crdx: after: not a sample\n",
+        status: 1,
+    },
+    Place {
+        place: r#"{"m":[{"v":0}]}"#,
+        limit: 8,
+        err: "crdx: after: not a sample\n",
+        status: 1,
+    },
+    Place {
+        place: r#"{"m":[],"z":1}"#,
+        limit: 8,
+        err: "crdx: after: not a sample\n",
+        status: 1,
+    },
+    Place {
+        place: "[]",
+        limit: 8,
+        err: "crdx: after: not a sample\n",
+        status: 1,
+    },
+    Place {
+        place: r#"{"m":[{"k":"a"},{"k":"b"}]}"#,
+        limit: 4,
+        err: "crdx: after: not a sample\n",
+        status: 1,
+    },
+    Place {
+        place: r#"{"m":["#,
+        limit: 8,
+        err: "crdx: after: J3\n",
+        status: 3,
+    },
+    Place {
+        place: r#"{"m":1.5}"#,
+        limit: 8,
+        err: "crdx: after: J1\n",
+        status: 3,
+    },
 ];
 
-fn try_place(
-    rt: &impl Abort,
-    alloc: Global,
-    crd: &str,
-    row: &(u32, &str, &str, u8),
-) -> Result<(), AllocError> {
-    let (limit, place, err, status) = *row;
+fn try_place(report: &mut Report, alloc: Global, crd: &str, row: &Place) -> Result<(), Fail> {
+    let (place, limit) = (row.place, row.limit);
     let command = format!(in alloc;
         "crdx sample crd.json v1 --pools pools.json --limit {limit} --after {place}"
     )?;
-    let row = (place, command.as_str(), crd, TWO_TEXTS, "", err, status);
-    try_run(rt, alloc, &row)
+    let run = Run {
+        name: place,
+        command: command.as_str(),
+        crd,
+        second: TWO_TEXTS,
+        out: "",
+        err: row.err,
+        status: row.status,
+    };
+    try_run(report, alloc, &run)
 }
 
 #[test]
 fn places_that_are_no_samples(rt: HostRuntime) -> Result<(), Fail> {
+    let mut report = Report::new(rt.alloc());
     let crd = definition(rt.alloc(), MAP_LIST)?;
     for row in &PLACES {
-        try_place(&rt, rt.alloc(), crd.as_str(), row)?;
+        let ended = try_place(&mut report, rt.alloc(), crd.as_str(), row);
+        report.row(row.place, ended)?;
     }
-    Ok(())
+    report.end(&rt)
 }

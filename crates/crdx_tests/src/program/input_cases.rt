@@ -1,21 +1,43 @@
 //! Documents in files, and which inputs a run reads.
 use crate::support::documents::{BROKEN, WIDGET, ZERO_AND_ONE};
 use crate::support::fakes::{FailingSink, FakeInputs, Reads};
-use crate::support::harness::{is_answer, is_number, is_said, run_on, try_run};
+use crate::support::harness::{Run, is_answer, is_said, run_on, try_run};
+use crate::support::report::Report;
 use crate::support::texts::padded;
 use crdx::inputs::{HostInputs, InFault, Inputs};
 use std::alloc::{AllocError, Global};
 use std::env::Env;
-use std::process::Abort;
 use std::rt::Files;
 use std::test::Fail;
 use std::{env, fs, process};
 
-// A name, the beginning of a file, how many spaces follow it, and the text or the code of what is read.
-static FILES: [(&str, &str, usize, &str); 3] = [
-    ("a document of 1,048,576 bytes", "7", 1_048_575, "7"),
-    ("a document of 1,048,577 bytes", "7", 1_048_576, "J4"),
-    ("a list that is cut", "[1,", 0, "J3"),
+/// The beginning of a file, how many spaces follow it, and the text or the code of what is read.
+struct Document {
+    name: &'static str,
+    head: &'static str,
+    spaces: usize,
+    wanted: &'static str,
+}
+
+static FILES: [Document; 3] = [
+    Document {
+        name: "a document of 1,048,576 bytes",
+        head: "7",
+        spaces: 1_048_575,
+        wanted: "7",
+    },
+    Document {
+        name: "a document of 1,048,577 bytes",
+        head: "7",
+        spaces: 1_048_576,
+        wanted: "J4",
+    },
+    Document {
+        name: "a list that is cut",
+        head: "[1,",
+        spaces: 0,
+        wanted: "J3",
+    },
 ];
 
 // Where no file is.
@@ -41,14 +63,14 @@ fn said_of_text(
 }
 
 fn try_file(
-    rt: &(impl Files + Input + AllocGlobal + Abort),
+    rt: &(impl Files + Input + AllocGlobal),
+    report: &mut Report,
     path: &str,
-    row: &(&str, &str, usize, &str),
+    row: &Document,
 ) -> Result<(), Fail> {
-    let (name, head, spaces, wanted) = *row;
-    let text = padded(rt.alloc(), head, spaces)?;
+    let text = padded(rt.alloc(), row.head, row.spaces)?;
     let found = said_of_text(rt, path, text.as_str());
-    is_said(rt, found, wanted, "what is read", name)
+    is_said(report, "what is read", found, row.wanted)
 }
 
 fn path_of(rt: &(impl Env + AllocGlobal), id: u32) -> Result<String, Fail> {
@@ -56,276 +78,341 @@ fn path_of(rt: &(impl Env + AllocGlobal), id: u32) -> Result<String, Fail> {
     Ok(format!(in rt.alloc(); "{}/crdx_tests_{id}.json", folder.display())?)
 }
 
-fn try_files(rt: &(impl Files + Input + AllocGlobal + Abort), path: &str) -> Result<(), Fail> {
-    for row in &FILES {
-        try_file(rt, path, row)?;
-    }
-    Ok(())
-}
-
 #[test]
 fn files(rt: HostRuntime) -> Result<(), Fail> {
+    let mut report = Report::new(rt.alloc());
     for path in &NO_FILES {
-        is_said(
-            &rt,
-            said_of_file(&rt, path),
-            "read failed",
-            "what is read",
-            path,
-        )?;
+        let found = said_of_file(&rt, path);
+        let ended = is_said(&mut report, "what is read", found, "read failed");
+        report.row(path, ended)?;
     }
     let path = path_of(&rt, process::id(rt.process()))?;
-    try_files(&rt, path.as_str())
+    for row in &FILES {
+        let ended = try_file(&rt, &mut report, path.as_str(), row);
+        report.row(row.name, ended)?;
+    }
+    report.end(&rt)
 }
 
-// A name, a command line, a definition, and how often the definition, the pools, the object and any other input are read.
-static READS: [(&str, &str, &str, u64, u64, u64, u64); 14] = [
-    ("a check", "crdx check crd.json v1", WIDGET, 1, 0, 0, 0),
-    (
-        "a sample without pools",
-        "crdx sample crd.json v1",
-        WIDGET,
-        1,
-        0,
-        0,
-        0,
-    ),
-    (
-        "a sample with pools",
-        "crdx sample crd.json v1 --pools pools.json",
-        WIDGET,
-        1,
-        1,
-        0,
-        0,
-    ),
-    (
-        "a sample of a definition that is refused",
-        "crdx sample crd.json v1 --pools pools.json",
-        "{}",
-        1,
-        0,
-        0,
-        0,
-    ),
-    (
-        "an object in a file",
-        "crdx prune crd.json v1 object.json",
-        WIDGET,
-        1,
-        0,
-        1,
-        0,
-    ),
-    (
-        "an object on the standard input",
-        "crdx default crd.json v1",
-        WIDGET,
-        1,
-        0,
-        0,
-        1,
-    ),
-    (
-        "an object of a schema that breaks rules",
-        "crdx validate crd.json v1 object.json",
-        BROKEN,
-        1,
-        0,
-        0,
-        0,
-    ),
-    (
-        "a definition on the standard input",
-        "crdx check - v1",
-        WIDGET,
-        0,
-        0,
-        0,
-        1,
-    ),
-    (
-        "pools on the standard input",
-        "crdx sample crd.json v1 --pools -",
-        WIDGET,
-        1,
-        0,
-        0,
-        1,
-    ),
-    (
-        "an object that is named as the standard input",
-        "crdx prune crd.json v1 -",
-        WIDGET,
-        1,
-        0,
-        0,
-        1,
-    ),
-    (
-        "a file with the name -",
-        "crdx pools ./- v1",
-        WIDGET,
-        0,
-        0,
-        0,
-        1,
-    ),
-    (
-        "the standard input for two inputs",
-        "crdx validate - v1",
-        WIDGET,
-        0,
-        0,
-        0,
-        0,
-    ),
-    ("help", "crdx --help", WIDGET, 0, 0, 0, 0),
-    ("no command", "crdx", WIDGET, 0, 0, 0, 0),
+/// How often the definition, the pools, the object and any other input are read.
+struct ReadCounts {
+    name: &'static str,
+    command: &'static str,
+    crd: &'static str,
+    crds: u64,
+    pools: u64,
+    objects: u64,
+    others: u64,
+}
+
+static READS: [ReadCounts; 14] = [
+    ReadCounts {
+        name: "a check",
+        command: "crdx check crd.json v1",
+        crd: WIDGET,
+        crds: 1,
+        pools: 0,
+        objects: 0,
+        others: 0,
+    },
+    ReadCounts {
+        name: "a sample without pools",
+        command: "crdx sample crd.json v1",
+        crd: WIDGET,
+        crds: 1,
+        pools: 0,
+        objects: 0,
+        others: 0,
+    },
+    ReadCounts {
+        name: "a sample with pools",
+        command: "crdx sample crd.json v1 --pools pools.json",
+        crd: WIDGET,
+        crds: 1,
+        pools: 1,
+        objects: 0,
+        others: 0,
+    },
+    ReadCounts {
+        name: "a sample of a definition that is refused",
+        command: "crdx sample crd.json v1 --pools pools.json",
+        crd: "{}",
+        crds: 1,
+        pools: 0,
+        objects: 0,
+        others: 0,
+    },
+    ReadCounts {
+        name: "an object in a file",
+        command: "crdx prune crd.json v1 object.json",
+        crd: WIDGET,
+        crds: 1,
+        pools: 0,
+        objects: 1,
+        others: 0,
+    },
+    ReadCounts {
+        name: "an object on the standard input",
+        command: "crdx default crd.json v1",
+        crd: WIDGET,
+        crds: 1,
+        pools: 0,
+        objects: 0,
+        others: 1,
+    },
+    ReadCounts {
+        name: "an object of a schema that breaks rules",
+        command: "crdx validate crd.json v1 object.json",
+        crd: BROKEN,
+        crds: 1,
+        pools: 0,
+        objects: 0,
+        others: 0,
+    },
+    ReadCounts {
+        name: "a definition on the standard input",
+        command: "crdx check - v1",
+        crd: WIDGET,
+        crds: 0,
+        pools: 0,
+        objects: 0,
+        others: 1,
+    },
+    ReadCounts {
+        name: "pools on the standard input",
+        command: "crdx sample crd.json v1 --pools -",
+        crd: WIDGET,
+        crds: 1,
+        pools: 0,
+        objects: 0,
+        others: 1,
+    },
+    ReadCounts {
+        name: "an object that is named as the standard input",
+        command: "crdx prune crd.json v1 -",
+        crd: WIDGET,
+        crds: 1,
+        pools: 0,
+        objects: 0,
+        others: 1,
+    },
+    ReadCounts {
+        name: "a file with the name -",
+        command: "crdx pools ./- v1",
+        crd: WIDGET,
+        crds: 0,
+        pools: 0,
+        objects: 0,
+        others: 1,
+    },
+    ReadCounts {
+        name: "the standard input for two inputs",
+        command: "crdx validate - v1",
+        crd: WIDGET,
+        crds: 0,
+        pools: 0,
+        objects: 0,
+        others: 0,
+    },
+    ReadCounts {
+        name: "help",
+        command: "crdx --help",
+        crd: WIDGET,
+        crds: 0,
+        pools: 0,
+        objects: 0,
+        others: 0,
+    },
+    ReadCounts {
+        name: "no command",
+        command: "crdx",
+        crd: WIDGET,
+        crds: 0,
+        pools: 0,
+        objects: 0,
+        others: 0,
+    },
 ];
 
-fn is_read(rt: &impl Abort, reads: Reads, row: &(&str, &str, &str, u64, u64, u64, u64)) {
-    let (name, _line, _crd, crds, pools, objects, others) = *row;
-    is_number(rt, reads.crd, crds, "the reads of the definition", name);
-    is_number(rt, reads.pools, pools, "the reads of the pools", name);
-    is_number(rt, reads.object, objects, "the reads of the object", name);
-    is_number(rt, reads.other, others, "the other reads", name);
+fn is_read(report: &mut Report, reads: Reads, row: &ReadCounts) -> Result<(), AllocError> {
+    report.is_number("the reads of the definition", reads.crd, row.crds)?;
+    report.is_number("the reads of the pools", reads.pools, row.pools)?;
+    report.is_number("the reads of the object", reads.object, row.objects)?;
+    report.is_number("the other reads", reads.other, row.others)
 }
 
-fn try_reads(
-    rt: &impl Abort,
-    alloc: Global,
-    row: &(&str, &str, &str, u64, u64, u64, u64),
-) -> Result<(), AllocError> {
-    let inputs = FakeInputs::new(alloc, row.2, ZERO_AND_ONE);
-    let output = run_on(alloc, row.1, inputs, FailingSink::endless(alloc))?;
-    is_read(rt, output.reads, row);
-    Ok(())
+fn try_reads(report: &mut Report, alloc: Global, row: &ReadCounts) -> Result<(), Fail> {
+    let inputs = FakeInputs::new(alloc, row.crd, ZERO_AND_ONE);
+    let output = run_on(alloc, row.command, inputs, FailingSink::endless(alloc))?;
+    Ok(is_read(report, output.reads, row)?)
 }
 
 #[test]
 fn reads(rt: HostRuntime) -> Result<(), Fail> {
+    let mut report = Report::new(rt.alloc());
     for row in &READS {
-        try_reads(&rt, rt.alloc(), row)?;
+        let ended = try_reads(&mut report, rt.alloc(), row);
+        report.row(row.name, ended)?;
     }
-    Ok(())
+    report.end(&rt)
 }
 
-// A name, a command line, the standard input, standard output, standard error and the status.
-static STANDARD_INPUTS: [(&str, &str, &str, &str, &str, u8); 6] = [
-    (
-        "a definition",
-        "crdx check - v1",
-        WIDGET,
-        "structural\n",
-        "",
-        0,
-    ),
-    (
-        "pools",
-        "crdx sample crd.json v1 --limit 2 --pools -",
-        ZERO_AND_ONE,
-        "{}\n{\"spec\":{}}\n",
-        "crdx: end\n",
-        0,
-    ),
-    (
-        "an object",
-        "crdx prune crd.json v1 -",
-        r#"{"other":1}"#,
-        "{}\n",
-        "",
-        0,
-    ),
-    (
-        "a definition that is no JSON",
-        "crdx explain - v1",
-        "spec: {}",
-        "",
-        "crdx: crd: J3\n",
-        3,
-    ),
-    (
-        "pools that are no JSON",
-        "crdx sample crd.json v1 --pools -",
-        "integers: []",
-        "",
-        "crdx: pools: J3\n",
-        3,
-    ),
-    (
-        "a file with the name -",
-        "crdx check ./- v1",
-        WIDGET,
-        "",
-        "crdx: crd: read failed\n",
-        4,
-    ),
+/// A run on the standard input.
+struct StandardInput {
+    name: &'static str,
+    command: &'static str,
+    input: &'static str,
+    out: &'static str,
+    err: &'static str,
+    status: u8,
+}
+
+static STANDARD_INPUTS: [StandardInput; 6] = [
+    StandardInput {
+        name: "a definition",
+        command: "crdx check - v1",
+        input: WIDGET,
+        out: "structural\n",
+        err: "",
+        status: 0,
+    },
+    StandardInput {
+        name: "pools",
+        command: "crdx sample crd.json v1 --limit 2 --pools -",
+        input: ZERO_AND_ONE,
+        out: "{}\n{\"spec\":{}}\n",
+        err: "crdx: end\n",
+        status: 0,
+    },
+    StandardInput {
+        name: "an object",
+        command: "crdx prune crd.json v1 -",
+        input: r#"{"other":1}"#,
+        out: "{}\n",
+        err: "",
+        status: 0,
+    },
+    StandardInput {
+        name: "a definition that is no JSON",
+        command: "crdx explain - v1",
+        input: "spec: {}",
+        out: "",
+        err: "crdx: crd: J3\n",
+        status: 3,
+    },
+    StandardInput {
+        name: "pools that are no JSON",
+        command: "crdx sample crd.json v1 --pools -",
+        input: "integers: []",
+        out: "",
+        err: "crdx: pools: J3\n",
+        status: 3,
+    },
+    StandardInput {
+        name: "a file with the name -",
+        command: "crdx check ./- v1",
+        input: WIDGET,
+        out: "",
+        err: "crdx: crd: read failed\n",
+        status: 4,
+    },
 ];
+
+fn try_standard_input(report: &mut Report, alloc: Global, row: &StandardInput) -> Result<(), Fail> {
+    let run = Run {
+        name: row.name,
+        command: row.command,
+        crd: WIDGET,
+        second: row.input,
+        out: row.out,
+        err: row.err,
+        status: row.status,
+    };
+    try_run(report, alloc, &run)
+}
 
 #[test]
 fn standard_inputs(rt: HostRuntime) -> Result<(), Fail> {
+    let mut report = Report::new(rt.alloc());
     for row in &STANDARD_INPUTS {
-        let (name, line, input, out, err, status) = *row;
-        let row = (name, line, WIDGET, input, out, err, status);
-        try_run(&rt, rt.alloc(), &row)?;
+        let ended = try_standard_input(&mut report, rt.alloc(), row);
+        report.row(row.name, ended)?;
     }
-    Ok(())
+    report.end(&rt)
 }
 
-fn try_failing_definition(rt: &impl Abort, alloc: Global, left: usize) -> Result<(), AllocError> {
+fn try_failing_definition(
+    report: &mut Report,
+    alloc: Global,
+    left: usize,
+) -> Result<(), AllocError> {
     let mut inputs = FakeInputs::new(alloc, WIDGET, "");
     inputs.crd_left = left;
     let command = "crdx check crd.json v1";
     let output = run_on(alloc, command, inputs, FailingSink::endless(alloc))?;
-    let err = "crdx: crd: read failed\n";
-    is_answer(rt, &output, "", err, 4, "a definition");
-    Ok(())
+    is_answer(report, &output, "", "crdx: crd: read failed\n", 4)
 }
 
 fn try_failing_second(
-    rt: &impl Abort,
+    report: &mut Report,
     alloc: Global,
-    row: &(&str, &str, &str),
+    row: &Second,
     left: usize,
 ) -> Result<(), AllocError> {
-    let (name, line, err) = *row;
     let mut inputs = FakeInputs::new(alloc, WIDGET, ZERO_AND_ONE);
     inputs.second_left = left;
-    let output = run_on(alloc, line, inputs, FailingSink::endless(alloc))?;
-    is_answer(rt, &output, "", err, 4, name);
+    let output = run_on(alloc, row.command, inputs, FailingSink::endless(alloc))?;
+    is_answer(report, &output, "", row.err, 4)
+}
+
+/// What is said where the second document cannot be read whole.
+struct Second {
+    name: &'static str,
+    command: &'static str,
+    err: &'static str,
+}
+
+static SECONDS: [Second; 3] = [
+    Second {
+        name: "pools",
+        command: "crdx sample crd.json v1 --pools pools.json",
+        err: "crdx: pools: read failed\n",
+    },
+    Second {
+        name: "an object of a file",
+        command: "crdx validate crd.json v1 object.json",
+        err: "crdx: object: read failed\n",
+    },
+    Second {
+        name: "an object of the standard input",
+        command: "crdx default crd.json v1",
+        err: "crdx: object: read failed\n",
+    },
+];
+
+fn try_definitions(report: &mut Report, alloc: Global) -> Result<(), Fail> {
+    for left in 0..WIDGET.len() + 1 {
+        try_failing_definition(report, alloc, left)?;
+    }
     Ok(())
 }
 
-// A name, a command line, and standard error where its second document cannot be read whole.
-static SECONDS: [(&str, &str, &str); 3] = [
-    (
-        "pools",
-        "crdx sample crd.json v1 --pools pools.json",
-        "crdx: pools: read failed\n",
-    ),
-    (
-        "an object of a file",
-        "crdx validate crd.json v1 object.json",
-        "crdx: object: read failed\n",
-    ),
-    (
-        "an object of the standard input",
-        "crdx default crd.json v1",
-        "crdx: object: read failed\n",
-    ),
-];
+fn try_seconds(report: &mut Report, alloc: Global, row: &Second) -> Result<(), Fail> {
+    for left in 0..ZERO_AND_ONE.len() + 1 {
+        try_failing_second(report, alloc, row, left)?;
+    }
+    Ok(())
+}
 
 /// Reading fails after each number of bytes, also after the last one.
 #[test]
 fn failing_reads(rt: HostRuntime) -> Result<(), Fail> {
-    for left in 0..WIDGET.len() + 1 {
-        try_failing_definition(&rt, rt.alloc(), left)?;
-    }
+    let mut report = Report::new(rt.alloc());
+    let ended = try_definitions(&mut report, rt.alloc());
+    report.row("a definition", ended)?;
     for row in &SECONDS {
-        for left in 0..ZERO_AND_ONE.len() + 1 {
-            try_failing_second(&rt, rt.alloc(), row, left)?;
-        }
+        let ended = try_seconds(&mut report, rt.alloc(), row);
+        report.row(row.name, ended)?;
     }
-    Ok(())
+    report.end(&rt)
 }

@@ -1,161 +1,191 @@
 //! `--large`: schemas and pools at the larger limits and past them, and what `--why` says of a limit.
-use crate::support::harness::try_run_by_schema;
+use crate::support::harness::{SchemaRun, try_schema_run};
+use crate::support::report::Report;
 use crate::support::texts::{nested, repeated};
 use std::alloc::{AllocError, Global};
-use std::process::Abort;
 use std::test::Fail;
 
 const STANDARD: &str = "crdx check crd.json v1 --why";
 
 const LARGE: &str = "crdx check crd.json v1 --why --large";
 
-// A name, a command line, a schema before its entries, an entry, how many there are, the schema after them, and what is said of a
-// limit, where one is passed; else the schema is structural.
-static SCHEMAS: [(&str, &str, &str, &str, usize, &str, &str); 13] = [
-    (
-        "512 places",
-        STANDARD,
-        r#"{"type":"object","properties":{"a":{"type":"integer","anyOf":["#,
-        "{}",
-        510,
-        "]}}}",
-        "",
-    ),
-    (
-        "600 places",
-        STANDARD,
-        r#"{"type":"object","properties":{"a":{"type":"integer","anyOf":["#,
-        "{}",
-        598,
-        "]}}}",
-        "crdx: crd: S4 \"/properties/a/anyOf/510\"\n    found 600 places in the schema; allowed are 512, and 16384 with --large\n",
-    ),
-    (
-        "16,384 places",
-        LARGE,
-        r#"{"type":"object","properties":{"a":{"type":"integer","anyOf":["#,
-        "{}",
-        16382,
-        "]}}}",
-        "",
-    ),
-    (
-        "16,385 places",
-        LARGE,
-        r#"{"type":"object","properties":{"a":{"type":"integer","anyOf":["#,
-        "{}",
-        16383,
-        "]}}}",
-        "crdx: crd: S4 \"/properties/a/anyOf/16382\"\n    found 16385 places in the schema; allowed are 16384\n",
-    ),
-    (
-        "65 values",
-        STANDARD,
-        r#"{"type":"object","properties":{"a":{"type":"integer","enum":["#,
-        "1",
-        65,
-        "]}}}",
-        "crdx: crd: S4 \"/properties/a/enum\"\n    found 65 values; allowed are 64, and 1024 with --large\n",
-    ),
-    (
-        "1,024 values",
-        LARGE,
-        r#"{"type":"object","properties":{"a":{"type":"integer","enum":["#,
-        "1",
-        1024,
-        "]}}}",
-        "",
-    ),
-    (
-        "1,025 values",
-        LARGE,
-        r#"{"type":"object","properties":{"a":{"type":"integer","enum":["#,
-        "1",
-        1025,
-        "]}}}",
-        "crdx: crd: S4 \"/properties/a/enum\"\n    found 1025 values; allowed are 1024\n",
-    ),
-    (
-        "33 required fields",
-        STANDARD,
-        r#"{"type":"object","properties":{"a":{"type":"integer"}},"required":["#,
-        "\"a\"",
-        33,
-        "]}",
-        "crdx: crd: S4 \"/required\"\n    found 33 required fields; allowed are 32, and 1024 with --large\n",
-    ),
-    (
-        "1,024 required fields",
-        LARGE,
-        r#"{"type":"object","properties":{"a":{"type":"integer"}},"required":["#,
-        "\"a\"",
-        1024,
-        "]}",
-        "",
-    ),
-    (
-        "1,025 required fields",
-        LARGE,
-        r#"{"type":"object","properties":{"a":{"type":"integer"}},"required":["#,
-        "\"a\"",
-        1025,
-        "]}",
-        "crdx: crd: S4 \"/required\"\n    found 1025 required fields; allowed are 1024\n",
-    ),
-    (
-        "5 keys",
-        STANDARD,
-        r#"{"type":"object","x-kubernetes-list-map-keys":["#,
-        "\"k\"",
-        5,
-        "]}",
-        "crdx: crd: S4 \"/x-kubernetes-list-map-keys\"\n    found 5 keys; allowed are 4, and 8 with --large\n",
-    ),
-    (
-        "9 keys",
-        LARGE,
-        r#"{"type":"object","x-kubernetes-list-map-keys":["#,
-        "\"k\"",
-        9,
-        "]}",
-        "crdx: crd: S4 \"/x-kubernetes-list-map-keys\"\n    found 9 keys; allowed are 8\n",
-    ),
-    (
-        "8 keys",
-        LARGE,
-        r#"{"type":"object","properties":{"m":{"type":"array","x-kubernetes-list-type":"map","items":{"type":"object","required":["a","b","c","d","e","f","g","h"],"properties":{"a":{"type":"string"},"b":{"type":"string"},"c":{"type":"string"},"d":{"type":"string"},"e":{"type":"string"},"f":{"type":"string"},"g":{"type":"string"},"h":{"type":"string"}}},"x-kubernetes-list-map-keys":["#,
-        r#""a","b","c","d","e","f","g","h""#,
-        1,
-        "]}}}",
-        "",
-    ),
+/// A document before its entries, an entry, how many there are, the document after them, and what is said of a limit, where one is passed.
+struct Long {
+    name: &'static str,
+    command: &'static str,
+    head: &'static str,
+    entry: &'static str,
+    count: usize,
+    tail: &'static str,
+    err: &'static str,
+}
+
+// Schemas; those of which nothing is said are structural.
+static SCHEMAS: [Long; 13] = [
+    Long {
+        name: "512 places",
+        command: STANDARD,
+        head: r#"{"type":"object","properties":{"a":{"type":"integer","anyOf":["#,
+        entry: "{}",
+        count: 510,
+        tail: "]}}}",
+        err: "",
+    },
+    Long {
+        name: "600 places",
+        command: STANDARD,
+        head: r#"{"type":"object","properties":{"a":{"type":"integer","anyOf":["#,
+        entry: "{}",
+        count: 598,
+        tail: "]}}}",
+        err: r#"crdx: crd: S4 "/properties/a/anyOf/510"
+    found 600 places in the schema; allowed are 512, and 16384 with --large
+"#,
+    },
+    Long {
+        name: "16,384 places",
+        command: LARGE,
+        head: r#"{"type":"object","properties":{"a":{"type":"integer","anyOf":["#,
+        entry: "{}",
+        count: 16382,
+        tail: "]}}}",
+        err: "",
+    },
+    Long {
+        name: "16,385 places",
+        command: LARGE,
+        head: r#"{"type":"object","properties":{"a":{"type":"integer","anyOf":["#,
+        entry: "{}",
+        count: 16383,
+        tail: "]}}}",
+        err: "crdx: crd: S4 \"/properties/a/anyOf/16382\"\n    found 16385 places in the schema; allowed are 16384\n",
+    },
+    Long {
+        name: "65 values",
+        command: STANDARD,
+        head: r#"{"type":"object","properties":{"a":{"type":"integer","enum":["#,
+        entry: "1",
+        count: 65,
+        tail: "]}}}",
+        err: "crdx: crd: S4 \"/properties/a/enum\"\n    found 65 values; allowed are 64, and 1024 with --large\n",
+    },
+    Long {
+        name: "1,024 values",
+        command: LARGE,
+        head: r#"{"type":"object","properties":{"a":{"type":"integer","enum":["#,
+        entry: "1",
+        count: 1024,
+        tail: "]}}}",
+        err: "",
+    },
+    Long {
+        name: "1,025 values",
+        command: LARGE,
+        head: r#"{"type":"object","properties":{"a":{"type":"integer","enum":["#,
+        entry: "1",
+        count: 1025,
+        tail: "]}}}",
+        err: "crdx: crd: S4 \"/properties/a/enum\"\n    found 1025 values; allowed are 1024\n",
+    },
+    Long {
+        name: "33 required fields",
+        command: STANDARD,
+        head: r#"{"type":"object","properties":{"a":{"type":"integer"}},"required":["#,
+        entry: "\"a\"",
+        count: 33,
+        tail: "]}",
+        err: "crdx: crd: S4 \"/required\"\n    found 33 required fields; allowed are 32, and 1024 with --large\n",
+    },
+    Long {
+        name: "1,024 required fields",
+        command: LARGE,
+        head: r#"{"type":"object","properties":{"a":{"type":"integer"}},"required":["#,
+        entry: "\"a\"",
+        count: 1024,
+        tail: "]}",
+        err: "",
+    },
+    Long {
+        name: "1,025 required fields",
+        command: LARGE,
+        head: r#"{"type":"object","properties":{"a":{"type":"integer"}},"required":["#,
+        entry: "\"a\"",
+        count: 1025,
+        tail: "]}",
+        err: "crdx: crd: S4 \"/required\"\n    found 1025 required fields; allowed are 1024\n",
+    },
+    Long {
+        name: "5 keys",
+        command: STANDARD,
+        head: r#"{"type":"object","x-kubernetes-list-map-keys":["#,
+        entry: "\"k\"",
+        count: 5,
+        tail: "]}",
+        err: "crdx: crd: S4 \"/x-kubernetes-list-map-keys\"\n    found 5 keys; allowed are 4, and 8 with --large\n",
+    },
+    Long {
+        name: "9 keys",
+        command: LARGE,
+        head: r#"{"type":"object","x-kubernetes-list-map-keys":["#,
+        entry: "\"k\"",
+        count: 9,
+        tail: "]}",
+        err: "crdx: crd: S4 \"/x-kubernetes-list-map-keys\"\n    found 9 keys; allowed are 8\n",
+    },
+    Long {
+        name: "8 keys",
+        command: LARGE,
+        head: r#"{"type":"object","properties":{"m":{
+            "type":"array","x-kubernetes-list-type":"map",
+            "items":{"type":"object","required":["a","b","c","d","e","f","g","h"],"properties":{
+                "a":{"type":"string"},"b":{"type":"string"},"c":{"type":"string"},"d":{"type":"string"},
+                "e":{"type":"string"},"f":{"type":"string"},"g":{"type":"string"},"h":{"type":"string"}
+            }},
+            "x-kubernetes-list-map-keys":["#,
+        entry: r#""a","b","c","d","e","f","g","h""#,
+        count: 1,
+        tail: "]}}}",
+        err: "",
+    },
 ];
 
-fn try_judged(
-    rt: &impl Abort,
+fn try_judged<'a>(
+    report: &mut Report,
     alloc: Global,
-    name: &str,
-    command: &str,
-    schema: &str,
-    err: &str,
-) -> Result<(), AllocError> {
+    command: &'a str,
+    schema: &'a str,
+    err: &'a str,
+) -> Result<(), Fail> {
     let (out, status) = if err.is_empty() {
         ("structural\n", 0)
     } else {
         ("", 3)
     };
-    let row = (name, command, schema, "", out, err, status);
-    try_run_by_schema(rt, alloc, &row)
+    let run = SchemaRun {
+        name: "a schema that is judged",
+        command,
+        schema,
+        second: "",
+        out,
+        err,
+        status,
+    };
+    try_schema_run(report, alloc, &run)
+}
+
+fn try_long_schema(report: &mut Report, alloc: Global, row: &Long) -> Result<(), Fail> {
+    let schema = repeated(alloc, row.head, row.entry, row.count, row.tail)?;
+    try_judged(report, alloc, row.command, schema.as_str(), row.err)
 }
 
 #[test]
 fn schemas(rt: HostRuntime) -> Result<(), Fail> {
+    let mut report = Report::new(rt.alloc());
     for row in &SCHEMAS {
-        let (name, command, head, entry, count, tail, err) = *row;
-        let schema = repeated(rt.alloc(), head, entry, count, tail)?;
-        try_judged(&rt, rt.alloc(), name, command, schema.as_str(), err)?;
+        let ended = try_long_schema(&mut report, rt.alloc(), row);
+        report.row(row.name, ended)?;
     }
-    Ok(())
+    report.end(&rt)
 }
 
 /// An object with so many optional truth values.
@@ -170,46 +200,71 @@ fn wide(alloc: Global, count: usize) -> Result<String, AllocError> {
     Ok(schema)
 }
 
-// A name, a command line, how many properties there are, and what is said.
-static PROPERTIES: [(&str, &str, usize, &str); 3] = [
-    (
-        "33 properties",
-        STANDARD,
-        33,
-        "crdx: crd: S4 \"/properties\"\n    found 33 properties; allowed are 32, and 1024 with --large\n",
-    ),
-    ("1,024 properties", LARGE, 1024, ""),
-    (
-        "1,025 properties",
-        LARGE,
-        1025,
-        "crdx: crd: S4 \"/properties\"\n    found 1025 properties; allowed are 1024\n",
-    ),
+/// How many properties there are, and what is said of a limit.
+struct WideObject {
+    name: &'static str,
+    command: &'static str,
+    properties: usize,
+    err: &'static str,
+}
+
+static PROPERTIES: [WideObject; 3] = [
+    WideObject {
+        name: "33 properties",
+        command: STANDARD,
+        properties: 33,
+        err: "crdx: crd: S4 \"/properties\"\n    found 33 properties; allowed are 32, and 1024 with --large\n",
+    },
+    WideObject {
+        name: "1,024 properties",
+        command: LARGE,
+        properties: 1024,
+        err: "",
+    },
+    WideObject {
+        name: "1,025 properties",
+        command: LARGE,
+        properties: 1025,
+        err: "crdx: crd: S4 \"/properties\"\n    found 1025 properties; allowed are 1024\n",
+    },
 ];
+
+fn try_properties(report: &mut Report, alloc: Global, row: &WideObject) -> Result<(), Fail> {
+    let schema = wide(alloc, row.properties)?;
+    try_judged(report, alloc, row.command, schema.as_str(), row.err)
+}
 
 #[test]
 fn properties(rt: HostRuntime) -> Result<(), Fail> {
+    let mut report = Report::new(rt.alloc());
     for row in &PROPERTIES {
-        let (name, command, count, err) = *row;
-        let schema = wide(rt.alloc(), count)?;
-        try_judged(&rt, rt.alloc(), name, command, schema.as_str(), err)?;
+        let ended = try_properties(&mut report, rt.alloc(), row);
+        report.row(row.name, ended)?;
     }
-    Ok(())
+    report.end(&rt)
+}
+
+fn try_wide_object(report: &mut Report, alloc: Global, name: &str) -> Result<(), Fail> {
+    let schema = wide(alloc, 1024)?;
+    let run = SchemaRun {
+        name,
+        command: "crdx sample crd.json v1 --large --limit 2 --count 3",
+        schema: schema.as_str(),
+        second: "",
+        out: "{}\n{\"f999\":false}\n{\"f999\":true}\n",
+        err: "crdx: more\n",
+        status: 0,
+    };
+    try_schema_run(report, alloc, &run)
 }
 
 #[test]
 fn samples_of_a_wide_object(rt: HostRuntime) -> Result<(), Fail> {
-    let schema = wide(rt.alloc(), 1024)?;
-    let row = (
-        "the first samples of 1,024 fields",
-        "crdx sample crd.json v1 --large --limit 2 --count 3",
-        schema.as_str(),
-        "",
-        "{}\n{\"f999\":false}\n{\"f999\":true}\n",
-        "crdx: more\n",
-        0,
-    );
-    Ok(try_run_by_schema(&rt, rt.alloc(), &row)?)
+    let mut report = Report::new(rt.alloc());
+    let name = "the first samples of 1,024 fields";
+    let ended = try_wide_object(&mut report, rt.alloc(), name);
+    report.row(name, ended)?;
+    report.end(&rt)
 }
 
 /// Pools with one value for each of so many fields.
@@ -224,53 +279,66 @@ fn pools_of_paths(alloc: Global, count: usize) -> Result<String, AllocError> {
     Ok(pools)
 }
 
-// A name, a command line, how many paths the pools have, standard output, standard error and the status.
-static PATHS: [(&str, &str, usize, &str, &str, u8); 3] = [
-    (
-        "65 paths",
-        "crdx sample crd.json v1 --large --limit 2 --count 2 --pools pools.json",
-        65,
-        "{}\n{\"f999\":false}\n",
-        "crdx: more\n",
-        0,
-    ),
-    (
-        "1,024 paths",
-        "crdx sample crd.json v1 --large --limit 2 --count 2 --pools pools.json",
-        1024,
-        "{}\n{\"f999\":true}\n",
-        "crdx: more\n",
-        0,
-    ),
-    (
-        "1,025 paths",
-        "crdx sample crd.json v1 --large --limit 2 --count 2 --pools pools.json --why",
-        1025,
-        "",
-        "crdx: pools: P2\n    found 1025 paths in \"paths\"; allowed are 1024\n",
-        3,
-    ),
+/// How many paths the pools have, and what is written.
+struct PathCount {
+    name: &'static str,
+    command: &'static str,
+    paths: usize,
+    out: &'static str,
+    err: &'static str,
+    status: u8,
+}
+
+static PATHS: [PathCount; 3] = [
+    PathCount {
+        name: "65 paths",
+        command: "crdx sample crd.json v1 --large --limit 2 --count 2 --pools pools.json",
+        paths: 65,
+        out: "{}\n{\"f999\":false}\n",
+        err: "crdx: more\n",
+        status: 0,
+    },
+    PathCount {
+        name: "1,024 paths",
+        command: "crdx sample crd.json v1 --large --limit 2 --count 2 --pools pools.json",
+        paths: 1024,
+        out: "{}\n{\"f999\":true}\n",
+        err: "crdx: more\n",
+        status: 0,
+    },
+    PathCount {
+        name: "1,025 paths",
+        command: "crdx sample crd.json v1 --large --limit 2 --count 2 --pools pools.json --why",
+        paths: 1025,
+        out: "",
+        err: "crdx: pools: P2\n    found 1025 paths in \"paths\"; allowed are 1024\n",
+        status: 3,
+    },
 ];
+
+fn try_paths(report: &mut Report, alloc: Global, row: &PathCount) -> Result<(), Fail> {
+    let schema = wide(alloc, 1024)?;
+    let pools = pools_of_paths(alloc, row.paths)?;
+    let run = SchemaRun {
+        name: row.name,
+        command: row.command,
+        schema: schema.as_str(),
+        second: pools.as_str(),
+        out: row.out,
+        err: row.err,
+        status: row.status,
+    };
+    try_schema_run(report, alloc, &run)
+}
 
 #[test]
 fn paths(rt: HostRuntime) -> Result<(), Fail> {
-    let alloc = rt.alloc();
-    let schema = wide(alloc, 1024)?;
+    let mut report = Report::new(rt.alloc());
     for row in &PATHS {
-        let (name, command, count, out, err, status) = *row;
-        let pools = pools_of_paths(alloc, count)?;
-        let row = (
-            name,
-            command,
-            schema.as_str(),
-            pools.as_str(),
-            out,
-            err,
-            status,
-        );
-        try_run_by_schema(&rt, alloc, &row)?;
+        let ended = try_paths(&mut report, rt.alloc(), row);
+        report.row(row.name, ended)?;
     }
-    Ok(())
+    report.end(&rt)
 }
 
 const INTEGER: &str = r#"{"type":"object","properties":{"a":{"type":"integer"}}}"#;
@@ -279,177 +347,196 @@ const SAMPLES: &str = "crdx sample crd.json v1 --limit 2 --pools pools.json --wh
 
 const LARGE_SAMPLES: &str = "crdx sample crd.json v1 --limit 2 --pools pools.json --why --large";
 
-// A name, a command line, pools before their entries, an entry, how many there are, the pools after them, and what is said of
-// them, where they are too many; else there are an empty object and one with the integer.
-static POOLS: [(&str, &str, &str, &str, usize, &str, &str); 15] = [
-    (
-        "64 integers",
-        SAMPLES,
-        r#"{"integers":["#,
-        "1",
-        64,
-        "]}",
-        "",
-    ),
-    (
-        "65 integers",
-        SAMPLES,
-        r#"{"integers":["#,
-        "1",
-        65,
-        "]}",
-        "crdx: pools: P2\n    found 65 entries in \"integers\"; allowed are 64, and 1024 with --large\n",
-    ),
-    (
-        "1,024 integers",
-        LARGE_SAMPLES,
-        r#"{"integers":["#,
-        "1",
-        1024,
-        "]}",
-        "",
-    ),
-    (
-        "1,025 integers",
-        LARGE_SAMPLES,
-        r#"{"integers":["#,
-        "1",
-        1025,
-        "]}",
-        "crdx: pools: P2\n    found 1025 entries in \"integers\"; allowed are 1024\n",
-    ),
-    (
-        "1,024 texts",
-        LARGE_SAMPLES,
-        r#"{"integers":[1],"strings":["#,
-        r#""x""#,
-        1024,
-        "]}",
-        "",
-    ),
-    (
-        "65 texts",
-        SAMPLES,
-        r#"{"strings":["#,
-        r#""x""#,
-        65,
-        "]}",
-        "crdx: pools: P2\n    found 65 entries in \"strings\"; allowed are 64, and 1024 with --large\n",
-    ),
-    (
-        "1,025 trees",
-        LARGE_SAMPLES,
-        r#"{"any":["#,
-        "{}",
-        1025,
-        "]}",
-        "crdx: pools: P2\n    found 1025 entries in \"any\"; allowed are 1024\n",
-    ),
-    (
-        "32 names",
-        LARGE_SAMPLES,
-        r#"{"integers":[1],"names":["#,
-        r#""x""#,
-        32,
-        "]}",
-        "",
-    ),
-    (
-        "33 names",
-        LARGE_SAMPLES,
-        r#"{"names":["#,
-        r#""x""#,
-        33,
-        "]}",
-        "crdx: pools: P2\n    found 33 entries in \"names\"; allowed are 32\n",
-    ),
-    (
-        "65 fixed values at a path",
-        SAMPLES,
-        r#"{"fixed":{"/a":["#,
-        "1",
-        65,
-        "]}}",
-        "crdx: pools: P2\n    found 65 fixed values at the path \"/a\"; allowed are 64, and 1024 with --large\n",
-    ),
-    (
-        "1,024 fixed values at a path",
-        LARGE_SAMPLES,
-        r#"{"fixed":{"/a":["#,
-        "1",
-        1024,
-        "]}}",
-        "",
-    ),
-    (
-        "65 present paths",
-        SAMPLES,
-        r#"{"present":["#,
-        r#""/a""#,
-        65,
-        "]}",
-        "crdx: pools: P2\n    found 65 paths in \"present\"; allowed are 64, and 1024 with --large\n",
-    ),
-    (
-        "65 values at a path",
-        SAMPLES,
-        r#"{"paths":{"/a":["#,
-        "1",
-        65,
-        "]}}",
-        "crdx: pools: P2\n    found 65 values at the path \"/a\"; allowed are 64, and 1024 with --large\n",
-    ),
-    (
-        "1,024 values at a path",
-        LARGE_SAMPLES,
-        r#"{"paths":{"/a":["#,
-        "1",
-        1024,
-        "]}}",
-        "",
-    ),
-    (
-        "1,025 values at a path",
-        LARGE_SAMPLES,
-        r#"{"paths":{"/a":["#,
-        "1",
-        1025,
-        "]}}",
-        "crdx: pools: P2\n    found 1025 values at the path \"/a\"; allowed are 1024\n",
-    ),
+// Pools; over those of which nothing is said there are an empty object and one with the integer.
+static POOLS: [Long; 15] = [
+    Long {
+        name: "64 integers",
+        command: SAMPLES,
+        head: r#"{"integers":["#,
+        entry: "1",
+        count: 64,
+        tail: "]}",
+        err: "",
+    },
+    Long {
+        name: "65 integers",
+        command: SAMPLES,
+        head: r#"{"integers":["#,
+        entry: "1",
+        count: 65,
+        tail: "]}",
+        err: "crdx: pools: P2\n    found 65 entries in \"integers\"; allowed are 64, and 1024 with --large\n",
+    },
+    Long {
+        name: "1,024 integers",
+        command: LARGE_SAMPLES,
+        head: r#"{"integers":["#,
+        entry: "1",
+        count: 1024,
+        tail: "]}",
+        err: "",
+    },
+    Long {
+        name: "1,025 integers",
+        command: LARGE_SAMPLES,
+        head: r#"{"integers":["#,
+        entry: "1",
+        count: 1025,
+        tail: "]}",
+        err: "crdx: pools: P2\n    found 1025 entries in \"integers\"; allowed are 1024\n",
+    },
+    Long {
+        name: "1,024 texts",
+        command: LARGE_SAMPLES,
+        head: r#"{"integers":[1],"strings":["#,
+        entry: r#""x""#,
+        count: 1024,
+        tail: "]}",
+        err: "",
+    },
+    Long {
+        name: "65 texts",
+        command: SAMPLES,
+        head: r#"{"strings":["#,
+        entry: r#""x""#,
+        count: 65,
+        tail: "]}",
+        err: "crdx: pools: P2\n    found 65 entries in \"strings\"; allowed are 64, and 1024 with --large\n",
+    },
+    Long {
+        name: "1,025 trees",
+        command: LARGE_SAMPLES,
+        head: r#"{"any":["#,
+        entry: "{}",
+        count: 1025,
+        tail: "]}",
+        err: "crdx: pools: P2\n    found 1025 entries in \"any\"; allowed are 1024\n",
+    },
+    Long {
+        name: "32 names",
+        command: LARGE_SAMPLES,
+        head: r#"{"integers":[1],"names":["#,
+        entry: r#""x""#,
+        count: 32,
+        tail: "]}",
+        err: "",
+    },
+    Long {
+        name: "33 names",
+        command: LARGE_SAMPLES,
+        head: r#"{"names":["#,
+        entry: r#""x""#,
+        count: 33,
+        tail: "]}",
+        err: "crdx: pools: P2\n    found 33 entries in \"names\"; allowed are 32\n",
+    },
+    Long {
+        name: "65 fixed values at a path",
+        command: SAMPLES,
+        head: r#"{"fixed":{"/a":["#,
+        entry: "1",
+        count: 65,
+        tail: "]}}",
+        err: "crdx: pools: P2\n    found 65 fixed values at the path \"/a\"; allowed are 64, and 1024 with --large\n",
+    },
+    Long {
+        name: "1,024 fixed values at a path",
+        command: LARGE_SAMPLES,
+        head: r#"{"fixed":{"/a":["#,
+        entry: "1",
+        count: 1024,
+        tail: "]}}",
+        err: "",
+    },
+    Long {
+        name: "65 present paths",
+        command: SAMPLES,
+        head: r#"{"present":["#,
+        entry: r#""/a""#,
+        count: 65,
+        tail: "]}",
+        err: "crdx: pools: P2\n    found 65 paths in \"present\"; allowed are 64, and 1024 with --large\n",
+    },
+    Long {
+        name: "65 values at a path",
+        command: SAMPLES,
+        head: r#"{"paths":{"/a":["#,
+        entry: "1",
+        count: 65,
+        tail: "]}}",
+        err: "crdx: pools: P2\n    found 65 values at the path \"/a\"; allowed are 64, and 1024 with --large\n",
+    },
+    Long {
+        name: "1,024 values at a path",
+        command: LARGE_SAMPLES,
+        head: r#"{"paths":{"/a":["#,
+        entry: "1",
+        count: 1024,
+        tail: "]}}",
+        err: "",
+    },
+    Long {
+        name: "1,025 values at a path",
+        command: LARGE_SAMPLES,
+        head: r#"{"paths":{"/a":["#,
+        entry: "1",
+        count: 1025,
+        tail: "]}}",
+        err: "crdx: pools: P2\n    found 1025 values at the path \"/a\"; allowed are 1024\n",
+    },
 ];
 
-#[test]
-fn pools(rt: HostRuntime) -> Result<(), Fail> {
-    let alloc = rt.alloc();
-    for row in &POOLS {
-        let (name, command, head, entry, count, tail, refusal) = *row;
-        let pools = repeated(alloc, head, entry, count, tail)?;
-        let (out, err, status) = if refusal.is_empty() {
-            ("{}\n{\"a\":1}\n", "crdx: end\n", 0)
-        } else {
-            ("", refusal, 3)
-        };
-        try_run_by_schema(
-            &rt,
-            alloc,
-            &(name, command, INTEGER, pools.as_str(), out, err, status),
-        )?;
-    }
-    Ok(())
+fn try_long_pools(report: &mut Report, alloc: Global, row: &Long) -> Result<(), Fail> {
+    let pools = repeated(alloc, row.head, row.entry, row.count, row.tail)?;
+    let (out, err, status) = if row.err.is_empty() {
+        ("{}\n{\"a\":1}\n", "crdx: end\n", 0)
+    } else {
+        ("", row.err, 3)
+    };
+    let run = SchemaRun {
+        name: row.name,
+        command: row.command,
+        schema: INTEGER,
+        second: pools.as_str(),
+        out,
+        err,
+        status,
+    };
+    try_schema_run(report, alloc, &run)
 }
 
 #[test]
-fn steps(rt: HostRuntime) -> Result<(), Fail> {
-    let alloc = rt.alloc();
+fn pools(rt: HostRuntime) -> Result<(), Fail> {
+    let mut report = Report::new(rt.alloc());
+    for row in &POOLS {
+        let ended = try_long_pools(&mut report, rt.alloc(), row);
+        report.row(row.name, ended)?;
+    }
+    report.end(&rt)
+}
+
+fn try_most_steps(report: &mut Report, alloc: Global) -> Result<(), Fail> {
     let field = r#"{"type":"object","properties":{"p":"#;
     let schema = nested(alloc, field, 60, r#"{"type":"boolean"}"#, "}}")?;
-    try_judged(&rt, alloc, "60 steps", LARGE, schema.as_str(), "")?;
+    try_judged(report, alloc, LARGE, schema.as_str(), "")
+}
+
+fn try_more_steps(report: &mut Report, alloc: Global) -> Result<(), Fail> {
     let schema = nested(alloc, r#"{"items":"#, 61, "{}", "}")?;
     let pointer = nested(alloc, "/items", 61, "", "")?;
     let err = format!(in alloc;
         "crdx: crd: S4 \"{}\"\n    found 61 steps to this place; allowed are 60\n",
         pointer.as_str()
     )?;
-    Ok(try_judged(&rt, alloc, "61 steps", LARGE, schema.as_str(), err.as_str())?)
+    try_judged(report, alloc, LARGE, schema.as_str(), err.as_str())
+}
+
+#[test]
+fn steps(rt: HostRuntime) -> Result<(), Fail> {
+    let mut report = Report::new(rt.alloc());
+    let ended = try_most_steps(&mut report, rt.alloc());
+    report.row("60 steps", ended)?;
+    let ended = try_more_steps(&mut report, rt.alloc());
+    report.row("61 steps", ended)?;
+    report.end(&rt)
 }

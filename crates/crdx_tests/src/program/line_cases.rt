@@ -1,12 +1,13 @@
 //! `--lines`: objects on the lines of an input.
 use crate::support::fakes::{FailingSink, FakeInputs};
 use crate::support::harness::{
-    Output, all_runs_by_schema, definition, has_failed, is_answer, run_on,
+    Output, SchemaRun, all_schema_runs, definition, has_failed, is_answer, run_on,
 };
+use crate::support::phrases::with_phrases;
+use crate::support::report::Report;
 use crate::support::texts::{beginning, padded};
 use jtree::MOST_BYTES;
 use std::alloc::{AllocError, Global};
-use std::process::Abort;
 use std::test::Fail;
 
 /// An integer of 1 at least, and a text with a default.
@@ -23,13 +24,13 @@ const FOUR: &str = r#"{"a":1}
 {"a":2,"c":3}
 "#;
 
-const TWO_FAULTY: &str = r#"2: F04 "/a" minimum
-3: F01 "/a" kind
+const TWO_FAULTY: &str = r#"2: F04 "/a"
+3: F01 "/a"
 "#;
 
-const THREE_FAULTY: &str = r#"2: F04 "/a" minimum
-3: F01 "/a" kind
-4: F15 "/c" undeclared
+const THREE_FAULTY: &str = r#"2: F04 "/a"
+3: F01 "/a"
+4: F15 "/c"
 "#;
 
 const FOUR_PRUNED: &str = r#"{"a":1}
@@ -73,239 +74,240 @@ const COMPLETED_WITH_ENVELOPES: &str =
 
 const REFUSED: &str = "{\"a\":0}\n{\"a\":0.5}\n{\"a\":0}\n";
 
-// A name, a command line, a schema, the lines, standard output, standard error and the status.
-static RUNS: [(&str, &str, &str, &str, &str, &str, u8); 25] = [
-    (
-        "faults behind their lines",
-        "crdx validate crd.json v1 object.json --lines",
-        SCHEMA,
-        FOUR,
-        TWO_FAULTY,
-        "",
-        1,
-    ),
-    (
-        "members that are dropped too",
-        "crdx validate crd.json v1 --lines --strict",
-        SCHEMA,
-        FOUR,
-        THREE_FAULTY,
-        "",
-        1,
-    ),
-    (
-        "objects without what is pruned",
-        "crdx prune crd.json v1 object.json --lines",
-        SCHEMA,
-        FOUR,
-        FOUR_PRUNED,
-        "",
-        0,
-    ),
-    (
-        "objects with their defaults",
-        "crdx default --lines crd.json v1",
-        SCHEMA,
-        FOUR,
-        FOUR_COMPLETED,
-        "",
-        0,
-    ),
-    (
-        "leaves, and objects that are not stored",
-        "crdx leaves crd.json v1 object.json --lines",
-        SCHEMA,
-        STORED,
-        STORED_LEAVES,
-        "",
-        1,
-    ),
-    (
-        "objects that are not stored are not explained",
-        "crdx leaves crd.json v1 object.json --lines --why",
-        SCHEMA,
-        STORED,
-        STORED_LEAVES,
-        "",
-        1,
-    ),
-    (
-        "leaves of stored objects",
-        "crdx leaves crd.json v1 object.json --lines",
-        SCHEMA,
-        "{\"b\":\"\"}\n{\"b\":\"1\"}\n",
-        "1: [\"f:b\"]\n2: [\"f:b\"]\n",
-        "",
-        0,
-    ),
-    (
-        "envelopes stay where objects are pruned",
-        "crdx prune crd.json v1 object.json --lines",
-        SCHEMA,
-        WITH_ENVELOPES,
-        PRUNED_WITH_ENVELOPES,
-        "",
-        0,
-    ),
-    (
-        "envelopes stay where defaults are put in",
-        "crdx default crd.json v1 object.json --lines",
-        SCHEMA,
-        WITH_ENVELOPES,
-        COMPLETED_WITH_ENVELOPES,
-        "",
-        0,
-    ),
-    (
-        "envelopes are not judged",
-        "crdx validate crd.json v1 object.json --lines",
-        SCHEMA,
-        WITH_ENVELOPES,
-        "",
-        "",
-        0,
-    ),
-    (
-        "two faults of one object",
-        "crdx validate crd.json v1 object.json --lines",
-        SCHEMA,
-        "{}\n{\"b\":1,\"a\":0}\n",
-        "2: F04 \"/a\" minimum\n2: F01 \"/b\" kind\n",
-        "",
-        1,
-    ),
-    (
-        "a path with a line break",
-        "crdx validate crd.json v1 object.json --lines --strict",
-        SCHEMA,
-        "{\"c\\nd\":1}",
-        "1: F15 \"/c\\nd\" undeclared\n",
-        "",
-        1,
-    ),
-    (
-        "valid objects",
-        "crdx validate crd.json v1 object.json --lines --strict",
-        SCHEMA,
-        "{}\n{\"a\":1}\n",
-        "",
-        "",
-        0,
-    ),
-    (
-        "no lines",
-        "crdx validate crd.json v1 object.json --lines",
-        SCHEMA,
-        "",
-        "",
-        "",
-        0,
-    ),
-    (
-        "no lines to prune",
-        "crdx prune crd.json v1 object.json --lines",
-        SCHEMA,
-        "",
-        "",
-        "",
-        0,
-    ),
-    (
-        "the last line without its end",
-        "crdx validate crd.json v1 object.json --lines",
-        SCHEMA,
-        "{\"a\":1}\n{\"a\":0}",
-        "2: F04 \"/a\" minimum\n",
-        "",
-        1,
-    ),
-    (
-        "spaces around objects",
-        "crdx prune crd.json v1 object.json --lines",
-        SCHEMA,
-        " {\"a\" : 1 } \r\n\t{}",
-        "{\"a\":1}\n{}\n",
-        "",
-        0,
-    ),
-    (
-        "an empty line",
-        "crdx validate crd.json v1 object.json --lines",
-        SCHEMA,
-        "{}\n{}\n\n{\"a\":0}\n",
-        "",
-        "crdx: object: 3: J3\n",
-        3,
-    ),
-    (
-        "an object over two lines",
-        "crdx prune crd.json v1 object.json --lines",
-        SCHEMA,
-        "{\n}\n",
-        "",
-        "crdx: object: 1: J3\n",
-        3,
-    ),
-    (
-        "two objects on a line",
-        "crdx prune crd.json v1 object.json --lines",
-        SCHEMA,
-        "{}\n{} {}\n",
-        "{}\n",
-        "crdx: object: 2: J3\n",
-        3,
-    ),
-    (
-        "a number that is refused, after an object with a fault",
-        "crdx validate crd.json v1 object.json --lines",
-        SCHEMA,
-        REFUSED,
-        "1: F04 \"/a\" minimum\n",
-        "crdx: object: 2: J1\n",
-        3,
-    ),
-    (
-        "why it is refused",
-        "crdx validate crd.json v1 object.json --lines --why",
-        SCHEMA,
-        REFUSED,
-        "1: F04 \"/a\" minimum\n",
-        "crdx: object: 2: J1\n    found 0.5 at \"/a\"; allowed are integers of 64 bits\n",
-        3,
-    ),
-    (
-        "an input that cannot be opened",
-        "crdx validate crd.json v1 missing.json --lines",
-        SCHEMA,
-        FOUR,
-        "",
-        "crdx: object: read failed\n",
-        4,
-    ),
-    (
-        "a schema that breaks a rule",
-        "crdx validate crd.json v1 object.json --lines",
-        NO_TYPE,
-        FOUR,
-        "",
-        "V01 \"\" missing type\n",
-        1,
-    ),
-    (
-        "values that are no objects",
-        "crdx validate crd.json v1 object.json --lines",
-        SCHEMA,
-        "1\nnull\n{}\n[]\n",
-        "1: F01 \"\" kind\n2: F02 \"\" null\n4: F01 \"\" kind\n",
-        "",
-        1,
-    ),
+// The second document has the lines.
+static RUNS: [SchemaRun<'static>; 25] = [
+    SchemaRun {
+        name: "faults behind their lines",
+        command: "crdx validate crd.json v1 object.json --lines",
+        schema: SCHEMA,
+        second: FOUR,
+        out: TWO_FAULTY,
+        err: "",
+        status: 1,
+    },
+    SchemaRun {
+        name: "members that are dropped too",
+        command: "crdx validate crd.json v1 --lines --strict",
+        schema: SCHEMA,
+        second: FOUR,
+        out: THREE_FAULTY,
+        err: "",
+        status: 1,
+    },
+    SchemaRun {
+        name: "objects without what is pruned",
+        command: "crdx prune crd.json v1 object.json --lines",
+        schema: SCHEMA,
+        second: FOUR,
+        out: FOUR_PRUNED,
+        err: "",
+        status: 0,
+    },
+    SchemaRun {
+        name: "objects with their defaults",
+        command: "crdx default --lines crd.json v1",
+        schema: SCHEMA,
+        second: FOUR,
+        out: FOUR_COMPLETED,
+        err: "",
+        status: 0,
+    },
+    SchemaRun {
+        name: "leaves, and objects that are not stored",
+        command: "crdx leaves crd.json v1 object.json --lines",
+        schema: SCHEMA,
+        second: STORED,
+        out: STORED_LEAVES,
+        err: "",
+        status: 1,
+    },
+    SchemaRun {
+        name: "objects that are not stored are not explained",
+        command: "crdx leaves crd.json v1 object.json --lines --why",
+        schema: SCHEMA,
+        second: STORED,
+        out: STORED_LEAVES,
+        err: "",
+        status: 1,
+    },
+    SchemaRun {
+        name: "leaves of stored objects",
+        command: "crdx leaves crd.json v1 object.json --lines",
+        schema: SCHEMA,
+        second: "{\"b\":\"\"}\n{\"b\":\"1\"}\n",
+        out: "1: [\"f:b\"]\n2: [\"f:b\"]\n",
+        err: "",
+        status: 0,
+    },
+    SchemaRun {
+        name: "envelopes stay where objects are pruned",
+        command: "crdx prune crd.json v1 object.json --lines",
+        schema: SCHEMA,
+        second: WITH_ENVELOPES,
+        out: PRUNED_WITH_ENVELOPES,
+        err: "",
+        status: 0,
+    },
+    SchemaRun {
+        name: "envelopes stay where defaults are put in",
+        command: "crdx default crd.json v1 object.json --lines",
+        schema: SCHEMA,
+        second: WITH_ENVELOPES,
+        out: COMPLETED_WITH_ENVELOPES,
+        err: "",
+        status: 0,
+    },
+    SchemaRun {
+        name: "envelopes are not judged",
+        command: "crdx validate crd.json v1 object.json --lines",
+        schema: SCHEMA,
+        second: WITH_ENVELOPES,
+        out: "",
+        err: "",
+        status: 0,
+    },
+    SchemaRun {
+        name: "two faults of one object",
+        command: "crdx validate crd.json v1 object.json --lines",
+        schema: SCHEMA,
+        second: "{}\n{\"b\":1,\"a\":0}\n",
+        out: "2: F04 \"/a\"\n2: F01 \"/b\"\n",
+        err: "",
+        status: 1,
+    },
+    SchemaRun {
+        name: "a path with a line break",
+        command: "crdx validate crd.json v1 object.json --lines --strict",
+        schema: SCHEMA,
+        second: "{\"c\\nd\":1}",
+        out: "1: F15 \"/c\\nd\"\n",
+        err: "",
+        status: 1,
+    },
+    SchemaRun {
+        name: "valid objects",
+        command: "crdx validate crd.json v1 object.json --lines --strict",
+        schema: SCHEMA,
+        second: "{}\n{\"a\":1}\n",
+        out: "",
+        err: "",
+        status: 0,
+    },
+    SchemaRun {
+        name: "no lines",
+        command: "crdx validate crd.json v1 object.json --lines",
+        schema: SCHEMA,
+        second: "",
+        out: "",
+        err: "",
+        status: 0,
+    },
+    SchemaRun {
+        name: "no lines to prune",
+        command: "crdx prune crd.json v1 object.json --lines",
+        schema: SCHEMA,
+        second: "",
+        out: "",
+        err: "",
+        status: 0,
+    },
+    SchemaRun {
+        name: "the last line without its end",
+        command: "crdx validate crd.json v1 object.json --lines",
+        schema: SCHEMA,
+        second: "{\"a\":1}\n{\"a\":0}",
+        out: "2: F04 \"/a\"\n",
+        err: "",
+        status: 1,
+    },
+    SchemaRun {
+        name: "spaces around objects",
+        command: "crdx prune crd.json v1 object.json --lines",
+        schema: SCHEMA,
+        second: " {\"a\" : 1 } \r\n\t{}",
+        out: "{\"a\":1}\n{}\n",
+        err: "",
+        status: 0,
+    },
+    SchemaRun {
+        name: "an empty line",
+        command: "crdx validate crd.json v1 object.json --lines",
+        schema: SCHEMA,
+        second: "{}\n{}\n\n{\"a\":0}\n",
+        out: "",
+        err: "crdx: object: 3: J3\n",
+        status: 3,
+    },
+    SchemaRun {
+        name: "an object over two lines",
+        command: "crdx prune crd.json v1 object.json --lines",
+        schema: SCHEMA,
+        second: "{\n}\n",
+        out: "",
+        err: "crdx: object: 1: J3\n",
+        status: 3,
+    },
+    SchemaRun {
+        name: "two objects on a line",
+        command: "crdx prune crd.json v1 object.json --lines",
+        schema: SCHEMA,
+        second: "{}\n{} {}\n",
+        out: "{}\n",
+        err: "crdx: object: 2: J3\n",
+        status: 3,
+    },
+    SchemaRun {
+        name: "a number that is refused, after an object with a fault",
+        command: "crdx validate crd.json v1 object.json --lines",
+        schema: SCHEMA,
+        second: REFUSED,
+        out: "1: F04 \"/a\"\n",
+        err: "crdx: object: 2: J1\n",
+        status: 3,
+    },
+    SchemaRun {
+        name: "why it is refused",
+        command: "crdx validate crd.json v1 object.json --lines --why",
+        schema: SCHEMA,
+        second: REFUSED,
+        out: "1: F04 \"/a\"\n",
+        err: "crdx: object: 2: J1\n    found 0.5 at \"/a\"; allowed are integers of 64 bits\n",
+        status: 3,
+    },
+    SchemaRun {
+        name: "an input that cannot be opened",
+        command: "crdx validate crd.json v1 missing.json --lines",
+        schema: SCHEMA,
+        second: FOUR,
+        out: "",
+        err: "crdx: object: read failed\n",
+        status: 4,
+    },
+    SchemaRun {
+        name: "a schema that breaks a rule",
+        command: "crdx validate crd.json v1 object.json --lines",
+        schema: NO_TYPE,
+        second: FOUR,
+        out: "",
+        err: "V01 \"\"\n",
+        status: 1,
+    },
+    SchemaRun {
+        name: "values that are no objects",
+        command: "crdx validate crd.json v1 object.json --lines",
+        schema: SCHEMA,
+        second: "1\nnull\n{}\n[]\n",
+        out: "1: F01 \"\"\n2: F02 \"\"\n4: F01 \"\"\n",
+        err: "",
+        status: 1,
+    },
 ];
 
 #[test]
 fn runs(rt: HostRuntime) -> Result<(), Fail> {
-    all_runs_by_schema(&rt, rt.alloc(), &RUNS)?;
-    Ok(())
+    let mut report = Report::new(rt.alloc());
+    all_schema_runs(&mut report, rt.alloc(), &RUNS)?;
+    report.end(&rt)
 }
 
 const VALIDATE: &str = "crdx validate crd.json v1 object.json --lines";
@@ -324,106 +326,167 @@ fn run_lines(
     run_on(alloc, command, inputs, sink)
 }
 
-/// A line may be as long as a document, and no longer; the lines before it are answered.
-#[test]
-fn long_lines(rt: HostRuntime) -> Result<(), Fail> {
-    for (spaces, out, err, status) in [
-        (MOST_BYTES - 2, "{}\n{}\n{\"a\":1}\n", "", 0),
-        (MOST_BYTES - 1, "{}\n", "crdx: object: 2: J4\n", 3),
-    ] {
-        let long = padded(rt.alloc(), "{}", spaces)?;
-        let lines = format!(in rt.alloc(); "{{}}\n{long}\n{{\"a\":1}}\n")?;
-        let command = "crdx prune crd.json v1 object.json --lines";
-        let sink = FailingSink::endless(rt.alloc());
-        let output = run_lines(rt.alloc(), command, lines.as_str(), usize::MAX, sink)?;
-        is_answer(&rt, &output, out, err, status, "a long line");
-    }
-    Ok(())
+/// Spaces that make a line long, and what is said of it.
+struct LongLine {
+    name: &'static str,
+    spaces: usize,
+    out: &'static str,
+    err: &'static str,
+    status: u8,
 }
 
-/// The lines, and after how many bytes each of the first two ends.
+// A line may be as long as a document, and no longer; the lines before it are answered.
+static LONG_LINES: [LongLine; 2] = [
+    LongLine {
+        name: "a line as long as a document",
+        spaces: MOST_BYTES - 2,
+        out: "{}\n{}\n{\"a\":1}\n",
+        err: "",
+        status: 0,
+    },
+    LongLine {
+        name: "a longer line",
+        spaces: MOST_BYTES - 1,
+        out: "{}\n",
+        err: "crdx: object: 2: J4\n",
+        status: 3,
+    },
+];
+
+fn try_long_line(report: &mut Report, alloc: Global, row: &LongLine) -> Result<(), Fail> {
+    let long = padded(alloc, "{}", row.spaces)?;
+    let lines = format!(in alloc; "{{}}\n{long}\n{{\"a\":1}}\n")?;
+    let command = "crdx prune crd.json v1 object.json --lines";
+    let sink = FailingSink::endless(alloc);
+    let output = run_lines(alloc, command, lines.as_str(), usize::MAX, sink)?;
+    Ok(is_answer(report, &output, row.out, row.err, row.status)?)
+}
+
+#[test]
+fn long_lines(rt: HostRuntime) -> Result<(), Fail> {
+    let mut report = Report::new(rt.alloc());
+    for row in &LONG_LINES {
+        let ended = try_long_line(&mut report, rt.alloc(), row);
+        report.row(row.name, ended)?;
+    }
+    report.end(&rt)
+}
+
 const THREE: &str = "{\"a\":0}\n{\"a\":1}\n{\"a\":2,\"b\":3}";
 
-const THREE_ANSWERS: &str = "1: F04 \"/a\" minimum\n3: F01 \"/b\" kind\n";
+const THREE_ANSWERS: &str = "1: F04 \"/a\"\n3: F01 \"/b\"\n";
 
-/// Reading fails after each byte, also after the last one: what was read by then is answered.
+const FIRST_ANSWER: &str = "1: F04 \"/a\"\n";
+
+/// Reading fails after so many bytes: what was read by then is answered. The first line has eight.
+fn try_cut(report: &mut Report, alloc: Global, left: usize) -> Result<(), Fail> {
+    let out = with_phrases(alloc, if left < 8 { "" } else { FIRST_ANSWER })?;
+    let sink = FailingSink::endless(alloc);
+    let output = run_lines(alloc, VALIDATE, THREE, left, sink)?;
+    let err = "crdx: object: read failed\n";
+    Ok(is_answer(report, &output, out.as_str(), err, 4)?)
+}
+
+/// Reading fails after each byte, also after the last one.
 #[test]
 fn cut_inputs(rt: HostRuntime) -> Result<(), Fail> {
+    let mut report = Report::new(rt.alloc());
     for left in 0..=THREE.len() {
-        let out = if left < 8 {
-            ""
-        } else {
-            "1: F04 \"/a\" minimum\n"
-        };
-        let sink = FailingSink::endless(rt.alloc());
-        let output = run_lines(rt.alloc(), VALIDATE, THREE, left, sink)?;
-        let err = "crdx: object: read failed\n";
-        is_answer(&rt, &output, out, err, 4, "lines that are cut");
+        let name = format!(in rt.alloc(); "lines of which {left} bytes are read")?;
+        let ended = try_cut(&mut report, rt.alloc(), left);
+        report.row(name.as_str(), ended)?;
     }
-    Ok(())
+    report.end(&rt)
 }
 
 fn count_lines(text: &str) -> u64 {
     text.bytes().filter(|byte| *byte == b'\n').count() as u64
 }
 
-/// The sink is full after so many bytes, of which it takes at most `step` in a call.
+/// A run by `SCHEMA`, and what it writes and answers on a sink that does not fail.
+struct Lines {
+    name: &'static str,
+    command: &'static str,
+    lines: &'static str,
+    out: &'static str,
+    status: u8,
+}
+
+static WHOLE: [Lines; 3] = [
+    Lines {
+        name: "faults of lines",
+        command: VALIDATE,
+        lines: THREE,
+        out: THREE_ANSWERS,
+        status: 1,
+    },
+    Lines {
+        name: "objects on lines",
+        command: "crdx default crd.json v1 --lines",
+        lines: FOUR,
+        out: FOUR_COMPLETED,
+        status: 0,
+    },
+    Lines {
+        name: "leaves of lines",
+        command: "crdx leaves crd.json v1 --lines",
+        lines: STORED,
+        out: STORED_LEAVES,
+        status: 1,
+    },
+];
+
+/// The sink is full after so many bytes, of which it takes at most `step` in a call. All that is written is `out`.
 fn try_room(
-    rt: &impl Abort,
+    report: &mut Report,
     alloc: Global,
-    row: &(&str, &str, &str, &str, u8),
+    row: &Lines,
+    out: &str,
     room: usize,
     step: usize,
 ) -> Result<(), AllocError> {
-    let (name, command, lines, out, status) = *row;
     let sink = FailingSink::new(alloc, room, step, step == 1);
-    let output = run_lines(alloc, command, lines, usize::MAX, sink)?;
+    let output = run_lines(alloc, row.command, row.lines, usize::MAX, sink)?;
     if room < out.len() {
         let out = beginning(out, room);
-        return has_failed(rt, alloc, &output, out, count_lines(out), name);
+        return has_failed(report, alloc, &output, out, count_lines(out));
     }
-    is_answer(rt, &output, out, "", status, name);
-    Ok(())
+    is_answer(report, &output, out, "", row.status)
 }
 
-// A name, a command line, the lines, standard output and the status.
-static WHOLE: [(&str, &str, &str, &str, u8); 3] = [
-    ("faults of lines", VALIDATE, THREE, THREE_ANSWERS, 1),
-    (
-        "objects on lines",
-        "crdx default crd.json v1 --lines",
-        FOUR,
-        FOUR_COMPLETED,
-        0,
-    ),
-    (
-        "leaves of lines",
-        "crdx leaves crd.json v1 --lines",
-        STORED,
-        STORED_LEAVES,
-        1,
-    ),
-];
+fn try_rooms(report: &mut Report, alloc: Global, row: &Lines) -> Result<(), Fail> {
+    let out = with_phrases(alloc, row.out)?;
+    for room in 0..=out.as_str().len() {
+        try_room(report, alloc, row, out.as_str(), room, usize::MAX)?;
+        try_room(report, alloc, row, out.as_str(), room, 1)?;
+    }
+    Ok(())
+}
 
 /// Standard output fails after each byte in turn.
 #[test]
 fn full_sinks(rt: HostRuntime) -> Result<(), Fail> {
+    let mut report = Report::new(rt.alloc());
     for row in &WHOLE {
-        for room in 0..=row.3.len() {
-            try_room(&rt, rt.alloc(), row, room, usize::MAX)?;
-            try_room(&rt, rt.alloc(), row, room, 1)?;
-        }
+        let ended = try_rooms(&mut report, rt.alloc(), row);
+        report.row(row.name, ended)?;
     }
-    Ok(())
+    report.end(&rt)
 }
 
 /// The first flush fails, which is that of the first answer.
+fn try_failed_flush(report: &mut Report, alloc: Global) -> Result<(), Fail> {
+    let out = with_phrases(alloc, FIRST_ANSWER)?;
+    let mut sink = FailingSink::endless(alloc);
+    sink.flush_fails = true;
+    let output = run_lines(alloc, VALIDATE, THREE, usize::MAX, sink)?;
+    Ok(has_failed(report, alloc, &output, out.as_str(), 1)?)
+}
+
 #[test]
 fn failed_flushes(rt: HostRuntime) -> Result<(), Fail> {
-    let mut sink = FailingSink::endless(rt.alloc());
-    sink.flush_fails = true;
-    let output = run_lines(rt.alloc(), VALIDATE, THREE, usize::MAX, sink)?;
-    let out = "1: F04 \"/a\" minimum\n";
-    has_failed(&rt, rt.alloc(), &output, out, 1, "a flush that fails")?;
-    Ok(())
+    let mut report = Report::new(rt.alloc());
+    let ended = try_failed_flush(&mut report, rt.alloc());
+    report.row("a flush that fails", ended)?;
+    report.end(&rt)
 }

@@ -1,10 +1,10 @@
 //! Walks that stop, and the walks that go on there: both together write what one whole walk does.
 use crate::support::documents::{TEN_LINES, WIDGET, ZERO_AND_ONE};
 use crate::support::fakes::{FailingSink, FakeInputs};
-use crate::support::harness::{Output, has_failed, is_text, run_on};
+use crate::support::harness::{Output, has_failed, run_on};
+use crate::support::report::Report;
 use crate::support::texts::beginning;
 use std::alloc::{AllocError, Global};
-use std::process::Abort;
 use std::test::Fail;
 
 const NAMED_LINES: &str = r#"{"apiVersion":"example.org/v1","kind":"Widget","metadata":{"name":"w"}}
@@ -21,20 +21,27 @@ const NAMED_LINES: &str = r#"{"apiVersion":"example.org/v1","kind":"Widget","met
 
 const COMMAND: &str = "crdx sample crd.json v1 --pools pools.json --limit 4 --count";
 
-// A name, an option, the ten lines, and after how many bytes each of them ends.
-static WALKS: [(&str, &str, &str, [usize; 10]); 2] = [
-    (
-        "samples",
-        "",
-        TEN_LINES,
-        [3, 15, 36, 56, 73, 90, 117, 143, 170, 196],
-    ),
-    (
-        "samples with a name",
-        " --name w",
-        NAMED_LINES,
-        [72, 154, 245, 335, 422, 509, 606, 702, 799, 895],
-    ),
+/// An option, the ten lines, and after how many bytes each of them ends.
+struct TenLines {
+    name: &'static str,
+    option: &'static str,
+    lines: &'static str,
+    ends: [usize; 10],
+}
+
+static WALKS: [TenLines; 2] = [
+    TenLines {
+        name: "samples",
+        option: "",
+        lines: TEN_LINES,
+        ends: [3, 15, 36, 56, 73, 90, 117, 143, 170, 196],
+    },
+    TenLines {
+        name: "samples with a name",
+        option: " --name w",
+        lines: NAMED_LINES,
+        ends: [72, 154, 245, 335, 422, 509, 606, 702, 799, 895],
+    },
 ];
 
 /// How many lines end within so many bytes.
@@ -57,28 +64,28 @@ fn run_walk(alloc: Global, command: &str, sink: FailingSink) -> Result<Output, A
 
 /// The sink takes so many bytes and then fails: the whole lines are counted.
 fn stops(
-    rt: &impl Abort,
+    report: &mut Report,
     alloc: Global,
-    walk: &(&str, &str, &str, [usize; 10]),
+    walk: &TenLines,
     room: usize,
 ) -> Result<(), AllocError> {
-    let (name, option, whole, ends) = walk;
+    let option = walk.option;
     let command = format!(in alloc; "{COMMAND} 10{option}")?;
     let sink = FailingSink::new(alloc, room, usize::MAX, false);
     let output = run_walk(alloc, command.as_str(), sink)?;
-    let lines = whole_lines(ends, room) as u64;
-    has_failed(rt, alloc, &output, beginning(whole, room), lines, name)
+    let lines = whole_lines(&walk.ends, room) as u64;
+    has_failed(report, alloc, &output, beginning(walk.lines, room), lines)
 }
 
 /// The walk past the last of so many whole lines, or the same walk again where there is none, writes the others.
 fn goes_on(
-    rt: &impl Abort,
+    report: &mut Report,
     alloc: Global,
-    walk: &(&str, &str, &str, [usize; 10]),
+    walk: &TenLines,
     lines: usize,
 ) -> Result<(), AllocError> {
-    let (name, option, whole, ends) = walk;
-    let out = beginning(whole, end_of(ends, lines));
+    let option = walk.option;
+    let out = beginning(walk.lines, end_of(&walk.ends, lines));
     let left = 10usize.saturating_sub(lines);
     let mut command = format!(in alloc; "{COMMAND} {left}{option}")?;
     if let Some(last) = out.lines().last() {
@@ -87,29 +94,26 @@ fn goes_on(
     }
     let output = run_walk(alloc, command.as_str(), FailingSink::endless(alloc))?;
     let joined = format!(in alloc; "{out}{}", output.out.text())?;
-    is_text(rt, joined.as_str(), whole, "both outputs", name);
-    is_text(rt, output.err.text(), "crdx: end\n", "standard error", name);
-    Ok(())
+    report.is_text("both outputs", joined.as_str(), walk.lines)?;
+    report.is_text("standard error", output.err.text(), "crdx: end\n")
 }
 
-fn try_walk(
-    rt: &impl Abort,
-    alloc: Global,
-    walk: &(&str, &str, &str, [usize; 10]),
-) -> Result<(), AllocError> {
-    for room in 0..walk.2.len() {
-        stops(rt, alloc, walk, room)?;
+fn try_walk(report: &mut Report, alloc: Global, walk: &TenLines) -> Result<(), Fail> {
+    for room in 0..walk.lines.len() {
+        stops(report, alloc, walk, room)?;
     }
     for lines in 0..10 {
-        goes_on(rt, alloc, walk, lines)?;
+        goes_on(report, alloc, walk, lines)?;
     }
     Ok(())
 }
 
 #[test]
 fn walks_go_on(rt: HostRuntime) -> Result<(), Fail> {
+    let mut report = Report::new(rt.alloc());
     for walk in &WALKS {
-        try_walk(&rt, rt.alloc(), walk)?;
+        let ended = try_walk(&mut report, rt.alloc(), walk);
+        report.row(walk.name, ended)?;
     }
-    Ok(())
+    report.end(&rt)
 }

@@ -1,9 +1,9 @@
 //! The node of a schema, or why it has none.
-use crate::support::harness::{crd_of, is_said, object_with_field};
+use crate::support::harness::{SchemaSaid, crd_of, is_said, object_with_field};
 use crate::support::nodes::{first_field, node_text};
+use crate::support::report::Report;
 use schema::{Shape, shape};
 use std::alloc::Global;
-use std::process::Abort;
 use std::test::Fail;
 
 fn shape_said(alloc: Global, shape: &Shape, is_field: bool) -> Result<String, Fail> {
@@ -27,129 +27,172 @@ fn said(alloc: Global, schema: &str, is_field: bool) -> Result<String, Fail> {
     said
 }
 
-// A name, the schema of a field, and its node or its refusal.
-static NODES: [(&str, &str, &str); 16] = [
-    ("an integer", r#"{"type":"integer"}"#, "integer"),
-    (
-        "a description, and null",
-        r#"{"type":"boolean","nullable":true,"description":"on or off"}"#,
-        "boolean nullable description=on or off",
-    ),
-    (
-        "int-or-string",
-        r#"{"x-kubernetes-int-or-string":true}"#,
-        "int-or-string",
-    ),
-    ("an object", r#"{"type":"object"}"#, "object"),
-    (
-        "fields, one required and with a default",
-        r#"{"type":"object","properties":{"b":{"type":"string","default":"y"},"a":{"type":"integer"}},"required":["b","b"]}"#,
-        r#"object a=integer b=string required default="y""#,
-    ),
-    (
-        "a default of an object",
-        r#"{"type":"object","properties":{"a":{"type":"object","default":{"z":[1]},"properties":{"kind":{"type":"string"}}}}}"#,
-        r#"object a=object default={"z":[1]}"#,
-    ),
-    (
-        "an object with its markers",
-        r#"{"type":"object","minProperties":1,"maxProperties":2,"x-kubernetes-map-type":"atomic","x-kubernetes-preserve-unknown-fields":true}"#,
-        "object preserves atomic least=1 most=2",
-    ),
-    (
-        "a map",
-        r#"{"type":"object","additionalProperties":{"type":"string"},"x-kubernetes-map-type":"granular","maxProperties":3}"#,
-        "map of=string most=3",
-    ),
-    (
-        "a map of lists",
-        r#"{"type":"object","additionalProperties":{"type":"array","items":{"type":"integer"}},"x-kubernetes-map-type":"atomic"}"#,
-        "map of=list atomic",
-    ),
-    (
-        "a map list",
-        r#"{"type":"array","items":{"type":"object","properties":{"k":{"type":"string"},"l":{"type":"integer"}},"required":["k","l"]},"x-kubernetes-list-type":"map","x-kubernetes-list-map-keys":["l","k"],"minItems":0,"maxItems":3}"#,
-        "list of=object map key=l key=k least=0 most=3",
-    ),
-    (
-        "a set",
-        r#"{"type":"array","items":{"type":"string"},"x-kubernetes-list-type":"set"}"#,
-        "list of=string set",
-    ),
-    (
-        "an atomic list",
-        r#"{"type":"array","items":{"x-kubernetes-preserve-unknown-fields":true},"x-kubernetes-list-type":"atomic"}"#,
-        "list of=open",
-    ),
-    (
-        "any value",
-        r#"{"x-kubernetes-preserve-unknown-fields":true,"nullable":true}"#,
-        "open nullable",
-    ),
-    (
-        "any value with an empty type",
-        r#"{"type":"","x-kubernetes-preserve-unknown-fields":true}"#,
-        "open",
-    ),
-    ("a number", r#"{"type":"number"}"#, "violations"),
-    ("no type", "{}", "violations"),
+// The schema of a field, and its node or its refusal.
+static NODES: [SchemaSaid; 16] = [
+    SchemaSaid {
+        name: "an integer",
+        schema: r#"{"type":"integer"}"#,
+        wanted: "integer",
+    },
+    SchemaSaid {
+        name: "a description, and null",
+        schema: r#"{"type":"boolean","nullable":true,"description":"on or off"}"#,
+        wanted: "boolean nullable description=on or off",
+    },
+    SchemaSaid {
+        name: "int-or-string",
+        schema: r#"{"x-kubernetes-int-or-string":true}"#,
+        wanted: "int-or-string",
+    },
+    SchemaSaid {
+        name: "an object",
+        schema: r#"{"type":"object"}"#,
+        wanted: "object",
+    },
+    SchemaSaid {
+        name: "fields, one required and with a default",
+        schema: r#"{"type":"object","properties":{"b":{"type":"string","default":"y"},"a":{"type":"integer"}},"required":["b","b"]}"#,
+        wanted: r#"object a=integer b=string required default="y""#,
+    },
+    SchemaSaid {
+        name: "a default of an object",
+        schema: r#"{"type":"object","properties":{"a":{"type":"object","default":{"z":[1]},"properties":{"kind":{"type":"string"}}}}}"#,
+        wanted: r#"object a=object default={"z":[1]}"#,
+    },
+    SchemaSaid {
+        name: "an object with its markers",
+        schema: r#"{
+            "type":"object","minProperties":1,"maxProperties":2,"x-kubernetes-map-type":"atomic",
+            "x-kubernetes-preserve-unknown-fields":true
+        }"#,
+        wanted: "object preserves atomic least=1 most=2",
+    },
+    SchemaSaid {
+        name: "a map",
+        schema: r#"{"type":"object","additionalProperties":{"type":"string"},"x-kubernetes-map-type":"granular","maxProperties":3}"#,
+        wanted: "map of=string most=3",
+    },
+    SchemaSaid {
+        name: "a map of lists",
+        schema: r#"{"type":"object","additionalProperties":{"type":"array","items":{"type":"integer"}},"x-kubernetes-map-type":"atomic"}"#,
+        wanted: "map of=list atomic",
+    },
+    SchemaSaid {
+        name: "a map list",
+        schema: r#"{
+            "type":"array",
+            "items":{
+                "type":"object","properties":{"k":{"type":"string"},"l":{"type":"integer"}},
+                "required":["k","l"]
+            },
+            "x-kubernetes-list-type":"map","x-kubernetes-list-map-keys":["l","k"],"minItems":0,"maxItems":3
+        }"#,
+        wanted: "list of=object map key=l key=k least=0 most=3",
+    },
+    SchemaSaid {
+        name: "a set",
+        schema: r#"{"type":"array","items":{"type":"string"},"x-kubernetes-list-type":"set"}"#,
+        wanted: "list of=string set",
+    },
+    SchemaSaid {
+        name: "an atomic list",
+        schema: r#"{"type":"array","items":{"x-kubernetes-preserve-unknown-fields":true},"x-kubernetes-list-type":"atomic"}"#,
+        wanted: "list of=open",
+    },
+    SchemaSaid {
+        name: "any value",
+        schema: r#"{"x-kubernetes-preserve-unknown-fields":true,"nullable":true}"#,
+        wanted: "open nullable",
+    },
+    SchemaSaid {
+        name: "any value with an empty type",
+        schema: r#"{"type":"","x-kubernetes-preserve-unknown-fields":true}"#,
+        wanted: "open",
+    },
+    SchemaSaid {
+        name: "a number",
+        schema: r#"{"type":"number"}"#,
+        wanted: "violations",
+    },
+    SchemaSaid {
+        name: "no type",
+        schema: "{}",
+        wanted: "violations",
+    },
 ];
 
-// A name, a schema, and the node of the root or its refusal.
-static ROOTS: [(&str, &str, &str); 6] = [
-    (
-        "an envelope",
-        r#"{"type":"object","required":["kind","spec"],"properties":{"apiVersion":{"type":"string"},"kind":{"type":"string"},"metadata":{"type":"object"},"spec":{"type":"object"},"status":{"type":"boolean"}}}"#,
-        "object spec=object required status=boolean",
-    ),
-    (
-        "a required envelope, and a field of the same name below",
-        r#"{"type":"object","required":["metadata"],"properties":{"spec":{"type":"object","properties":{"kind":{"type":"string"}}}}}"#,
-        "object spec=object",
-    ),
-    (
-        "a description and markers",
-        r#"{"type":"object","description":"a widget","x-kubernetes-map-type":"atomic","x-kubernetes-preserve-unknown-fields":true}"#,
-        "object description=a widget preserves atomic",
-    ),
-    ("an integer", r#"{"type":"integer"}"#, "violations"),
-    (
-        "a violation after a default",
-        r#"{"type":"object","properties":{"x":{"type":"integer","default":1},"y":{"type":"array"}}}"#,
-        "violations",
-    ),
-    (
-        "a violation in the envelope",
-        r#"{"type":"object","properties":{"kind":{"type":"string","default":"x"}}}"#,
-        "violations",
-    ),
+// A schema, and the node of the root or its refusal.
+static ROOTS: [SchemaSaid; 6] = [
+    SchemaSaid {
+        name: "an envelope",
+        schema: r#"{"type":"object","required":["kind","spec"],"properties":{
+            "apiVersion":{"type":"string"},"kind":{"type":"string"},"metadata":{"type":"object"},
+            "spec":{"type":"object"},"status":{"type":"boolean"}
+        }}"#,
+        wanted: "object spec=object required status=boolean",
+    },
+    SchemaSaid {
+        name: "a required envelope, and a field of the same name below",
+        schema: r#"{"type":"object","required":["metadata"],"properties":{"spec":{
+            "type":"object","properties":{"kind":{"type":"string"}}
+        }}}"#,
+        wanted: "object spec=object",
+    },
+    SchemaSaid {
+        name: "a description and markers",
+        schema: r#"{
+            "type":"object","description":"a widget","x-kubernetes-map-type":"atomic",
+            "x-kubernetes-preserve-unknown-fields":true
+        }"#,
+        wanted: "object description=a widget preserves atomic",
+    },
+    SchemaSaid {
+        name: "an integer",
+        schema: r#"{"type":"integer"}"#,
+        wanted: "violations",
+    },
+    SchemaSaid {
+        name: "a violation after a default",
+        schema: r#"{"type":"object","properties":{"x":{"type":"integer","default":1},"y":{"type":"array"}}}"#,
+        wanted: "violations",
+    },
+    SchemaSaid {
+        name: "a violation in the envelope",
+        schema: r#"{"type":"object","properties":{"kind":{"type":"string","default":"x"}}}"#,
+        wanted: "violations",
+    },
 ];
 
-fn try_field(rt: &impl Abort, alloc: Global, row: &(&str, &str, &str)) -> Result<(), Fail> {
-    let (name, schema, wanted) = *row;
-    let root = object_with_field(alloc, schema)?;
+fn try_field(report: &mut Report, alloc: Global, row: &SchemaSaid) -> Result<(), Fail> {
+    let root = object_with_field(alloc, row.schema)?;
     is_said(
-        rt,
-        said(alloc, root.as_str(), true),
-        wanted,
+        report,
         "the node",
-        name,
+        said(alloc, root.as_str(), true),
+        row.wanted,
     )
 }
 
-fn try_root(rt: &impl Abort, alloc: Global, row: &(&str, &str, &str)) -> Result<(), Fail> {
-    let (name, schema, wanted) = *row;
-    is_said(rt, said(alloc, schema, false), wanted, "the node", name)
+fn try_root(report: &mut Report, alloc: Global, row: &SchemaSaid) -> Result<(), Fail> {
+    is_said(
+        report,
+        "the node",
+        said(alloc, row.schema, false),
+        row.wanted,
+    )
 }
 
 #[test]
 fn nodes(rt: HostRuntime) -> Result<(), Fail> {
     schema::laws::nodes_are_unique();
+    let mut report = Report::new(rt.alloc());
     for row in &NODES {
-        try_field(&rt, rt.alloc(), row)?;
+        let ended = try_field(&mut report, rt.alloc(), row);
+        report.row(row.name, ended)?;
     }
     for row in &ROOTS {
-        try_root(&rt, rt.alloc(), row)?;
+        let ended = try_root(&mut report, rt.alloc(), row);
+        report.row(row.name, ended)?;
     }
-    Ok(())
+    report.end(&rt)
 }

@@ -1,8 +1,18 @@
 //! Documents that more than one test reads, and what is listed of them.
 
 /// A resource with an integer `a` and a truth value `b` below `spec`.
-pub const WIDGET: &str =
-    r#"{"apiVersion":"apiextensions.k8s.io/v1","kind":"CustomResourceDefinition","spec":{"group":"example.org","names":{"kind":"Widget"},"versions":[{"name":"v1","schema":{"openAPIV3Schema":{"type":"object","properties":{"spec":{"type":"object","properties":{"a":{"type":"integer"},"b":{"type":"boolean"}}}}}}}]}}"#;
+pub const WIDGET: &str = r#"{
+    "apiVersion":"apiextensions.k8s.io/v1","kind":"CustomResourceDefinition",
+    "spec":{
+        "group":"example.org","names":{"kind":"Widget"},
+        "versions":[{"name":"v1","schema":{"openAPIV3Schema":{
+            "type":"object",
+            "properties":{"spec":{"type":"object","properties":{
+                "a":{"type":"integer"},"b":{"type":"boolean"}
+            }}}
+        }}}]
+    }
+}"#;
 
 /// Pools of two integers.
 pub const ZERO_AND_ONE: &str = r#"{"integers":[0,1]}"#;
@@ -31,20 +41,32 @@ pub const LAST_LINES: &str = r#"{"spec":{"b":true}}
 "#;
 
 /// An object with at least two of three truth values.
-pub const TRUTHS: &str =
-    r#"{"type":"object","properties":{"o":{"type":"object","minProperties":2,"properties":{"a":{"type":"boolean"},"b":{"type":"boolean"},"c":{"type":"boolean"}}}}}"#;
+pub const TRUTHS: &str = r#"{"type":"object","properties":{"o":{
+    "type":"object","minProperties":2,
+    "properties":{"a":{"type":"boolean"},"b":{"type":"boolean"},"c":{"type":"boolean"}}
+}}}"#;
 
 /// An object of three truth values that has exactly one of the first two.
-pub const ONE_OF_TWO: &str =
-    r#"{"type":"object","properties":{"o":{"type":"object","oneOf":[{"required":["a"]},{"required":["b"]}],"properties":{"a":{"type":"boolean"},"b":{"type":"boolean"},"c":{"type":"boolean"}}}}}"#;
+pub const ONE_OF_TWO: &str = r#"{"type":"object","properties":{"o":{
+    "type":"object","oneOf":[{"required":["a"]},{"required":["b"]}],
+    "properties":{"a":{"type":"boolean"},"b":{"type":"boolean"},"c":{"type":"boolean"}}
+}}}"#;
 
 /// A map list with a text `k` as its key and an integer `v`.
-pub const MAP_LIST: &str =
-    r#"{"type":"object","properties":{"m":{"type":"array","x-kubernetes-list-type":"map","x-kubernetes-list-map-keys":["k"],"items":{"type":"object","properties":{"k":{"type":"string"},"v":{"type":"integer"}},"required":["k"]}}}}"#;
+pub const MAP_LIST: &str = r#"{"type":"object","properties":{"m":{
+    "type":"array","x-kubernetes-list-type":"map","x-kubernetes-list-map-keys":["k"],
+    "items":{
+        "type":"object","properties":{"k":{"type":"string"},"v":{"type":"integer"}},"required":["k"]
+    }
+}}}"#;
 
 /// The same, of at least three items.
-pub const LONG_MAP_LIST: &str =
-    r#"{"type":"object","properties":{"m":{"type":"array","minItems":3,"x-kubernetes-list-type":"map","x-kubernetes-list-map-keys":["k"],"items":{"type":"object","properties":{"k":{"type":"string"},"v":{"type":"integer"}},"required":["k"]}}}}"#;
+pub const LONG_MAP_LIST: &str = r#"{"type":"object","properties":{"m":{
+    "type":"array","minItems":3,"x-kubernetes-list-type":"map","x-kubernetes-list-map-keys":["k"],
+    "items":{
+        "type":"object","properties":{"k":{"type":"string"},"v":{"type":"integer"}},"required":["k"]
+    }
+}}}"#;
 
 /// Pools of two texts and an integer.
 pub const TWO_TEXTS: &str = r#"{"strings":["a","b"],"integers":[0]}"#;
@@ -54,12 +76,20 @@ pub const SPEC: &str =
     r#"{"type":"object","properties":{"spec":{"type":"object","properties":{"a":{"type":"integer"},"b":{"type":"boolean"}}}}}"#;
 
 /// Fifteen objects of three truth values.
-pub const FIFTEEN: &str =
-    r#"{"type":"object","required":["t"],"properties":{"t":{"type":"array","minItems":15,"maxItems":15,"items":{"type":"object","required":["a","b","c"],"properties":{"a":{"type":"boolean"},"b":{"type":"boolean"},"c":{"type":"boolean"}}}}}}"#;
+pub const FIFTEEN: &str = r#"{"type":"object","required":["t"],"properties":{"t":{
+    "type":"array","minItems":15,"maxItems":15,
+    "items":{"type":"object","required":["a","b","c"],"properties":{
+        "a":{"type":"boolean"},"b":{"type":"boolean"},"c":{"type":"boolean"}
+    }}
+}}}"#;
 
 /// Thirty-one objects of three truth values.
-pub const THIRTY_ONE: &str =
-    r#"{"type":"object","required":["t"],"properties":{"t":{"type":"array","minItems":31,"maxItems":31,"items":{"type":"object","required":["a","b","c"],"properties":{"a":{"type":"boolean"},"b":{"type":"boolean"},"c":{"type":"boolean"}}}}}}"#;
+pub const THIRTY_ONE: &str = r#"{"type":"object","required":["t"],"properties":{"t":{
+    "type":"array","minItems":31,"maxItems":31,
+    "items":{"type":"object","required":["a","b","c"],"properties":{
+        "a":{"type":"boolean"},"b":{"type":"boolean"},"c":{"type":"boolean"}
+    }}
+}}}"#;
 
 /// A set of integers.
 pub const SET: &str =
@@ -104,18 +134,69 @@ pub const OPEN_NULLABLE: &str =
     r#"{"type":"object","properties":{"x":{"x-kubernetes-preserve-unknown-fields":true,"nullable":true}}}"#;
 
 /// A resource whose schema breaks two rules.
-pub const BROKEN: &str =
-    r#"{"apiVersion":"apiextensions.k8s.io/v1","kind":"CustomResourceDefinition","spec":{"group":"example.com","names":{"kind":"Widget"},"versions":[{"name":"v1","schema":{"openAPIV3Schema":{"type":"object","properties":{"a":{},"b":{"type":"string","uniqueItems":true}}}}}]}}"#;
+pub const BROKEN: &str = r#"{
+    "apiVersion":"apiextensions.k8s.io/v1","kind":"CustomResourceDefinition",
+    "spec":{
+        "group":"example.com","names":{"kind":"Widget"},
+        "versions":[{"name":"v1","schema":{"openAPIV3Schema":{
+            "type":"object","properties":{"a":{},"b":{"type":"string","uniqueItems":true}}
+        }}}]
+    }
+}"#;
 
 /// What is said of `BROKEN`.
-pub const BROKEN_LINES: &str = r#"V01 "/properties/a" missing type
-V06 "/properties/b" uniqueItems is true
+pub const BROKEN_LINES: &str = r#"V01 "/properties/a"
+V06 "/properties/b"
 "#;
 
 /// `LONG_MAP_LIST`, required.
-pub const REQUIRED_LONG_MAP_LIST: &str =
-    r#"{"type":"object","required":["m"],"properties":{"m":{"type":"array","minItems":3,"x-kubernetes-list-type":"map","x-kubernetes-list-map-keys":["k"],"items":{"type":"object","properties":{"k":{"type":"string"},"v":{"type":"integer"}},"required":["k"]}}}}"#;
+pub const REQUIRED_LONG_MAP_LIST: &str = r#"{"type":"object","required":["m"],"properties":{"m":{
+    "type":"array","minItems":3,"x-kubernetes-list-type":"map","x-kubernetes-list-map-keys":["k"],
+    "items":{
+        "type":"object","properties":{"k":{"type":"string"},"v":{"type":"integer"}},"required":["k"]
+    }
+}}}"#;
 
 /// A map list with the integers `a` and `c` as its keys and a truth value `b`.
-pub const TWO_INTEGER_KEYS: &str =
-    r#"{"type":"object","properties":{"m":{"type":"array","x-kubernetes-list-type":"map","x-kubernetes-list-map-keys":["a","c"],"items":{"type":"object","properties":{"a":{"type":"integer"},"b":{"type":"boolean"},"c":{"type":"integer"}},"required":["a","c"]}}}}"#;
+pub const TWO_INTEGER_KEYS: &str = r#"{"type":"object","properties":{"m":{
+    "type":"array","x-kubernetes-list-type":"map","x-kubernetes-list-map-keys":["a","c"],
+    "items":{
+        "type":"object",
+        "properties":{"a":{"type":"integer"},"b":{"type":"boolean"},"c":{"type":"integer"}},
+        "required":["a","c"]
+    }
+}}}"#;
+
+/// An object that is there by default, with an integer that has one.
+pub const TWO_DEFAULTS: &str = r#"{"type":"object","properties":{"spec":{
+    "type":"object","default":{},"properties":{"f":{"type":"integer","default":7}}
+}}}"#;
+
+/// A list of objects of two truth values.
+pub const LIST_OF_OBJECTS: &str = r#"{"type":"object","properties":{"l":{"type":"array","items":{
+    "type":"object","properties":{"a":{"type":"boolean"},"b":{"type":"boolean"}}
+}}}}"#;
+
+/// An object with at most one of two truth values.
+pub const AT_MOST_ONE: &str = r#"{"type":"object","properties":{"o":{
+    "type":"object","maxProperties":1,"properties":{"a":{"type":"boolean"},"b":{"type":"boolean"}}
+}}}"#;
+
+/// An integer that keeps exactly one of two bounds.
+pub const ONE_BOUND: &str = r#"{"type":"object","required":["n"],"properties":{"n":{
+    "type":"integer","oneOf":[{"minimum":1},{"maximum":3}]
+}}}"#;
+
+/// An object of a truth value, or null.
+pub const NULL_OR_TRUTH: &str = r#"{"type":"object","properties":{"n":{
+    "type":"object","nullable":true,"properties":{"a":{"type":"boolean"}}
+}}}"#;
+
+/// Exactly one of two truth values, at the root.
+pub const ONE_OF_TWO_AT_THE_ROOT: &str = r#"{
+    "type":"object","properties":{"a":{"type":"boolean"},"b":{"type":"boolean"}},
+    "oneOf":[{"required":["a"]},{"required":["b"]}]
+}"#;
+
+/// Pools with a number that is no integer.
+pub const FRACTION_IN_POOLS: &str = r#"{"integers":[1.5]}"#;

@@ -229,10 +229,14 @@ fn line_feed<'a>(alloc: Global, bytes: &'a [u8], left: usize) -> LineFeed<Failin
 
 /// The next line of these.
 fn next_of<'a>(feed: &mut LineFeed<FailingSource<'a>>, line: &mut Vec<u8>) -> Result<bool, JFault>
-    ensures line { IfOk result (λ more. more ≡ true → (ls : List (List ℕ)) → AreComing (⟦<LineFeed<FailingSource<'a>> as LineSource>⟧.remaining feed.new) ls
+    ensures line { IfOk result (λ more. more ≡ true → (ls : List (List ℕ))
+        → AreComing (⟦<LineFeed<FailingSource<'a>> as LineSource>⟧.remaining feed.new) ls
         → AreComing (⟦<LineFeed<FailingSource<'a>> as LineSource>⟧.remaining feed.old) (line.new.items ∷ ls)) }
-    ensures end { IfOk result (λ more. more ≡ false → AreComing (⟦<LineFeed<FailingSource<'a>> as LineSource>⟧.remaining feed.old) []) }
-    ensures too_long { result ≡ Err TooLong → (l : List ℕ) × (ls : List (List ℕ)) × AreComing (⟦<LineFeed<FailingSource<'a>> as LineSource>⟧.remaining feed.old) (l ∷ ls) × (most_bytes < length l) }
+    ensures end { IfOk result (λ more. more ≡ false
+        → AreComing (⟦<LineFeed<FailingSource<'a>> as LineSource>⟧.remaining feed.old) []) }
+    ensures too_long { result ≡ Err TooLong → (l : List ℕ) × (ls : List (List ℕ))
+        × AreComing (⟦<LineFeed<FailingSource<'a>> as LineSource>⟧.remaining feed.old) (l ∷ ls)
+        × (most_bytes < length l) }
 {
     feed.next_line(line)
 }

@@ -1,11 +1,11 @@
 //! Runs of the program over documents of memory, and what comes of them.
 use crate::support::fakes::{FailingSink, FakeInputs, Reads};
+use crate::support::phrases::with_phrases;
+use crate::support::report::Report;
 use jtree::Tree;
-use plan::{Plan, Pools};
+use plan::Pools;
 use schema::{Crd, SFault, read_crd};
 use std::alloc::{AllocError, Global};
-use std::fmt::Debug;
-use std::process::Abort;
 use std::test::Fail;
 use stored::{Schema, accept};
 
@@ -49,144 +49,138 @@ pub fn run_on(
     })
 }
 
-/// Fails unless the value is the one that is wanted.
-pub fn is_value<T: PartialEq + Debug>(
-    rt: &impl Abort,
-    found: &T,
-    wanted: &T,
-    what: &str,
-    name: &str,
-) {
-    assert_eq!(rt; *found, *wanted, "{what} of {name}");
-}
-
-/// Fails unless the text is the one that is wanted.
-pub fn is_text(rt: &impl Abort, found: &str, wanted: &str, what: &str, name: &str) {
-    is_value(rt, &found, &wanted, what, name);
-}
-
-/// Fails unless the number is the one that is wanted.
-pub fn is_number(rt: &impl Abort, found: u64, wanted: u64, what: &str, name: &str) {
-    is_value(rt, &found, &wanted, what, name);
-}
-
-/// Fails unless it holds.
-pub fn holds(rt: &impl Abort, is: bool, what: &str, name: &str) {
-    assert!(rt; is, "{what} of {name}");
-}
-
-/// Fails with this text unless it holds of it.
-pub fn holds_of(rt: &impl Abort, text: &str, is: bool, what: &str, name: &str) {
-    assert!(rt; is, "{what} of {name}: {text}");
-}
-
-/// Fails unless there is a text, and it is the one that is wanted.
+/// Notes it unless there is a text, and it is the one that is wanted.
 pub fn is_said(
-    rt: &impl Abort,
+    report: &mut Report,
+    what: &str,
     found: Result<String, Fail>,
     wanted: &str,
-    what: &str,
-    name: &str,
 ) -> Result<(), Fail> {
     let found = found?;
-    is_text(rt, found.as_str(), wanted, what, name);
-    Ok(())
+    Ok(report.is_text(what, found.as_str(), wanted)?)
 }
 
-/// Fails unless the tree has the text that is wanted.
+/// Notes it unless the tree has the text that is wanted.
 pub fn is_tree(
-    rt: &impl Abort,
+    report: &mut Report,
     alloc: Global,
+    what: &str,
     found: &Tree,
     wanted: &str,
-    what: &str,
-    name: &str,
 ) -> Result<(), Fail> {
     let text = found.to_text(alloc)?;
-    is_text(rt, text.as_str(), wanted, what, name);
-    Ok(())
+    Ok(report.is_text(what, text.as_str(), wanted)?)
 }
 
-/// Fails unless a run wrote these texts and ended with this status.
-pub fn is_answer(rt: &impl Abort, output: &Output, out: &str, err: &str, status: u8, name: &str) {
-    is_text(rt, output.out.text(), out, "standard output", name);
-    is_text(rt, output.err.text(), err, "standard error", name);
-    is_number(rt, output.status as u64, status as u64, "the status", name);
+/// Notes it unless a run wrote these texts and ended with this status.
+pub fn is_answer(
+    report: &mut Report,
+    output: &Output,
+    out: &str,
+    err: &str,
+    status: u8,
+) -> Result<(), AllocError> {
+    report.is_text("standard output", output.out.text(), out)?;
+    report.is_text("standard error", output.err.text(), err)?;
+    report.is_number("the status", u64::from(output.status), u64::from(status))
 }
 
 /// A CustomResourceDefinition whose one version, `v1`, has this schema.
 pub fn definition(alloc: Global, schema: &str) -> Result<String, AllocError> {
     let mut document = String::from_str(
         alloc,
-        r#"{"apiVersion":"apiextensions.k8s.io/v1","kind":"CustomResourceDefinition","spec":{"group":"example.com","names":{"kind":"Widget"},"versions":[{"name":"v1","schema":{"openAPIV3Schema":"#,
+        r#"{"apiVersion":"apiextensions.k8s.io/v1","kind":"CustomResourceDefinition","spec":{
+            "group":"example.com","names":{"kind":"Widget"},
+            "versions":[{"name":"v1","schema":{"openAPIV3Schema":"#,
     )?;
     document.push_str(schema)?;
     document.push_str("}}]}}")?;
     Ok(document)
 }
 
-/// A run over two documents: a name, a command line, a definition, the second document, standard output, standard error and
-/// the status.
-pub fn try_run(
-    rt: &impl Abort,
-    alloc: Global,
-    row: &(&str, &str, &str, &str, &str, &str, u8),
-) -> Result<(), AllocError> {
-    let (name, command, crd, second, out, err, status) = *row;
-    let inputs = FakeInputs::new(alloc, crd, second);
-    let output = run_on(alloc, command, inputs, FailingSink::endless(alloc))?;
-    is_answer(rt, &output, out, err, status, name);
-    Ok(())
+/// A run over two documents, and what it writes and answers. The lines of rules, faults and reasons are without their phrases, here
+/// and in the other tables.
+#[derive(Clone, Copy)]
+pub struct Run<'a> {
+    pub name: &'a str,
+    pub command: &'a str,
+    pub crd: &'a str,
+    /// The pools or the object.
+    pub second: &'a str,
+    pub out: &'a str,
+    pub err: &'a str,
+    pub status: u8,
 }
 
-/// As `try_run`, of each row.
-pub fn all_runs(
-    rt: &impl Abort,
-    alloc: Global,
-    rows: &[(&str, &str, &str, &str, &str, &str, u8)],
-) -> Result<(), AllocError> {
-    for row in rows {
-        try_run(rt, alloc, row)?;
+/// Tries a run.
+pub fn try_run(report: &mut Report, alloc: Global, run: &Run<'_>) -> Result<(), Fail> {
+    let inputs = FakeInputs::new(alloc, run.crd, run.second);
+    let output = run_on(alloc, run.command, inputs, FailingSink::endless(alloc))?;
+    let out = with_phrases(alloc, run.out)?;
+    let err = with_phrases(alloc, run.err)?;
+    Ok(is_answer(report, &output, out.as_str(), err.as_str(), run.status)?)
+}
+
+/// Tries each run.
+pub fn all_runs(report: &mut Report, alloc: Global, runs: &[Run<'_>]) -> Result<(), AllocError> {
+    for run in runs {
+        let ended = try_run(report, alloc, run);
+        report.row(run.name, ended)?;
     }
     Ok(())
 }
 
-/// As `try_run`, with a schema in place of the definition that has it.
-pub fn try_run_by_schema(
-    rt: &impl Abort,
-    alloc: Global,
-    row: &(&str, &str, &str, &str, &str, &str, u8),
-) -> Result<(), AllocError> {
-    let (name, command, schema, second, out, err, status) = *row;
-    let crd = definition(alloc, schema)?;
-    let row = (name, command, crd.as_str(), second, out, err, status);
-    try_run(rt, alloc, &row)
+/// As `Run`, with a schema in place of the definition that has it.
+#[derive(Clone, Copy)]
+pub struct SchemaRun<'a> {
+    pub name: &'a str,
+    pub command: &'a str,
+    pub schema: &'a str,
+    /// The pools or the object.
+    pub second: &'a str,
+    pub out: &'a str,
+    pub err: &'a str,
+    pub status: u8,
 }
 
-/// As `try_run_by_schema`, of each row.
-pub fn all_runs_by_schema(
-    rt: &impl Abort,
+/// Tries a run by a schema.
+pub fn try_schema_run(report: &mut Report, alloc: Global, run: &SchemaRun<'_>) -> Result<(), Fail> {
+    let crd = definition(alloc, run.schema)?;
+    let run = Run {
+        name: run.name,
+        command: run.command,
+        crd: crd.as_str(),
+        second: run.second,
+        out: run.out,
+        err: run.err,
+        status: run.status,
+    };
+    try_run(report, alloc, &run)
+}
+
+/// Tries each run by a schema.
+pub fn all_schema_runs(
+    report: &mut Report,
     alloc: Global,
-    rows: &[(&str, &str, &str, &str, &str, &str, u8)],
+    runs: &[SchemaRun<'_>],
 ) -> Result<(), AllocError> {
-    for row in rows {
-        try_run_by_schema(rt, alloc, row)?;
+    for run in runs {
+        let ended = try_schema_run(report, alloc, run);
+        report.row(run.name, ended)?;
     }
     Ok(())
 }
 
-/// Fails unless a sink failed when this was out, with so many whole lines in it, and the run says so.
+/// Notes it unless a sink failed when this was out, with so many whole lines in it, and the run says so.
 pub fn has_failed(
-    rt: &impl Abort,
+    report: &mut Report,
     alloc: Global,
     output: &Output,
     out: &str,
     lines: u64,
-    name: &str,
 ) -> Result<(), AllocError> {
     let err = format!(in alloc; "crdx: write failed after {lines} lines\n")?;
-    is_answer(rt, output, out, err.as_str(), 4, name);
-    Ok(())
+    is_answer(report, output, out, err.as_str(), 4)
 }
 
 /// Whether there is a tree, and it is the one that is wanted.
@@ -207,14 +201,6 @@ pub fn schema_of(alloc: Global, schema: &str) -> Result<Schema, Fail> {
 pub fn pools_of(alloc: Global, pools: &str) -> Result<Pools, Fail> {
     let document = Tree::from_bytes(alloc, pools.as_bytes())?;
     Ok(Pools::read(alloc, &document)?)
-}
-
-/// The plan of a schema, pools and a node limit.
-pub fn made(alloc: Global, given: (&str, &str, u32)) -> Result<Plan<u64>, Fail> {
-    let (schema, pools, limit) = given;
-    let schema = schema_of(alloc, schema)?;
-    let pools = pools_of(alloc, pools)?;
-    Ok(Plan::new(alloc, schema, pools, limit)?)
 }
 
 /// What is read of version `v1` of a document.
@@ -257,124 +243,158 @@ fn said_of(alloc: Global, schema: &str) -> Result<String, Fail> {
     }
 }
 
-/// Fails unless reading a schema says so: `read`, or the code and the pointer of the fault.
+/// Tries what reading a schema says: `read`, or the code and the pointer of the fault.
 pub fn try_schema(
-    rt: &impl Abort,
+    report: &mut Report,
     alloc: Global,
-    name: &str,
     schema: &str,
     wanted: &str,
 ) -> Result<(), Fail> {
-    is_said(rt, said_of(alloc, schema), wanted, "what is read", name)
+    is_said(report, "what is read", said_of(alloc, schema), wanted)
 }
 
-/// Fails unless `check` says so of a schema, and ends with this status.
-pub fn try_check(
-    rt: &impl Abort,
-    alloc: Global,
-    name: &str,
-    schema: &str,
-    out: &str,
-    err: &str,
-    status: u8,
-) -> Result<(), AllocError> {
-    let row = (name, "crdx check crd.json v1", schema, "", out, err, status);
-    try_run_by_schema(rt, alloc, &row)
+/// A schema, and what is said of it.
+pub struct SchemaSaid {
+    pub name: &'static str,
+    pub schema: &'static str,
+    pub wanted: &'static str,
 }
 
-/// Fails unless `check` judges a schema so: `structural`, or the lines of all that is broken.
-fn try_judged(
-    rt: &impl Abort,
-    alloc: Global,
-    name: &str,
-    schema: &str,
-    out: &str,
-) -> Result<(), AllocError> {
-    let status = if out == "structural\n" { 0 } else { 1 };
-    try_check(rt, alloc, name, schema, out, "", status)
-}
-
-/// As `try_judged`, of an object with one field, `x`, of this schema.
-fn try_field(
-    rt: &impl Abort,
-    alloc: Global,
-    name: &str,
-    schema: &str,
-    out: &str,
-) -> Result<(), AllocError> {
-    let root = object_with_field(alloc, schema)?;
-    try_judged(rt, alloc, name, root.as_str(), out)
-}
-
-/// Fails unless `validate` says so of an object by a schema: `valid` and the status 0, or the lines of all faults and the
-/// status 1.
-fn try_validated(
-    rt: &impl Abort,
-    alloc: Global,
-    command: &str,
-    row: &(&str, &str, &str, &str),
-) -> Result<(), AllocError> {
-    let (name, schema, object, out) = *row;
-    let status = if out == "valid\n" { 0 } else { 1 };
-    try_run_by_schema(rt, alloc, &(name, command, schema, object, out, "", status))
-}
-
-/// As `try_validated`, of each row: a name, a schema, an object, and standard output.
-pub fn all_validated(
-    rt: &impl Abort,
-    alloc: Global,
-    rows: &[(&str, &str, &str, &str)],
-) -> Result<(), AllocError> {
-    for row in rows {
-        try_validated(rt, alloc, "crdx validate crd.json v1", row)?;
-    }
-    Ok(())
-}
-
-/// The same with `--strict`.
-pub fn all_strictly_validated(
-    rt: &impl Abort,
-    alloc: Global,
-    rows: &[(&str, &str, &str, &str)],
-) -> Result<(), AllocError> {
-    for row in rows {
-        try_validated(rt, alloc, "crdx validate --strict crd.json v1", row)?;
-    }
-    Ok(())
-}
-
-/// As `try_judged`, of each row: a name, a schema, and standard output.
-pub fn all_judged(
-    rt: &impl Abort,
-    alloc: Global,
-    rows: &[(&str, &str, &str)],
-) -> Result<(), AllocError> {
-    for (name, schema, out) in rows {
-        try_judged(rt, alloc, name, schema, out)?;
-    }
-    Ok(())
-}
-
-/// As `try_field`, of each row: a name, the schema of a field, and standard output.
-pub fn all_fields(
-    rt: &impl Abort,
-    alloc: Global,
-    rows: &[(&str, &str, &str)],
-) -> Result<(), AllocError> {
-    for (name, schema, out) in rows {
-        try_field(rt, alloc, name, schema, out)?;
-    }
-    Ok(())
-}
-
-/// As `try_schema`, of each row: a name, a schema, and what is answered.
+/// As `try_schema`, of each row.
 pub fn all_schemas(
-    rt: &impl Abort,
+    report: &mut Report,
     alloc: Global,
-    rows: &[(&str, &str, &str)],
-) -> Result<(), Fail> {
-    for (name, schema, wanted) in rows {
-        try_schema(rt, alloc, name, schema, wanted)?;
+    rows: &[SchemaSaid],
+) -> Result<(), AllocError> {
+    for row in rows {
+        let ended = try_schema(report, alloc, row.schema, row.wanted);
+        report.row(row.name, ended)?;
     }
     Ok(())
+}
+
+/// A schema, or that of a field, and what `check` writes: `structural` with the status 0, or the lines of all that is broken with the
+/// status 1.
+#[derive(Clone, Copy)]
+pub struct Checked<'a> {
+    pub name: &'a str,
+    pub schema: &'a str,
+    pub out: &'a str,
+}
+
+fn try_checked<'a>(
+    report: &mut Report,
+    alloc: Global,
+    command: &'a str,
+    row: &Checked<'a>,
+) -> Result<(), Fail> {
+    let run = SchemaRun {
+        name: row.name,
+        command,
+        schema: row.schema,
+        second: "",
+        out: row.out,
+        err: "",
+        status: if row.out == "structural\n" { 0 } else { 1 },
+    };
+    try_schema_run(report, alloc, &run)
+}
+
+/// Tries what a command writes of each schema, which is `check` with its options.
+pub fn all_checked_by<'a>(
+    report: &mut Report,
+    alloc: Global,
+    command: &'a str,
+    rows: &[Checked<'a>],
+) -> Result<(), AllocError> {
+    for row in rows {
+        let ended = try_checked(report, alloc, command, row);
+        report.row(row.name, ended)?;
+    }
+    Ok(())
+}
+
+const CHECK: &str = "crdx check crd.json v1";
+
+/// Tries what `check` writes of each schema.
+pub fn all_checked(
+    report: &mut Report,
+    alloc: Global,
+    rows: &[Checked<'_>],
+) -> Result<(), AllocError> {
+    all_checked_by(report, alloc, CHECK, rows)
+}
+
+/// As `try_checked`, of an object with one field, `x`, of this schema.
+fn try_field(report: &mut Report, alloc: Global, row: &Checked<'_>) -> Result<(), Fail> {
+    let schema = object_with_field(alloc, row.schema)?;
+    let row = Checked {
+        name: row.name,
+        schema: schema.as_str(),
+        out: row.out,
+    };
+    try_checked(report, alloc, CHECK, &row)
+}
+
+/// Tries what `check` writes of each schema of a field.
+pub fn all_fields(
+    report: &mut Report,
+    alloc: Global,
+    rows: &[Checked<'_>],
+) -> Result<(), AllocError> {
+    for row in rows {
+        let ended = try_field(report, alloc, row);
+        report.row(row.name, ended)?;
+    }
+    Ok(())
+}
+
+/// An object by a schema, and what `validate` writes: `valid` with the status 0, or the lines of all faults with the status 1.
+#[derive(Clone, Copy)]
+pub struct Validated<'a> {
+    pub name: &'a str,
+    pub schema: &'a str,
+    pub object: &'a str,
+    pub out: &'a str,
+}
+
+fn try_validated<'a>(
+    report: &mut Report,
+    alloc: Global,
+    command: &'a str,
+    row: &Validated<'a>,
+) -> Result<(), Fail> {
+    let run = SchemaRun {
+        name: row.name,
+        command,
+        schema: row.schema,
+        second: row.object,
+        out: row.out,
+        err: "",
+        status: if row.out == "valid\n" { 0 } else { 1 },
+    };
+    try_schema_run(report, alloc, &run)
+}
+
+/// Tries what a command writes of each object, which is `validate` with its options.
+pub fn all_validated_by<'a>(
+    report: &mut Report,
+    alloc: Global,
+    command: &'a str,
+    rows: &[Validated<'a>],
+) -> Result<(), AllocError> {
+    for row in rows {
+        let ended = try_validated(report, alloc, command, row);
+        report.row(row.name, ended)?;
+    }
+    Ok(())
+}
+
+/// Tries what `validate` writes of each object.
+pub fn all_validated(
+    report: &mut Report,
+    alloc: Global,
+    rows: &[Validated<'_>],
+) -> Result<(), AllocError> {
+    all_validated_by(report, alloc, "crdx validate crd.json v1", rows)
 }

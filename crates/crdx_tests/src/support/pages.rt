@@ -1,12 +1,11 @@
 //! Samples as lines, and walks on a sink.
-ghost use Rattle.std.specs.Prelude.{◌≤◌};
-
 use crate::support::fakes::FailingSink;
-use crate::support::harness::{made, pools_of, schema_of};
+use crate::support::given::{Given, made};
+use crate::support::harness::{pools_of, schema_of};
 use crate::support::reference::plain_parts;
 use crdx::walk::{WFault, Walked, walk};
 use jtree::{JFault, Tree};
-use std::alloc::Global;
+use std::alloc::{AllocError, Global};
 use std::test::Fail;
 
 pub fn place_of(alloc: Global, text: Option<&str>) -> Result<Option<Tree>, JFault> {
@@ -31,43 +30,75 @@ pub fn lines_of(alloc: Global, items: &[Tree]) -> Result<String, Fail> {
     Ok(lines)
 }
 
+/// Where a walk begins, after which place, the size of its pages, and the most lines.
+#[derive(Clone, Copy)]
+pub struct WalkInput<'a> {
+    pub given: Given<'a>,
+    pub place: Option<&'a str>,
+    pub page: u32,
+    pub total: u32,
+}
+
 /// What a walk writes on a sink, and what it answers.
 pub fn walked(
     alloc: Global,
-    given: (&str, &str, u32),
-    place: Option<&str>,
-    page: u32,
-    total: u32,
+    of: WalkInput<'_>,
     sink: &mut FailingSink,
-) -> Result<Result<Walked, WFault>, Fail>
-    requires page_least { 1 ≤ page }
-    requires page_most { page ≤ 10000 }
-    requires total_least { 1 ≤ total }
-    requires total_most { total ≤ 10000 }
-{
-    let place = place_of(alloc, place)?;
-    let mut plan = made(alloc, given)?;
+) -> Result<Result<Walked, WFault>, Fail> {
+    let place = place_of(alloc, of.place)?;
+    let mut plan = made(alloc, of.given)?;
     let mut meter = plan.meter();
     Ok(walk(
         alloc,
         &plan,
         place.as_ref(),
-        page,
-        total,
+        of.page.clamp(1, 10000),
+        of.total.clamp(1, 10000),
         None,
         &mut meter,
         sink,
     ))
 }
 
-pub fn listed(alloc: Global, given: (&str, &str, u32)) -> Result<Vec<Tree>, Fail> {
-    let (schema, pools, limit) = given;
-    let pools = pools_of(alloc, pools)?;
-    let schema = schema_of(alloc, schema)?;
-    Ok(plain_parts(alloc, schema.root(), "", &pools, u64::from(limit))?)
+/// All samples, by the plain reference.
+pub fn listed(alloc: Global, given: Given<'_>) -> Result<Vec<Tree>, Fail> {
+    let pools = pools_of(alloc, given.pools)?;
+    let schema = schema_of(alloc, given.schema)?;
+    let limit = u64::from(given.limit);
+    Ok(plain_parts(alloc, schema.root(), "", &pools, limit)?)
 }
 
 /// The lines of all samples, by the plain reference.
-pub fn plain_lines(alloc: Global, given: (&str, &str, u32)) -> Result<String, Fail> {
+pub fn plain_lines(alloc: Global, given: Given<'_>) -> Result<String, Fail> {
     lines_of(alloc, &listed(alloc, given)?)
+}
+
+/// A list of so many objects of three truth values: the first all true, the last this one, and the others all false.
+fn list_of(alloc: Global, items: usize, last: &str) -> Result<String, AllocError> {
+    let mut text = String::from_str(alloc, r#"{"t":[{"a":true,"b":true,"c":true},"#)?;
+    for _ in 2..items {
+        text.push_str(r#"{"a":false,"b":false,"c":false},"#)?;
+    }
+    text.push_str(last)?;
+    text.push_str("]}")?;
+    Ok(text)
+}
+
+/// The list whose last object is all false.
+pub fn list_before_three(alloc: Global, items: usize) -> Result<String, AllocError> {
+    list_of(alloc, items, r#"{"a":false,"b":false,"c":false}"#)
+}
+
+/// The lines of the three lists that come next.
+pub fn next_three_lists(alloc: Global, items: usize) -> Result<String, AllocError> {
+    let mut lines = String::new(alloc);
+    for last in [
+        r#"{"a":false,"b":false,"c":true}"#,
+        r#"{"a":false,"b":true,"c":false}"#,
+        r#"{"a":false,"b":true,"c":true}"#,
+    ] {
+        lines.push_str(list_of(alloc, items, last)?.as_str())?;
+        lines.push('\n')?;
+    }
+    Ok(lines)
 }

@@ -1,14 +1,15 @@
 //! What `cover` answers, by the definitions alone: of all samples the first one with each path, and with each value at it. It is slow,
 //! and uses nothing of `cover` but the names of its answer.
-use crate::support::harness::{is_text, pools_of, schema_of};
+use crate::support::given::{Given, made};
+use crate::support::harness::{pools_of, schema_of};
 use crate::support::reference::plain_parts;
+use crate::support::report::Report;
 use cover::{Covered, cover};
 use explain::{Listing, resolve};
 use jtree::Tree;
-use plan::{Plan, Pools};
+use plan::Pools;
 use schema::Sort;
 use std::alloc::{AllocError, Global};
-use std::process::Abort;
 use std::test::Fail;
 use stored::Schema;
 
@@ -197,26 +198,17 @@ fn text_of(alloc: Global, covered: &Covered) -> Result<String, Fail> {
 
 /// What `cover` answers of a schema, pools and a node limit, with values, against the first ones of all samples.
 pub fn try_cover(
-    rt: &impl Abort,
+    report: &mut Report,
     alloc: Global,
-    given: (&str, &str, u32),
+    given: Given<'_>,
     samples: &[Tree],
-    name: &str,
 ) -> Result<(), Fail> {
-    let (schema, pools, limit) = given;
     let wanted = plain_cover(
         alloc,
-        &schema_of(alloc, schema)?,
-        &pools_of(alloc, pools)?,
+        &schema_of(alloc, given.schema)?,
+        &pools_of(alloc, given.pools)?,
         samples,
     )?;
-    let plan = Plan::<u64>::new(
-        alloc,
-        schema_of(alloc, schema)?,
-        pools_of(alloc, pools)?,
-        limit,
-    )?;
-    let found = text_of(alloc, &cover(alloc, plan, true)?)?;
-    is_text(rt, found.as_str(), wanted.as_str(), "a cover", name);
-    Ok(())
+    let found = text_of(alloc, &cover(alloc, made(alloc, given)?, true)?)?;
+    Ok(report.is_text("a cover", found.as_str(), wanted.as_str())?)
 }

@@ -4,18 +4,17 @@ ghost use Rattle.plan.specs.Samples.Sites.{site_at, sites_of};
 ghost use Rattle.plan.specs.Samples.Candidates.{sort_of};
 ghost use Rattle.plan.specs.declared.sort.Sort.TheVariants as sort;
 
-use crate::support::harness::is_value;
+use crate::support::report::Report;
 use plan::{Meter, Plan, PlanNode, SizeSet, Sort};
 use std::alloc::Global;
-use std::process::Abort;
 use std::test::Fail;
 
-// A place in a short table.
+/// A place in a short table.
 pub fn place_of(index: usize) -> u64 {
     index.min(99) as u64
 }
 
-// The node of a slot.
+/// The node of a slot.
 pub fn slot_of(plan: &Plan<u64>, node: PlanNode, place: u64, meter: &mut Meter) -> Option<PlanNode>
     requires { node < length (sites_of plan.now.pools plan.now.root) }
     ensures { IfSome result (λ n. n < length (sites_of plan.now.pools plan.now.root)) }
@@ -39,14 +38,13 @@ pub fn item_of(plan: &Plan<u64>, node: PlanNode, place: u32, meter: &mut Meter) 
     }
 }
 
-/// Fails unless a set has these sizes, and no other.
+/// Notes it unless a set has these sizes, and no other.
 pub fn are_sizes<S: SizeSet>(
-    rt: &impl Abort,
+    report: &mut Report,
     alloc: Global,
+    what: &str,
     set: S,
     wanted: &[u32],
-    what: &str,
-    name: &str,
 ) -> Result<(), Fail> {
     let mut sizes = Vec::new(alloc);
     for n in 0..S::BITS {
@@ -54,11 +52,10 @@ pub fn are_sizes<S: SizeSet>(
             sizes.push(n)?;
         }
     }
-    is_value(rt, &sizes.as_slice(), &wanted, what, name);
-    Ok(())
+    Ok(report.is_value(what, &sizes.as_slice(), &wanted)?)
 }
 
-// The sizes that the slots of a row from a place on can take; none where there is no such place.
+/// The sizes that the slots of a row from a place on can take; none where there is no such place.
 pub fn rest_of(
     plan: &Plan<u64>,
     node: PlanNode,
@@ -102,5 +99,29 @@ pub fn more_of(plan: &Plan<u64>, node: PlanNode, taken: u32) -> Option<u64>
     match plan.sort(node) {
         Sort::List => Some(plan.more(node, taken)),
         Sort::Leaf | Sort::Row => None,
+    }
+}
+
+/// A node of a plan: the root, the root's first slot, a slot of this one, or its items.
+#[derive(Clone, Copy)]
+pub enum At {
+    Root,
+    First,
+    Slot(u64),
+    Item,
+}
+
+pub fn node_at(plan: &Plan<u64>, at: At, meter: &mut Meter) -> Option<PlanNode>
+    ensures { IfSome result (λ n. n < length (sites_of plan.now.pools plan.now.root)) }
+{
+    let root = plan.root();
+    if let At::Root = at {
+        return Some(root);
+    }
+    let first = slot_of(plan, root, 0, meter)?;
+    match at {
+        At::Root | At::First => Some(first),
+        At::Slot(place) => slot_of(plan, first, place, meter),
+        At::Item => item_of(plan, first, 0, meter),
     }
 }

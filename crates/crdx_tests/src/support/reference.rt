@@ -4,6 +4,7 @@ ghost use Rattle.std.specs.Prelude.{◌≡◌, IsTrue, IfOk};
 ghost use Rattle.jtree.specs.Data.{IsNameBefore};
 ghost use Rattle.schema.specs.Nodes.View.{node_of};
 
+use crate::support::plain_stored::{Before, Judged, is_plainly_stored, is_within, meets_junctors};
 use explain::{Step, path_below};
 use jtree::{Items, Member, Members, Text, Tree};
 use plan::Pools;
@@ -11,7 +12,6 @@ use schema::{
     Below, Bounds, Branches, Field, Fields, Node, ScalarKind, ScalarNode, Sort, Validations,
 };
 use std::alloc::{AllocError, Global};
-use stored::is_stored;
 
 /// The parts of a node with this path over pools of at most `limit` nodes, in the tree order, each once.
 pub fn plain_parts(
@@ -22,8 +22,8 @@ pub fn plain_parts(
     limit: u64,
 ) -> Result<Vec<Tree>, AllocError> {
     let mut parts = Vec::new(alloc);
-    for value in values_at(alloc, node, path, pools, limit)? {
-        if is_stored(node, &value) {
+    for value in plain_values(alloc, node, path, pools, limit)? {
+        if is_plainly_stored(node, &value) {
             parts.push(value)?;
         }
     }
@@ -34,7 +34,7 @@ pub fn plain_parts(
 
 /// The values over pools of at most `limit` nodes that can be at a node, stored or not.
 #[cycle(values)]
-fn values_at(
+pub fn plain_values(
     alloc: Global,
     node: &Node,
     path: &str,
@@ -128,7 +128,7 @@ fn values_of(
         }
         Sort::List(list) => {
             let below = path_below(alloc, path, Step::Item)?;
-            let items = values_at(alloc, node_below(&list.item), &below, pools, room)?;
+            let items = plain_values(alloc, node_below(&list.item), &below, pools, room)?;
             lists(alloc, &items, room)
         }
     }
@@ -260,14 +260,6 @@ pub fn map_ending<'a>(
     })
 }
 
-/// What is before a place: how many members, and which of the named fields, the first of them at the lowest bit.
-#[derive(Clone, Copy)]
-pub struct Before<'a> {
-    pub taken: u64,
-    pub named: &'a [Text],
-    pub seen: u8,
-}
-
 /// The numbers of nodes of what may be in these slots, of at most `limit` nodes together: none is left empty that must be
 /// filled, and with what is before them the whole may end.
 pub fn plain_rest(
@@ -299,10 +291,11 @@ fn is_filled(row: &Members, slots: &[Choice]) -> bool {
 
 fn may_end(row: &Members, ending: Ending<'_>, before: Before<'_>) -> bool {
     let is_met = match ending.junctors {
-        Some(junctors) => is_met(junctors, row, before),
+        Some(junctors) => meets_junctors(junctors, Judged::Fields(row, before)),
         None => true,
     };
-    is_met && is_within(row, ending.bounds, before.taken)
+    let count = before.taken.saturating_add(row.members.len() as u64);
+    is_met && is_within(ending.bounds, count)
 }
 
 /// The fields that junctors name, by bytes, each once.
@@ -341,56 +334,6 @@ fn push_named_in(
         push_named(alloc, names, branch)?;
     }
     Ok(())
-}
-
-/// Whether junctors hold of a row with what is before it, by how many of their branches do.
-#[cycle(met)]
-fn is_met(validations: &Validations, row: &Members, before: Before<'_>) -> bool {
-    let all = &validations.all_of;
-    let any = &validations.any_of;
-    let one = &validations.one_of;
-    met_branches(all, row, before) == all.branches.len()
-        && (any.branches.is_empty() || met_branches(any, row, before) > 0)
-        && (one.branches.is_empty() || met_branches(one, row, before) == 1)
-        && met_branches(&validations.negated, row, before) == 0
-}
-
-#[cycle(met)]
-fn met_branches(branches: &Branches, row: &Members, before: Before<'_>) -> usize {
-    let mut count: usize = 0;
-    for branch in &branches.branches {
-        if has_names(&branch.constraints.required.names, row, before)
-            && is_met(branch, row, before)
-        {
-            count = count.saturating_add(1);
-        }
-    }
-    count
-}
-
-fn has_names(names: &[Text], row: &Members, before: Before<'_>) -> bool {
-    for name in names {
-        if row.get(name.as_str()).is_none() && !is_seen(name, before) {
-            return false;
-        }
-    }
-    true
-}
-
-fn is_seen(name: &Text, before: Before<'_>) -> bool {
-    let mut seen = before.seen;
-    for other in before.named {
-        if *other == *name {
-            return seen % 2 == 1;
-        }
-        seen /= 2;
-    }
-    false
-}
-
-fn is_within(row: &Members, bounds: Bounds, taken: u64) -> bool {
-    let count = taken.saturating_add(row.members.len() as u64);
-    bounds.least.unwrap_or(0) <= count && count <= bounds.most.unwrap_or(u64::MAX)
 }
 
 /// The numbers of nodes of the items after the first `taken`, over the lists among these parts that have so many.
@@ -470,7 +413,7 @@ fn field_choices(
     let mut choices = Vec::new(alloc);
     for field in &fields.fields {
         let below = path_below(alloc, path, Step::Field(field.name.as_str()))?;
-        let values = values_at(alloc, &field.node, &below, pools, room)?;
+        let values = plain_values(alloc, &field.node, &below, pools, room)?;
         let asked = asks_for(alloc, pools, path, Step::Field(field.name.as_str()))?;
         choices.push(choice_of_field(alloc, field, values, asked)?)?;
     }
@@ -486,7 +429,7 @@ fn name_choices(
     room: u64,
 ) -> Result<Vec<Choice>, AllocError> {
     let below = path_below(alloc, path, Step::Value)?;
-    let values = values_at(alloc, node, &below, pools, room)?;
+    let values = plain_values(alloc, node, &below, pools, room)?;
     choices_of_names(alloc, pools, &values)
 }
 

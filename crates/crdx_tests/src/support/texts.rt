@@ -2,6 +2,22 @@
 use std::alloc::{AllocError, Global};
 use std::test::Fail;
 
+/// A row of long texts: a text so many times, a text between, another text as often, and what is said of the whole.
+pub struct Border {
+    pub name: &'static str,
+    pub before: &'static str,
+    pub times: usize,
+    pub middle: &'static str,
+    pub after: &'static str,
+    pub wanted: &'static str,
+}
+
+impl Border {
+    pub fn text(&self, alloc: Global) -> Result<String, AllocError> {
+        nested(alloc, self.before, self.times, self.middle, self.after)
+    }
+}
+
 fn push_times(text: &mut String, part: &str, times: usize) -> Result<(), AllocError> {
     for _ in 0..times {
         text.push_str(part)?;

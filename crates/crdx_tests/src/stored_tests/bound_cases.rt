@@ -1,8 +1,9 @@
 //! What validity is made of, and other crates call: numbers of parts within bounds, and junctors by any test of a branch.
 use crate::support::harness::schema_of_field;
 use crate::support::nodes::first_field;
+use crate::support::report::Report;
 use schema::{Bounds, Constraints, Node, Sort, Validations};
-use std::process::Abort;
+use std::alloc::{AllocError, Global};
 use std::test::Fail;
 use stored::is_within;
 use stored::junctors::{BranchTest, meets_junctors};
@@ -60,25 +61,38 @@ static COUNTS: [CountRow; 6] = [
     },
 ];
 
-/// Fails unless each of these counts is within the bounds of the row, or none is.
-fn try_counts(rt: &impl Abort, row: &CountRow, counts: &[u64], wanted: bool) {
+/// Notes each of these counts that is within the bounds and is not to be, or the other way round.
+fn are_within(
+    report: &mut Report,
+    alloc: Global,
+    bounds: Bounds,
+    counts: &[u64],
+    wanted: bool,
+) -> Result<(), AllocError> {
     for count in counts {
-        let bounds = Bounds {
-            least: row.least,
-            most: row.most,
-        };
-        let found = is_within(bounds, *count);
-        assert_eq!(rt; found, wanted, "{count} of {}", row.name);
+        let what = format!(in alloc; "whether {count} is within")?;
+        report.is_value(what.as_str(), &is_within(bounds, *count), &wanted)?;
     }
+    Ok(())
+}
+
+fn try_counts(report: &mut Report, alloc: Global, row: &CountRow) -> Result<(), Fail> {
+    let bounds = Bounds {
+        least: row.least,
+        most: row.most,
+    };
+    are_within(report, alloc, bounds, row.within, true)?;
+    Ok(are_within(report, alloc, bounds, row.outside, false)?)
 }
 
 #[test]
 fn counts(rt: HostRuntime) -> Result<(), Fail> {
+    let mut report = Report::new(rt.alloc());
     for row in &COUNTS {
-        try_counts(&rt, row, row.within, true);
-        try_counts(&rt, row, row.outside, false);
+        let ended = try_counts(&mut report, rt.alloc(), row);
+        report.row(row.name, ended)?;
     }
-    Ok(())
+    report.end(&rt)
 }
 
 /// The test that a branch meets where it says `exclusiveMinimum`.
@@ -191,17 +205,22 @@ fn asked_of_field(root: &Node) -> Result<&Validations, Fail> {
     }
 }
 
-fn try_junctors(rt: &impl Abort, row: &JunctorRow, root: &Node) -> Result<(), Fail> {
+fn are_met(report: &mut Report, row: &JunctorRow, root: &Node) -> Result<(), Fail> {
     let found = meets_junctors(&Marked, asked_of_field(root)?);
-    assert_eq!(rt; found, row.are_met, "{}", row.name);
-    Ok(())
+    Ok(report.is_value("whether the junctors are met", &found, &row.are_met)?)
+}
+
+fn try_junctors(report: &mut Report, alloc: Global, row: &JunctorRow) -> Result<(), Fail> {
+    let schema = schema_of_field(alloc, row.field)?;
+    are_met(report, row, schema.root())
 }
 
 #[test]
 fn junctors(rt: HostRuntime) -> Result<(), Fail> {
+    let mut report = Report::new(rt.alloc());
     for row in &JUNCTORS {
-        let schema = schema_of_field(rt.alloc(), row.field)?;
-        try_junctors(&rt, row, schema.root())?;
+        let ended = try_junctors(&mut report, rt.alloc(), row);
+        report.row(row.name, ended)?;
     }
-    Ok(())
+    report.end(&rt)
 }

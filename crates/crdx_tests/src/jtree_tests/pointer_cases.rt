@@ -1,0 +1,74 @@
+//! The tokens of pointers.
+use crate::support::harness::is_said;
+use crate::support::report::Report;
+use jtree::{push_index, push_name};
+use std::alloc::Global;
+use std::test::Fail;
+
+/// The name of a member, and its token.
+struct TokenRow {
+    name: &'static str,
+    member: &'static str,
+    token: &'static str,
+}
+
+static NAMES: [TokenRow; 6] = [
+    TokenRow {
+        name: "a tilde and a slash",
+        member: "a~b/c",
+        token: "/a~0b~1c",
+    },
+    TokenRow {
+        name: "a tilde before a 1",
+        member: "~1",
+        token: "/~01",
+    },
+    TokenRow {
+        name: "a tilde before a 0",
+        member: "~0",
+        token: "/~00",
+    },
+    TokenRow {
+        name: "slashes alone",
+        member: "//",
+        token: "/~1~1",
+    },
+    TokenRow {
+        name: "letters of two and four bytes",
+        member: "é~😀/",
+        token: "/é~0😀~1",
+    },
+    TokenRow {
+        name: "the empty name",
+        member: "",
+        token: "/",
+    },
+];
+
+fn token(alloc: Global, name: &str) -> Result<String, Fail> {
+    let mut text = String::new(alloc);
+    push_name(&mut text, name)?;
+    Ok(text)
+}
+
+fn below_x(alloc: Global) -> Result<String, Fail> {
+    let mut text = String::from_str(alloc, "/x")?;
+    push_index(&mut text, 0)?;
+    push_name(&mut text, "y")?;
+    push_index(&mut text, 18_446_744_073_709_551_615)?;
+    Ok(text)
+}
+
+#[test]
+fn pointers(rt: HostRuntime) -> Result<(), Fail> {
+    let mut report = Report::new(rt.alloc());
+    for row in &NAMES {
+        let found = token(rt.alloc(), row.member);
+        let ended = is_said(&mut report, "the token", found, row.token);
+        report.row(row.name, ended)?;
+    }
+    let wanted = "/x/0/y/18446744073709551615";
+    let ended = is_said(&mut report, "the pointer", below_x(rt.alloc()), wanted);
+    report.row("names and indices", ended)?;
+    report.end(&rt)
+}

@@ -1,0 +1,373 @@
+//! The pools document that is suggested around an object, and why there is none.
+use crate::support::report::Report;
+use crate::support::suggestions::{has_member, suggested};
+use jtree::Tree;
+use plan::PoolLimits;
+use std::alloc::{AllocError, Global};
+use std::test::Fail;
+use suggest::SuggestFault;
+
+const NESTED: &str =
+    r#"{"type":"object","properties":{"list":{"type":"array","x-kubernetes-list-type":"map",
+        "x-kubernetes-list-map-keys":["k"],"items":{"type":"object","required":["k"],
+        "properties":{"k":{"type":"string"}}}},"spec":{"type":"object",
+        "properties":{"a":{"type":"integer"},"b":{"type":"object",
+        "properties":{"c":{"type":"string","format":"date"},"d":{"type":"boolean"}}},"e":{"type":"string"}}},
+        "status":{"type":"object","properties":{"g":{"type":"boolean"}}}}}"#;
+
+const OBJECT: &str = r#"[{"list":[{"k":"p"}],"spec":{"a":5,"b":{"c":"x"},"e":"y"}}]"#;
+
+/// Objects of `NESTED`, the varied paths, those that never occur, and the members `fixed`, `present` and `paths`.
+struct VariedRow {
+    name: &'static str,
+    objects: &'static str,
+    varied: &'static str,
+    without: &'static str,
+    fixed: &'static str,
+    present: &'static str,
+    paths: &'static str,
+}
+
+static VARIED: [VariedRow; 8] = [
+    VariedRow {
+        name: "siblings that are there and one that is not",
+        objects: OBJECT,
+        varied: "/spec/a",
+        without: "",
+        fixed: r#"{"/list":[[{"k":"p"}]],"/spec/b":[{"c":"x"}],"/spec/e":["y"],"/status":[]}"#,
+        present: r#"["/list","/spec","/spec/b","/spec/e"]"#,
+        paths: r#"{"/spec/a":[5,0,1]}"#,
+    },
+    VariedRow {
+        name: "all below a path",
+        objects: OBJECT,
+        varied: "/spec/b",
+        without: "",
+        fixed: r#"{"/list":[[{"k":"p"}]],"/spec/a":[5],"/spec/e":["y"],"/status":[]}"#,
+        present: r#"["/list","/spec","/spec/a","/spec/e"]"#,
+        paths: r#"{"/spec/b/c":["x","1970-01-01","2030-12-31"]}"#,
+    },
+    VariedRow {
+        name: "two levels down, where nothing stands",
+        objects: OBJECT,
+        varied: "/spec/b/d",
+        without: "",
+        fixed: r#"{"/list":[[{"k":"p"}]],"/spec/a":[5],"/spec/b/c":["x"],"/spec/e":["y"],"/status":[]}"#,
+        present: r#"["/list","/spec","/spec/a","/spec/b","/spec/b/c","/spec/e"]"#,
+        paths: "",
+    },
+    VariedRow {
+        name: "two paths",
+        objects: OBJECT,
+        varied: "/status /spec/a",
+        without: "",
+        fixed: r#"{"/list":[[{"k":"p"}]],"/spec/b":[{"c":"x"}],"/spec/e":["y"]}"#,
+        present: r#"["/list","/spec","/spec/b","/spec/e"]"#,
+        paths: r#"{"/spec/a":[5,0,1]}"#,
+    },
+    VariedRow {
+        name: "a path that is left out besides",
+        objects: OBJECT,
+        varied: "/spec/a",
+        without: "/spec/e",
+        fixed: r#"{"/list":[[{"k":"p"}]],"/spec/b":[{"c":"x"}],"/spec/e":[],"/status":[]}"#,
+        present: r#"["/list","/spec","/spec/b"]"#,
+        paths: r#"{"/spec/a":[5,0,1]}"#,
+    },
+    VariedRow {
+        name: "an object with nothing in it",
+        objects: "[{}]",
+        varied: "/spec",
+        without: "",
+        fixed: r#"{"/list":[],"/status":[]}"#,
+        present: "",
+        paths: r#"{"/spec/b/c":["1970-01-01","2030-12-31"]}"#,
+    },
+    VariedRow {
+        name: "no varied path",
+        objects: OBJECT,
+        varied: "",
+        without: "/status /list/[]/k",
+        fixed: r#"{"/list/[]/k":[],"/status":[]}"#,
+        present: "",
+        paths: r#"{"/list/[]/k":["p"],"/spec/a":[5],"/spec/b/c":["x"],"/spec/e":["y"]}"#,
+    },
+    VariedRow {
+        name: "no object",
+        objects: "[]",
+        varied: "",
+        without: "/status",
+        fixed: r#"{"/status":[]}"#,
+        present: "",
+        paths: r#"{"/spec/b/c":["1970-01-01","2030-12-31"]}"#,
+    },
+];
+
+/// What is answered: a document, or why there is none.
+#[derive(Clone, Copy, Debug, PartialEq)]
+enum Answer<'a> {
+    Suggested,
+    BadPath(&'a str),
+    NotInObject(&'a str),
+    TooLarge,
+    NoMemory,
+}
+
+/// Objects of `NESTED`, the varied paths, those that never occur, and why there is no document.
+struct Refused {
+    name: &'static str,
+    objects: &'static str,
+    varied: &'static str,
+    without: &'static str,
+    answer: Answer<'static>,
+}
+
+static FAULTS: [Refused; 12] = [
+    Refused {
+        name: "no such field",
+        objects: OBJECT,
+        varied: "/spec/x",
+        without: "",
+        answer: Answer::BadPath("/spec/x"),
+    },
+    Refused {
+        name: "through a list",
+        objects: OBJECT,
+        varied: "/list/[]/k",
+        without: "",
+        answer: Answer::BadPath("/list/[]/k"),
+    },
+    Refused {
+        name: "the beginning of a name",
+        objects: OBJECT,
+        varied: "/spe",
+        without: "",
+        answer: Answer::BadPath("/spe"),
+    },
+    Refused {
+        name: "no name",
+        objects: OBJECT,
+        varied: "/",
+        without: "",
+        answer: Answer::BadPath("/"),
+    },
+    Refused {
+        name: "nothing that the field belongs to",
+        objects: r#"[{"spec":{"a":5}}]"#,
+        varied: "/spec/b/c",
+        without: "",
+        answer: Answer::NotInObject("/spec/b/c"),
+    },
+    Refused {
+        name: "a null that the field would belong to",
+        objects: r#"[{"spec":null}]"#,
+        varied: "/spec/a",
+        without: "",
+        answer: Answer::NotInObject("/spec/a"),
+    },
+    Refused {
+        name: "no object",
+        objects: "[]",
+        varied: "/spec/a",
+        without: "",
+        answer: Answer::NotInObject("/spec/a"),
+    },
+    Refused {
+        name: "two objects",
+        objects: "[{},{}]",
+        varied: "/spec",
+        without: "",
+        answer: Answer::NotInObject("/spec"),
+    },
+    Refused {
+        name: "the first of two",
+        objects: r#"[{"spec":{}}]"#,
+        varied: "/spec/b/c /x",
+        without: "",
+        answer: Answer::NotInObject("/spec/b/c"),
+    },
+    Refused {
+        name: "an item of a map list",
+        objects: OBJECT,
+        varied: "",
+        without: "/list/[]",
+        answer: Answer::BadPath("/list/[]"),
+    },
+    Refused {
+        name: "no such path",
+        objects: "[]",
+        varied: "",
+        without: "/status /none",
+        answer: Answer::BadPath("/none"),
+    },
+    Refused {
+        name: "a varied path first",
+        objects: OBJECT,
+        varied: "/q",
+        without: "/none",
+        answer: Answer::BadPath("/q"),
+    },
+];
+
+fn try_varied(report: &mut Report, alloc: Global, row: &VariedRow) -> Result<(), Fail> {
+    let asked = (row.varied, row.without);
+    let document = suggested(alloc, NESTED, row.objects, asked, PoolLimits::STANDARD)??;
+    has_member(report, alloc, &document, "fixed", row.fixed)?;
+    has_member(report, alloc, &document, "present", row.present)?;
+    has_member(report, alloc, &document, "paths", row.paths)
+}
+
+#[test]
+fn varied(rt: HostRuntime) -> Result<(), Fail> {
+    let mut report = Report::new(rt.alloc());
+    for row in &VARIED {
+        let ended = try_varied(&mut report, rt.alloc(), row);
+        report.row(row.name, ended)?;
+    }
+    report.end(&rt)
+}
+
+fn answer_of(document: &Result<Tree, SuggestFault>) -> Answer<'_> {
+    match document {
+        Ok(_) => Answer::Suggested,
+        Err(SuggestFault::BadPath(path)) => Answer::BadPath(path.as_str()),
+        Err(SuggestFault::NotInObject(path)) => Answer::NotInObject(path.as_str()),
+        Err(SuggestFault::TooLarge) => Answer::TooLarge,
+        Err(SuggestFault::NoMemory) => Answer::NoMemory,
+    }
+}
+
+/// What a fault prints: each phrase once.
+fn phrase_of(alloc: Global, answer: Answer<'_>) -> Result<String, AllocError> {
+    match answer {
+        Answer::Suggested => String::from_str(alloc, "no fault"),
+        Answer::BadPath(path) => format!(in alloc; "bad path {path}"),
+        Answer::NotInObject(path) => format!(in alloc; "not in the object: {path}"),
+        Answer::TooLarge => String::from_str(alloc, "too large"),
+        Answer::NoMemory => String::from_str(alloc, "out of memory"),
+    }
+}
+
+fn said_of(alloc: Global, document: &Result<Tree, SuggestFault>) -> Result<String, AllocError> {
+    match document {
+        Ok(_) => String::from_str(alloc, "no fault"),
+        Err(fault) => fault.to_string(alloc),
+    }
+}
+
+fn is_answer(
+    report: &mut Report,
+    alloc: Global,
+    document: &Result<Tree, SuggestFault>,
+    wanted: Answer<'_>,
+) -> Result<(), Fail> {
+    report.is_value("the answer", &answer_of(document), &wanted)?;
+    let phrase = phrase_of(alloc, wanted)?;
+    Ok(report.is_text("what is printed", &said_of(alloc, document)?, &phrase)?)
+}
+
+fn try_fault(report: &mut Report, alloc: Global, row: &Refused) -> Result<(), Fail> {
+    let asked = (row.varied, row.without);
+    let document = suggested(alloc, NESTED, row.objects, asked, PoolLimits::STANDARD)?;
+    is_answer(report, alloc, &document, row.answer)
+}
+
+#[test]
+fn faults(rt: HostRuntime) -> Result<(), Fail> {
+    let mut report = Report::new(rt.alloc());
+    for row in &FAULTS {
+        let ended = try_fault(&mut report, rt.alloc(), row);
+        report.row(row.name, ended)?;
+    }
+    report.end(&rt)
+}
+
+/// Adds so many members with this value, each after a comma but the first.
+fn push_members(
+    alloc: Global,
+    text: &mut String,
+    count: u32,
+    value: &str,
+) -> Result<(), AllocError> {
+    for place in 0..count {
+        let comma = if place > 0 { "," } else { "" };
+        let member = format!(in alloc; r#"{comma}"f{place}":{value}"#)?;
+        text.push_str(&member)?;
+    }
+    Ok(())
+}
+
+/// Objects, one in the other under `p`, three in all, each after `begin` and with so many members of this value.
+fn nested_members(
+    alloc: Global,
+    begin: &str,
+    count: u32,
+    value: &str,
+) -> Result<String, AllocError> {
+    let mut text = String::from_str(alloc, begin)?;
+    push_members(alloc, &mut text, count, value)?;
+    for _level in 0..2u32 {
+        text.push_str(",\"p\":")?;
+        text.push_str(begin)?;
+        push_members(alloc, &mut text, count, value)?;
+    }
+    Ok(text)
+}
+
+/// The schema of three objects, one in the other, with so many truth values each; and a list of the object that has all.
+fn many_fields(alloc: Global, count: u32) -> Result<(String, String), AllocError> {
+    let begin = r#"{"type":"object","properties":{"#;
+    let mut schema = nested_members(alloc, begin, count, r#"{"type":"boolean"}"#)?;
+    schema.push_str("}}}}}}")?;
+    let mut objects = String::from_str(alloc, "[")?;
+    let object = nested_members(alloc, "{", count, "true")?;
+    objects.push_str(&object)?;
+    objects.push_str("}}}]")?;
+    Ok((schema, objects))
+}
+
+/// How many fields each of the objects has, the limits, and what is answered.
+struct ManyFields {
+    name: &'static str,
+    fields: u32,
+    limits: PoolLimits,
+    answer: Answer<'static>,
+}
+
+/// With so many fields three times, as many are present beside the varied one, and the two objects on the way.
+static MANY_FIELDS: [ManyFields; 3] = [
+    ManyFields {
+        name: "64 present",
+        fields: 21,
+        limits: PoolLimits::STANDARD,
+        answer: Answer::Suggested,
+    },
+    ManyFields {
+        name: "67 present",
+        fields: 22,
+        limits: PoolLimits::STANDARD,
+        answer: Answer::TooLarge,
+    },
+    ManyFields {
+        name: "67 present of 1,024",
+        fields: 22,
+        limits: PoolLimits::LARGE,
+        answer: Answer::Suggested,
+    },
+];
+
+fn try_many(report: &mut Report, alloc: Global, row: &ManyFields) -> Result<(), Fail> {
+    let (schema, objects) = many_fields(alloc, row.fields)?;
+    let document = suggested(alloc, &schema, &objects, ("/p/p/f0", ""), row.limits)?;
+    is_answer(report, alloc, &document, row.answer)
+}
+
+#[test]
+fn many_siblings(rt: HostRuntime) -> Result<(), Fail> {
+    let mut report = Report::new(rt.alloc());
+    for row in &MANY_FIELDS {
+        let ended = try_many(&mut report, rt.alloc(), row);
+        report.row(row.name, ended)?;
+    }
+    report.end(&rt)
+}

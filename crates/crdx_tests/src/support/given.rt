@@ -1,0 +1,113 @@
+//! What plans are made of, and the plans of it.
+ghost use Rattle.std.specs.Prelude.{IfOk};
+ghost use Rattle.plan.specs.Pools.PlanFault.{HasGoodPaths};
+
+use crate::support::documents::{
+    DEFAULTED, FIFTEEN, LABELS, MAP_LIST, NAMES, NULLABLE, ONE_OF_TWO, OPEN, REPEATED, SET, SPEC,
+    TRUTHS, TWO_INTEGER_KEYS, TWO_TEXTS, ZERO_AND_ONE, ZERO_AND_SEVEN,
+};
+use crate::support::harness::{pools_of, schema_of};
+use plan::Plan;
+use std::alloc::Global;
+use std::test::Fail;
+
+/// What a plan is made of: a schema, pools, and the most nodes of a sample.
+#[derive(Clone, Copy)]
+pub struct Given<'a> {
+    pub schema: &'a str,
+    pub pools: &'a str,
+    pub limit: u32,
+}
+
+/// The plan of what is given.
+pub fn made(alloc: Global, given: Given<'_>) -> Result<Plan<u64>, Fail>
+    ensures { IfOk result (λ plan. HasGoodPaths plan.root plan.pools) }
+{
+    let schema = schema_of(alloc, given.schema)?;
+    let pools = pools_of(alloc, given.pools)?;
+    Ok(Plan::new(alloc, schema, pools, given.limit)?)
+}
+
+/// An integer and a truth value. The samples are `TEN_LINES`.
+pub const TWO_FIELDS: Given<'static> = Given {
+    schema: SPEC,
+    pools: ZERO_AND_ONE,
+    limit: 4,
+};
+
+/// At least two of three truth values.
+pub const TWO_OF_THREE: Given<'static> = Given {
+    schema: TRUTHS,
+    pools: "{}",
+    limit: 4,
+};
+
+/// Exactly one of two truth values, and a third one.
+pub const ONE_OF_TWO_FIELDS: Given<'static> = Given {
+    schema: ONE_OF_TWO,
+    pools: "{}",
+    limit: 4,
+};
+
+/// A map list of items with two keys.
+pub const MAP_LISTS: Given<'static> = Given {
+    schema: MAP_LIST,
+    pools: TWO_TEXTS,
+    limit: 8,
+};
+
+/// A map list with two keys. It has 74 samples.
+pub const TWO_KEYED_LISTS: Given<'static> = Given {
+    schema: TWO_INTEGER_KEYS,
+    pools: ZERO_AND_ONE,
+    limit: 9,
+};
+
+/// Fifteen objects of three truth values, with 8^15 samples.
+pub const FIFTEEN_ITEMS: Given<'static> = Given {
+    schema: FIFTEEN,
+    pools: "{}",
+    limit: 63,
+};
+
+/// Sets of two integers. The samples are `SIX_SETS`.
+pub const SETS: Given<'static> = Given {
+    schema: SET,
+    pools: REPEATED,
+    limit: 4,
+};
+
+/// The same with the highest limit of a plan over 64 bits.
+pub const SETS_OF_63_NODES: Given<'static> = Given {
+    schema: SET,
+    pools: REPEATED,
+    limit: 63,
+};
+
+/// A field with a default.
+pub const DEFAULTS: Given<'static> = Given {
+    schema: DEFAULTED,
+    pools: ZERO_AND_SEVEN,
+    limit: 3,
+};
+
+/// A map over two names, one of which is listed twice.
+pub const LABELLED: Given<'static> = Given {
+    schema: LABELS,
+    pools: NAMES,
+    limit: 4,
+};
+
+/// An object that may be null.
+pub const NULLABLE_OBJECTS: Given<'static> = Given {
+    schema: NULLABLE,
+    pools: "{}",
+    limit: 2,
+};
+
+/// A value of four nodes, which is more than a sample may have.
+pub const LARGE_VALUES: Given<'static> = Given {
+    schema: OPEN,
+    pools: r#"{"any":[[1,2,3]]}"#,
+    limit: 2,
+};

@@ -1,0 +1,95 @@
+//! What is read of documents of pools.
+use crate::support::harness::is_said;
+use crate::support::report::Report;
+use jtree::Tree;
+use plan::{Oversized, PFault, PoolLimits, PoolName, Pools, oversized_pool};
+use std::alloc::{AllocError, Global};
+use std::test::Fail;
+
+/// The code, and the pointer where there is one.
+pub fn said(alloc: Global, fault: &PFault) -> Result<String, AllocError> {
+    match fault {
+        PFault::Form(pointer) => format!(in alloc; "{fault} {pointer:?}"),
+        _ => fault.to_string(alloc),
+    }
+}
+
+/// How many integers, strings, names, trees, paths, fixed paths and present paths there are.
+pub fn counts(alloc: Global, pools: &Pools) -> Result<String, AllocError> {
+    format!(in alloc;
+        "{} {} {} {} {} {} {}",
+        pools.integers().len(),
+        pools.strings().len(),
+        pools.names().len(),
+        pools.any().len(),
+        pools.paths().members.len(),
+        pools.fixed().members.len(),
+        pools.present().len()
+    )
+}
+
+fn name_of(pool: PoolName<'_>) -> &str {
+    match pool {
+        PoolName::Any => "any",
+        PoolName::Fixed => "fixed",
+        PoolName::FixedAt(path) => path,
+        PoolName::Integers => "integers",
+        PoolName::Names => "names",
+        PoolName::Paths => "paths",
+        PoolName::At(path) => path,
+        PoolName::Present => "present",
+        PoolName::Strings => "strings",
+    }
+}
+
+/// The code, the pool, how many entries it has, and how many are allowed.
+fn too_many(alloc: Global, oversized: Option<Oversized<'_>>) -> Result<String, AllocError> {
+    match oversized {
+        Some(of) => { format!(in alloc; "P2 {} {} {}", name_of(of.pool), of.found, of.allowed) }
+        None => String::from_str(alloc, "P2 of no pool"),
+    }
+}
+
+/// What is read, counted, or the fault.
+fn outcome_of(alloc: Global, document: &Tree, limits: PoolLimits) -> Result<String, AllocError> {
+    match Pools::read_within(alloc, document, limits) {
+        Ok(pools) => counts(alloc, &pools),
+        Err(PFault::TooLarge) => too_many(alloc, oversized_pool(document, limits)),
+        Err(fault) => said(alloc, &fault),
+    }
+}
+
+pub fn outcome(alloc: Global, document: &str, limits: PoolLimits) -> Result<String, Fail> {
+    let document = Tree::from_bytes(alloc, document.as_bytes())?;
+    Ok(outcome_of(alloc, &document, limits)?)
+}
+
+/// A document, and how many entries there are in each pool, or the fault.
+pub struct Document {
+    pub name: &'static str,
+    pub document: &'static str,
+    pub wanted: &'static str,
+}
+
+fn try_document(
+    report: &mut Report,
+    alloc: Global,
+    limits: PoolLimits,
+    row: &Document,
+) -> Result<(), Fail> {
+    let found = outcome(alloc, row.document, limits);
+    is_said(report, "what is read", found, row.wanted)
+}
+
+pub fn all_documents(
+    report: &mut Report,
+    alloc: Global,
+    limits: PoolLimits,
+    rows: &[Document],
+) -> Result<(), AllocError> {
+    for row in rows {
+        let ended = try_document(report, alloc, limits, row);
+        report.row(row.name, ended)?;
+    }
+    Ok(())
+}
