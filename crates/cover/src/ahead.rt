@@ -18,13 +18,15 @@ use crate::narrowing::{copy_of, narrowed};
 use crate::there::is_there;
 use crate::way::{PathStep, below};
 use enumerate::{Page, page};
+use explain::resolve;
 use jtree::Tree;
 use plan::{Plan, Pools, SizeSet};
+use schema::{Node, Sort};
 use std::alloc::{AllocError, Global};
 use stored::Schema;
 
 /// The most samples that are looked at ahead.
-const MOST: u32 = 2_048;
+const MOST: u32 = 512;
 
 /// The first samples of few nodes in which the path of the steps is there.
 #[derive(Drop)]
@@ -63,14 +65,72 @@ pub(crate) fn find_first<Z: SizeSet>(
     explain::laws::paths_have_one_text();
     stored::laws::stored_by_parts();
     ahead.truncate(kept(ahead.as_slice(), aim.steps));
-    let schema = look_ahead(alloc, schema, pools, limit, aim, ahead)?;
-    match found_ahead(alloc, ahead.as_slice(), aim)? {
+    let (schema, tree) = seen_ahead(alloc, schema, pools, limit, aim, ahead)?;
+    match tree {
         Some(tree) => Ok((schema, Some(tree))),
         None => {
             let narrow = narrowed(alloc, pools, aim.path, aim.value, aim.steps)?;
             first_sample::<Z>(alloc, schema, narrow, limit)
         }
     }
+}
+
+/// The sample that has what is wanted, where a look ahead has it: the last one, or else one from the object of a field, or from the end
+/// of the path, which are made and added; and the schema.
+fn seen_ahead(
+    alloc: Global,
+    schema: Schema,
+    pools: &Pools,
+    limit: u32,
+    aim: Aim<'_>,
+    ahead: &mut Vec<Ahead>,
+) -> Result<(Schema, Option<Tree>), AllocError>
+    requires limit { 1 ≤ limit }
+    requires paths { HasGoodPaths schema pools.now }
+    requires declared { IsDeclared schema (path_of aim.steps.now) }
+    ensures schema { IfOk result (λ r. r.0 ≡ schema) }
+    ensures sample { IfOk result (λ r. (q : Question) → q ≡ record { root = schema; pools = pools.now; limit = limit } → All (IsAhead q) ahead.old.items
+        → IfSome r.1 (λ t. IsFirstSample q (option_map (λ v. data_of v.now) aim.entry.value) (path_of aim.entry.steps.now) (Some (data_of t)))) }
+    ensures ahead { OnOk result ((q : Question) → q ≡ record { root = schema; pools = pools.now; limit = limit } → All (IsAhead q) ahead.old.items → All (IsAhead q) ahead.new.items) }
+{
+    let tree = found_ahead(alloc, ahead.as_slice(), aim)?;
+    if tree.is_some() {
+        return Ok((schema, tree));
+    }
+    let (schema, tree) = seen_from(alloc, schema, pools, limit, aim, front_length(aim), ahead)?;
+    if tree.is_some() {
+        return Ok((schema, tree));
+    }
+    let length = own_length(&schema, aim);
+    seen_from(alloc, schema, pools, limit, aim, length, ahead)
+}
+
+/// The sample that has what is wanted, where the look ahead has it that begins with so many steps and is made and added, unless the last
+/// one goes as far; and the schema.
+fn seen_from(
+    alloc: Global,
+    schema: Schema,
+    pools: &Pools,
+    limit: u32,
+    aim: Aim<'_>,
+    count: usize,
+    ahead: &mut Vec<Ahead>,
+) -> Result<(Schema, Option<Tree>), AllocError>
+    requires limit { 1 ≤ limit }
+    requires paths { HasGoodPaths schema pools.now }
+    requires declared { IsDeclared schema (path_of aim.steps.now) }
+    requires within { count ≤ length aim.steps.now }
+    ensures schema { IfOk result (λ r. r.0 ≡ schema) }
+    ensures sample { IfOk result (λ r. (q : Question) → q ≡ record { root = schema; pools = pools.now; limit = limit } → All (IsAhead q) ahead.old.items
+        → IfSome r.1 (λ t. IsFirstSample q (option_map (λ v. data_of v.now) aim.entry.value) (path_of aim.entry.steps.now) (Some (data_of t)))) }
+    ensures ahead { OnOk result ((q : Question) → q ≡ record { root = schema; pools = pools.now; limit = limit } → All (IsAhead q) ahead.old.items → All (IsAhead q) ahead.new.items) }
+{
+    if !goes_further(ahead.as_slice(), count) {
+        return Ok((schema, None));
+    }
+    let schema = look_ahead(alloc, schema, pools, limit, aim, count, ahead)?;
+    let tree = found_ahead(alloc, ahead.as_slice(), aim)?;
+    Ok((schema, tree))
 }
 
 /// How many of them are kept: those at the front whose path is a beginning of the path of the steps.
@@ -111,28 +171,27 @@ fn first_with<'a>(samples: &'a [Tree], value: Option<&Tree>, steps: &[PathStep])
     None
 }
 
-/// Adds the samples of a look ahead, where there is one for what is wanted that was not made yet; and answers the schema.
+/// Adds the samples of the look ahead that begins with so many steps; and answers the schema.
 fn look_ahead(
     alloc: Global,
     schema: Schema,
     pools: &Pools,
     limit: u32,
     aim: Aim<'_>,
+    count: usize,
     ahead: &mut Vec<Ahead>,
 ) -> Result<Schema, AllocError>
     requires limit { 1 ≤ limit }
     requires paths { HasGoodPaths schema pools.now }
     requires declared { IsDeclared schema (path_of aim.steps.now) }
+    requires some { 0 < count }
+    requires within { count ≤ length aim.steps.now }
     ensures schema { IfOk result (λ s. s ≡ schema) }
     ensures ahead { OnOk result ((q : Question) → q ≡ record { root = schema; pools = pools.now; limit = limit } → All (IsAhead q) ahead.old.items → All (IsAhead q) ahead.new.items) }
 {
     explain::laws::paths_have_one_text();
     stored::laws::stored_by_parts();
-    let length = front_length(aim);
-    if length == 0 || is_last(ahead.as_slice(), length) {
-        return Ok(schema);
-    }
-    let (front, _) = aim.steps.split_at(length);
+    let (front, _) = aim.steps.split_at(count);
     let steps = copies_of(alloc, front)?;
     let text = text_of(alloc, front)?;
     let narrow = narrowed(alloc, pools, &text, None, front)?;
@@ -152,11 +211,28 @@ fn front_length(aim: Aim<'_>) -> usize
     }
 }
 
-/// Whether the last look ahead begins with so many steps.
-fn is_last(ahead: &[Ahead], length: usize) -> bool {
+/// How many steps a look ahead of their own begins with: all, where the path leads to an object, a map or a list, so that it serves what
+/// is below too; else none.
+fn own_length(schema: &Schema, aim: Aim<'_>) -> usize
+    ensures { result ≤ length aim.entry.steps.now }
+{
+    match resolve(schema, aim.path) {
+        Ok(node) if leads_on(node) => aim.steps.len(),
+        _ => 0,
+    }
+}
+
+fn leads_on(node: &Node) -> bool {
+    matches!(&node.sort, Sort::Object(_) | Sort::Map(_) | Sort::List(_))
+}
+
+/// Whether a look ahead that begins with so many steps goes further than the last one.
+fn goes_further(ahead: &[Ahead], count: usize) -> bool
+    ensures { result ≡ true → 0 < count }
+{
     match ahead.last() {
-        Some(last) => last.steps.len() == length,
-        None => false,
+        Some(last) => last.steps.len() < count,
+        None => 0 < count,
     }
 }
 
@@ -170,7 +246,7 @@ fn few_samples(
     requires limit { 1 ≤ limit }
     requires paths { HasGoodPaths schema pools }
     ensures schema { IfOk result (λ r. r.0 ≡ schema) }
-    ensures samples { IfOk result (λ r. (few : ℕ) × ((few ≤ limit) × ((end : Bool) × IsPage (record { root = schema; pools = pools; limit = few }) None 2048 (trees_of r.1.items) end))) }
+    ensures samples { IfOk result (λ r. (few : ℕ) × ((few ≤ limit) × ((end : Bool) × IsPage (record { root = schema; pools = pools; limit = few }) None 512 (trees_of r.1.items) end))) }
 {
     match Plan::<u64>::new(alloc, schema, pools, limit.min(FEW)) {
         Ok(plan) => {
@@ -187,7 +263,7 @@ fn few_samples(
 /// The first samples of the plan.
 fn samples_of(alloc: Global, plan: &mut Plan<u64>) -> Result<Vec<Tree>, AllocError>
     ensures same { plan.new ≡ plan.old }
-    ensures samples { IfOk result (λ ts. (end : Bool) × IsPage plan.old None 2048 (trees_of ts.items) end) }
+    ensures samples { IfOk result (λ ts. (end : Bool) × IsPage plan.old None 512 (trees_of ts.items) end) }
 {
     let mut meter = plan.meter();
     match page(alloc, plan, None, MOST, &mut meter) {

@@ -23,8 +23,7 @@ first_sample-requires-clause-paths g c =
 pub returns-in-Some-clause-sample : goal.returns-in-Some-clause-sample
 returns-in-Some-clause-sample g c = λ q is old.
     let kept = subst (All (IsAhead q)) (sym c.truncate.ensures.items) (All-take (IsAhead q) c.kept.result c.args.ahead.now.items old) in
-    let next = subst (All (IsAhead q)) (sym c.as_slice-2.ensures.value) (c.in_ok-schema.ensures.ahead q is kept) in
-    let found = c.in_ok-tree.ensures q next in
+    let found = c.in_ok-schema.ensures.sample q is kept in
     rw c.in-Some.is at found
 
 pub returns-in-Some-clause-ahead : goal.returns-in-Some-clause-ahead
@@ -45,6 +44,6 @@ returns-in_ok-narrow-in-None-clause-sample g c =
 pub returns-in_ok-narrow-in-None-clause-ahead : goal.returns-in_ok-narrow-in-None-clause-ahead
 returns-in_ok-narrow-in-None-clause-ahead g c =
     IfOk-weaker c.first_sample.result (λ r. IsNextSample (record { root = c.in_ok-schema.schema; pools = c.in_ok-narrow-in-None.narrow; limit = c.args.limit }) None (tree_of r.1))
-    (λ r. (q : Question) → q ≡ record { root = c.args.schema; pools = c.args.pools.now; limit = c.args.limit } → All (IsAhead q) c.args.ahead.now.items → All (IsAhead q) c.look_ahead.new.ahead.items)
+    (λ r. (q : Question) → q ≡ record { root = c.args.schema; pools = c.args.pools.now; limit = c.args.limit } → All (IsAhead q) c.args.ahead.now.items → All (IsAhead q) c.seen_ahead.new.ahead.items)
     (λ r h q is old. c.in_ok-schema.ensures.ahead q is (subst (All (IsAhead q)) (sym c.truncate.ensures.items) (All-take (IsAhead q) c.kept.result c.args.ahead.now.items old)))
     c.first_sample.ensures.sample
