@@ -1,7 +1,7 @@
 -- The law `lines_cover`: what a cover is by itself.
-use Rattle.std.specs.Prelude.{◌≡◌, ◌∷◌, [], ◌++◌, ◌⊎◌, List, length, All, AllPairs, Contains}
+use Rattle.std.specs.Prelude.{◌∷◌, [], ◌++◌, ◌⊎◌, List, All, Contains}
 use Rattle.std.proofs.Common.{inl, inr, arith}
-use Rattle.std.proofs.lemmas.List.Elements.{All-push, All-weaker, All-nil, Contains-append_left, Contains-push}
+use Rattle.std.proofs.lemmas.List.Elements.{All-push, All-weaker, Contains-append_left, Contains-push}
 use Rattle.std.proofs.lemmas.List.Quantifiers.{all_pairs_push}
 use Rattle.jtree.specs.Data.{Data}
 use Rattle.jtree.specs.Order.{tree_cmp}

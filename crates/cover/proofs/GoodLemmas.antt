@@ -1,27 +1,24 @@
 -- The paths of the narrowed pools are good.
-use Rattle.std.proofs.Common.{◌≡◌, ◌≢◌, ◌⊎◌, ℕ, List, [], ◌∷◌, ◌++◌, Bool, true, false, Option, Some, None, refl, sym, ap, subst, ◌∙◌, inl, inr, append_assoc, append-nil, All, Contains}
-use Rattle.std.specs.Prelude.{option_and_then}
+use Rattle.std.proofs.Common.{◌≡◌, ◌≢◌, ◌⊎◌, ℕ, List, [], ◌∷◌, ◌++◌, Option, Some, None, refl, sym, subst, ◌∙◌, inl, inr, All}
 use Rattle.std.specs.Str.{bytes_eq}
 use Rattle.std.proofs.lemmas.List.Elements.{All-cons, All-nil, All-contains, Contains-append_cases}
 use Rattle.jtree.specs.Data.{Data, list, item, no_items, Members, no_members, member}
-use Rattle.jtree.specs.Path.{member_at}
 use Rattle.jtree.specs.Internal.Lookups.{bool_cases, option_cases, same_name}
 use Rattle.schema.specs.Nodes.Node.{Node}
 use Rattle.schema.specs.Nodes.ByPlace.{node_below, node_at}
 use Rattle.explain.specs.Paths.FieldPath.{FieldStep, FieldPath, place_step, place_of}
-use Rattle.explain.specs.Paths.PathText.{path_text, step_text}
+use Rattle.explain.specs.Paths.PathText.{path_text}
 use Rattle.explain.specs.Fields.Declared.{IsDeclared}
-use Rattle.explain.specs.Fields.PathFault.{IsTextOf}
 use Rattle.plan.specs.Pools.Pools.{Pools, fixed_at}
-use Rattle.plan.specs.Pools.PlanFault.{HasName, AreGood, IsDeclaredPath, HasGoodPaths}
+use Rattle.plan.specs.Pools.PlanFault.{HasName, IsDeclaredPath, HasGoodPaths}
 use Rattle.plan.specs.Samples.Site.{below}
-use Rattle.cover.specs.Internal.Narrowed.{beginnings, rest_at, kept_list, kept_lists, with_member, with_end, narrowed, MayBeWanted}
+use Rattle.cover.specs.Internal.Narrowed.{beginnings, kept_lists, with_member, with_end, narrowed, MayBeWanted}
 use Rattle.cover.proofs.KeptLemmas.{more_at}
 use Rattle.cover.proofs.SampleLemmas.{no_item}
 use Rattle.cover.proofs.PathLemmas.{text_below, append_one}
 
 -- a node on the way
-pub node_before : (N : Node) (a b : FieldPath) (M : Node) → node_at N (place_of (a ++ b)) ≡ Some M → (L : Node) × (node_at N (place_of a) ≡ Some L)
+node_before : (N : Node) (a b : FieldPath) (M : Node) → node_at N (place_of (a ++ b)) ≡ Some M → (L : Node) × (node_at N (place_of a) ≡ Some L)
 node_before N [] b M e = (N, refl)
 node_before N (s ∷ a) b M e = elim (option_cases (node_below N (place_step s))) [
   | inl none ↦ absurd (let h = rw none at e in cc)
@@ -30,7 +27,7 @@ node_before N (s ∷ a) b M e = elim (option_cases (node_below N (place_step s))
       (there.0, rw some.1 there.1)
 ]
 
-not_empty : (a : FieldPath) (s : FieldStep) → a ++ s ∷ [] ≢ []
+pub not_empty : (a : FieldPath) (s : FieldStep) → a ++ s ∷ [] ≢ []
 not_empty [] s e = cc
 not_empty (t ∷ a) s e = cc
 
@@ -54,7 +51,7 @@ kept_name o p (member k d ms) text has = elim (bool_cases (bytes_eq text k)) [
 ]
 
 -- the name of a member more is its own, or was there
-more_name : (k : List ℕ) (e : Data) (ms : Members) (text : List ℕ) → HasName (with_member k e ms) text → (text ≡ k) ⊎ HasName ms text
+pub more_name : (k : List ℕ) (e : Data) (ms : Members) (text : List ℕ) → HasName (with_member k e ms) text → (text ≡ k) ⊎ HasName ms text
 more_name k e ms text has = elim (bool_cases (bytes_eq text k)) [
   | inl same ↦ inl (same_name text k same)
   | inr other ↦ inr (has.0, rw other at (sym (more_at k e ms text) ∙ has.1))

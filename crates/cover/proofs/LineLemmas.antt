@@ -1,10 +1,9 @@
 -- What a path adds to the lines.
-use Rattle.std.proofs.Common.{append_assoc, ◌≡◌, ◌+◌, ◌≤◌, ◌<◌, ◌⊎◌, ℕ, List, [], ◌∷◌, ◌++◌, Bool, true, false, Option, Some, None, refl, sym, ap, subst, ◌∙◌, inl, inr, arith, All, Contains, map, length, get_or, take, drop}
+use Rattle.std.proofs.Common.{append_assoc, ◌≡◌, ◌+◌, ◌≤◌, ◌<◌, ℕ, List, [], ◌∷◌, ◌++◌, true, false, Some, None, refl, sym, ap, subst, ◌∙◌, inl, inr, arith, All, Contains, map, length, get_or, take, drop}
 use Rattle.std.specs.Prelude.{string_bytes}
 use Rattle.std.proofs.lemmas.List.{get_or-map, map-append, length-map, take_more, take_all, take-append-drop}
 use Rattle.std.proofs.lemmas.List.Elements.{All-map, All-weaker, All-contains}
 use Rattle.jtree.specs.Data.{Data}
-use Rattle.jtree.specs.Order.{tree_cmp}
 use Rattle.jtree.specs.View.{data_of}
 use Rattle.jtree.specs.declared.value.Tree.{Tree}
 use Rattle.schema.specs.Nodes.Node.{Node}
@@ -20,14 +19,12 @@ use Rattle.plan.specs.Pools.PlanFault.{HasGoodPaths, IsFirstBadPath, in_paths, i
 use Rattle.plan.specs.Samples.Question.{Question}
 use Rattle.plan.specs.declared.fault.PFault.{PFault}
 use Rattle.plan.specs.declared.fault.PFault.TheVariants.{NoMemory, BadLimit, BadPath, Form, TooLarge}
-use Rattle.enumerate.specs.Live.{IsNextSample}
 use Rattle.enumerate.specs.Page.{IsSampleOf}
-use Rattle.enumerate.specs.View.{tree_of}
 use Rattle.cover.specs.There.{is_there}
 use Rattle.cover.specs.Wanted.{Wanted, with_any, with_value}
 use Rattle.cover.specs.Cover.{Line, Covered, Has, Adds, had, never, first, AreCovered, more}
 use Rattle.cover.specs.View.{wanted_of, line_of, lines_of, covered_of}
-use Rattle.cover.specs.Internal.Ahead.{IsFirstSample}
+use Rattle.cover.specs.Internal.First.{IsFirstSample}
 use Rattle.cover.specs.declared.covering.Line.{Line as CodeLine}
 use Rattle.cover.specs.declared.covering.Covered.{Covered as CodeCovered}
 use Rattle.cover.specs.declared.covering.Wanted.{Wanted as CodeWanted}
@@ -36,7 +33,6 @@ use Rattle.plan.specs.Samples.Site.{below}
 use Rattle.cover.specs.Internal.Ways.{step_of, path_of}
 use Rattle.cover.specs.declared.way.PathStep.{PathStep}
 use Rattle.cover.proofs.PathLemmas.{OneText, text_below}
-use Rattle.cover.proofs.NarrowLemmas.{StoredLaw}
 use Rattle.cover.proofs.ThereLemmas.{there_before}
 use Rattle.cover.proofs.SampleLemmas.{has_text, text_there, first_has}
 
@@ -179,7 +175,7 @@ added_below one q wanted w p a b e split c d x covered has named kept pushed =
 
 -- ---- the beginnings of a path in the code
 
-pub more_steps : (xs : List PathStep) (i : ℕ) (x : PathStep) → i < length xs → x ≡ get_or xs i x → path_of (take (i + 1) xs) ≡ path_of (take i xs) ++ step_of x ∷ []
+more_steps : (xs : List PathStep) (i : ℕ) (x : PathStep) → i < length xs → x ≡ get_or xs i x → path_of (take (i + 1) xs) ≡ path_of (take i xs) ++ step_of x ∷ []
 more_steps xs i x lt is = ap path_of (take_more xs i x lt ∙ ap (λ y. take i xs ++ y ∷ []) (sym is)) ∙ map-append step_of (take i xs) (x ∷ [])
 
 pub next_beginning : (xs : List PathStep) (i : ℕ) (x : PathStep) (front next : List ℕ) → i < length xs → x ≡ get_or xs i x → front ≡ path_text (path_of (take i xs)) → next ≡ below front (step_of x)

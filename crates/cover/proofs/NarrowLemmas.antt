@@ -1,6 +1,6 @@
 -- Over the narrowed pools exactly those samples are left in which the path is there.
 use Rattle.std.proofs.Common.{◌≡◌, ◌↔◌, ◌⊎◌, ℕ, zero, suc, List, [], ◌∷◌, ◌++◌, Bool, true, false, Option, Some, None, refl, sym, ap, subst, ◌∙◌, inl, inr, append-nil}
-use Rattle.std.specs.Prelude.{◌&&◌, ◌||◌, not, is_some, nat_lt, unwrap_or, option_map, option_and_then}
+use Rattle.std.specs.Prelude.{◌&&◌, ◌||◌, not, is_some, nat_lt, unwrap_or, option_map}
 use Rattle.std.specs.Str.{bytes_eq}
 use Rattle.std.proofs.lemmas.Bool.{and_parts, and_from, or_cases}
 use Rattle.jtree.specs.Data.{Data, Items, no_items, Members, no_members, member, AreTrees, AreMembers, IsTree}
@@ -22,13 +22,13 @@ use Rattle.explain.specs.Paths.PathText.{path_text}
 use Rattle.plan.specs.Pools.Pools.{Pools, list_at, with_paths, fixed_at, is_present}
 use Rattle.plan.specs.Pools.FixedPaths.{is_map_list, IsMapItem}
 use Rattle.plan.specs.Samples.Part.{IsPart}
-use Rattle.plan.specs.Samples.Site.{below, fixed_below, fixed_item, plain}
+use Rattle.plan.specs.Samples.Site.{below, fixed_below, plain}
 use Rattle.schema.specs.Document.Texts.{is_among}
-use Rattle.plan.specs.Samples.Over.{choices_or, listed, all_names, is_in, asks_field, asks_below, has_present, has_enough, is_over_here, StepFollows, IsOverAlong, IsOver}
-use Rattle.cover.specs.There.{has_value, has_items, has_values, is_there}
+use Rattle.plan.specs.Samples.Over.{choices_or, listed, all_names, is_in, asks_field, has_present, has_enough, is_over_here, StepFollows, IsOverAlong, IsOver}
+use Rattle.cover.specs.There.{has_value, is_there}
 use Rattle.cover.proofs.WayLemmas.{found_field}
 use Rattle.cover.proofs.PathLemmas.{IsLeft, text_below, append_one}
-use Rattle.cover.proofs.PoolLemmas.{kept_of, end_alone, kept_fixed}
+use Rattle.cover.proofs.PoolLemmas.{end_alone, kept_fixed}
 use Rattle.cover.proofs.ThereLemmas.{left_there, below_there, or_right, in_kept, in_all, kept_pass, enough_items, enough_values, tree_same_by, value_there, some_items, some_values}
 
 -- the narrowed pools, by what they ask for and fix: `left` is what is left of a path after a text

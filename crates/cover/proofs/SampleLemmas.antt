@@ -1,29 +1,27 @@
 -- The samples of a narrowed question are those of the question in which the path is there.
-use Rattle.std.proofs.Common.{◌≡◌, ◌≢◌, ◌≤◌, ◌<◌, ◌↔◌, ◌⊎◌, ℕ, List, [], ◌∷◌, ◌++◌, Bool, true, false, Option, Some, None, refl, sym, ap, subst, ◌∙◌, inl, inr, arith}
+use Rattle.std.proofs.Common.{◌≡◌, ◌≢◌, ◌≤◌, ℕ, [], ◌∷◌, ◌++◌, true, Option, Some, None, refl, sym, ap, subst, ◌∙◌, inl, inr, arith}
 use Rattle.std.specs.Ordering.{nat_cmp, ordering_then}
 use Rattle.std.specs.Cmp.{nat_cmp_is}
 use Rattle.std.proofs.lemmas.Bool.{cases_lt}
 use Rattle.std.specs.declared.cmp.Ordering.{Ordering}
-use Rattle.std.specs.declared.cmp.Ordering.TheVariants.{Less, Equal, Greater}
+use Rattle.std.specs.declared.cmp.Ordering.TheVariants.{Less, Greater}
 use Rattle.jtree.specs.Data.{Data, Members}
 use Rattle.jtree.specs.Nodes.{nodes}
-use Rattle.jtree.specs.Order.{kind, tree_cmp, rank_cmp, content_cmp}
+use Rattle.jtree.specs.Order.{kind, tree_cmp, content_cmp}
 use Rattle.schema.specs.Nodes.Node.{Node}
 use Rattle.schema.specs.Nodes.ByPlace.{node_at}
 use Rattle.explain.specs.Fields.Declared.{IsDeclared}
-use Rattle.explain.specs.Fields.PathFault.{IsTextOf}
 use Rattle.explain.specs.Paths.FieldPath.{FieldPath, place_of}
 use Rattle.explain.specs.Paths.PathText.{path_text}
 use Rattle.plan.specs.Pools.FixedPaths.{IsMapItem}
 use Rattle.plan.specs.Pools.Pools.{Pools, fixed_at}
 use Rattle.plan.specs.Samples.Over.{IsOverAlong}
 use Rattle.plan.specs.Samples.Question.{Question}
-use Rattle.plan.specs.Samples.Site.{root_site, plain}
-use Rattle.plan.specs.Samples.Part.{IsPart, IsSample}
+use Rattle.plan.specs.Samples.Site.{plain}
+use Rattle.plan.specs.Samples.Part.{IsPart}
 use Rattle.enumerate.specs.Least.{IsLeast}
-use Rattle.enumerate.specs.Limit.{at_limit}
 use Rattle.enumerate.specs.Live.{IsNextSample}
-use Rattle.enumerate.specs.Page.{IsSampleOf, IsPastSample}
+use Rattle.enumerate.specs.Page.{IsSampleOf}
 use Rattle.std.specs.Prelude.{is_some}
 use Rattle.jtree.specs.View.{data_of}
 use Rattle.jtree.specs.declared.value.Tree.{Tree}
@@ -31,9 +29,9 @@ use Rattle.enumerate.specs.View.{tree_of}
 use Rattle.cover.specs.Cover.{Has}
 use Rattle.cover.specs.There.{is_there}
 use Rattle.cover.specs.Wanted.{Wanted}
-use Rattle.cover.specs.Internal.Ahead.{IsSampleWith}
+use Rattle.cover.specs.Internal.First.{IsSampleWith}
 use Rattle.cover.specs.Internal.Narrowed.{rest_at, kept_lists, with_end, beginnings, narrowed, narrower, MayBeWanted}
-use Rattle.cover.proofs.PathLemmas.{OneText, IsLeft, is_left}
+use Rattle.cover.proofs.PathLemmas.{OneText, is_left}
 use Rattle.cover.proofs.PoolLemmas.{kept_fixed, asked_more, fixed_kept}
 use Rattle.cover.proofs.NarrowLemmas.{StoredLaw, IsLeftAt, Narrows, narrow_along, wide_along, there_over}
 

@@ -1,5 +1,5 @@
 -- The candidates of a scalar may be wanted: no scalar is an item of a map list.
-use Rattle.std.proofs.Common.{◌≡◌, ◌<◌, ℕ, List, [], ◌∷◌, ◌++◌, Bool, true, false, Option, Some, None, refl, sym, ap, subst, ◌∙◌, inl, arith, All, Contains, map, length, get_or}
+use Rattle.std.proofs.Common.{◌≡◌, ℕ, List, [], ◌∷◌, ◌++◌, Bool, true, false, Option, Some, refl, sym, subst, ◌∙◌, inl, arith, All, Contains, map, get_or}
 use Rattle.std.proofs.lemmas.List.{get_or-map, length-map}
 use Rattle.jtree.specs.Data.{Data}
 use Rattle.jtree.specs.View.{data_of}

@@ -1,13 +1,11 @@
 -- Where paths lead from a node.
-use Rattle.std.proofs.Common.{◌≡◌, ◌≢◌, ◌⊎◌, ℕ, List, [], ◌∷◌, ◌++◌, Bool, true, false, Option, Some, None, refl, sym, ap, subst, ◌∙◌, inl, inr, append_assoc, append-nil, All}
+use Rattle.std.proofs.Common.{◌≡◌, ◌≢◌, ℕ, List, [], ◌∷◌, ◌++◌, Bool, false, Option, Some, sym, subst, ◌∙◌, inl, inr, append_assoc, append-nil, All}
 use Rattle.std.specs.Prelude.{option_map, option_and_then}
 use Rattle.std.specs.Str.{bytes_eq}
 use Rattle.std.proofs.lemmas.List.Elements.{All-head, All-tail}
-use Rattle.jtree.specs.Data.{Data}
 use Rattle.jtree.specs.View.{data_of}
 use Rattle.jtree.specs.Internal.Lookups.{bool_cases, option_cases, same_name, own_name}
-use Rattle.schema.specs.Nodes.Node.{Node, node, scalar, object, map, list, open_, Fields, no_fields, Validations}
-use Rattle.schema.specs.Nodes.Node as nodes
+use Rattle.schema.specs.Nodes.Node.{Node, node, scalar, object, map, list, open_, Fields, Validations}
 use Rattle.schema.specs.Nodes.ByPlace.{Declared, field_at, node_at}
 use Rattle.schema.specs.Nodes.View.{node_of, fields_of}
 use Rattle.schema.specs.declared.node.Field.{Field as CodeField}

@@ -1,5 +1,6 @@
 -- What only private contracts cite.
-pub mod Ahead
+pub mod Closed
+pub mod First
 pub mod MemberPlace
 pub mod Narrowed
 pub mod Ways

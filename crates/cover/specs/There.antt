@@ -1,7 +1,7 @@
 -- A path of a field is there in a value: under each name on the way there is a member, and each list and each map on the way has
 -- an item, in every one of which the rest of the path is there. So nothing is below a null. With a value, each value at its end is
 -- that one (this project's own).
-use Rattle.std.specs.Prelude.{List, [], ◌∷◌, Bool, true, false, Option, Some, None, ◌&&◌}
+use Rattle.std.specs.Prelude.{[], ◌∷◌, Bool, true, false, Option, Some, None, ◌&&◌}
 use Rattle.jtree.specs.Data.{Data, Items, no_items, item, Members, no_members, member}
 use Rattle.jtree.specs.Data as tree
 use Rattle.jtree.specs.Path.{member_at}

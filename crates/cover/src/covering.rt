@@ -12,12 +12,11 @@ ghost use Rattle.cover.specs.Cover.{AreCovered};
 ghost use Rattle.cover.specs.There.{is_there as is_there_of};
 ghost use Rattle.cover.specs.View.{covered_of, wanted_of as wanted_data_of};
 ghost use Rattle.cover.specs.Wanted.{AreValuesOf, AreWanted, Wanted as WantedData, with_any, with_value};
-ghost use Rattle.cover.specs.Internal.Ahead.{IsAhead};
 ghost use Rattle.cover.specs.Internal.Narrowed.{MayBeWanted};
 ghost use Rattle.cover.specs.Internal.Ways.{path_of};
 ghost use Rattle.cover.specs.declared.covering.Line.{Line as CodeLine};
 
-use crate::ahead::{Ahead, Aim, find_first};
+use crate::first::{Aim, find_first};
 use crate::narrowing::copy_of;
 use crate::there::is_there;
 use crate::values::values_of;
@@ -49,13 +48,6 @@ pub struct Covered {
     pub missed: Vec<Wanted>,
 }
 
-/// The lines so far, and the looks ahead that may serve what comes next.
-#[derive(Drop)]
-struct State {
-    covered: Covered,
-    ahead: Vec<Ahead>,
-}
-
 /// For each declared path of the plan's schema, in the order of the listing: nothing where the path is there in the sample of a line
 /// before, else a line with the first sample in which it is there, and where there is no such sample, the path is missed. With
 /// `values`, after a path that leads to a scalar the same for that path with each of its candidates over the pools, in the tree order.
@@ -69,20 +61,16 @@ pub fn cover<Z: SizeSet>(alloc: Global, plan: Plan<Z>, values: bool) -> Result<C
     let limit = plan.limit();
     let (mut schema, pools) = plan.into_parts();
     let listing = Listing::new(alloc, &schema)?;
-    let mut state = State {
-        covered: Covered {
-            lines: Vec::new(alloc),
-            missed: Vec::new(alloc),
-        },
-        ahead: Vec::new(alloc),
+    let mut covered = Covered {
+        lines: Vec::new(alloc),
+        missed: Vec::new(alloc),
     };
     for field in listing.fields() {
         let path = field.path.as_str();
         let found = values_of(alloc, values, &schema, &pools, path)?;
-        schema = add_wanted::<Z>(alloc, schema, &pools, limit, path, None, &mut state)?;
-        schema = add_values::<Z>(alloc, schema, &pools, limit, path, &found, &mut state)?;
+        schema = add_wanted::<Z>(alloc, schema, &pools, limit, path, None, &mut covered)?;
+        schema = add_values::<Z>(alloc, schema, &pools, limit, path, &found, &mut covered)?;
     }
-    let State { covered, ahead: _ } = state;
     Ok(covered)
 }
 
@@ -94,20 +82,19 @@ fn add_values<Z: SizeSet>(
     limit: u32,
     path: &str,
     values: &[Tree],
-    state: &mut State,
+    covered: &mut Covered,
 ) -> Result<Schema, AllocError>
     requires limit { (1 ≤ limit) × (limit < Z.BITS) }
     requires paths { HasGoodPaths schema pools.now }
     requires declared { IsTextOf (IsDeclared schema) path.now }
     requires values { (p : FieldPath) → path_text p ≡ path.now → All (λ v. MayBeWanted schema pools.now (Some (data_of v)) p) values.now }
     ensures schema { IfOk result (λ s. s ≡ schema) }
-    ensures adds { IfOk result (λ _. (q : Question) (wanted : List WantedData) → q ≡ record { root = schema; pools = pools.now; limit = limit } → All (IsAhead q) state.old.ahead.items → AreCovered q wanted (covered_of state.old.covered)
-        → AreCovered q (wanted ++ map (with_value path.now) (map (λ v. data_of v) values.now)) (covered_of state.new.covered)) }
-    ensures ahead { IfOk result (λ _. (q : Question) → q ≡ record { root = schema; pools = pools.now; limit = limit } → All (IsAhead q) state.old.ahead.items → All (IsAhead q) state.new.ahead.items) }
+    ensures adds { IfOk result (λ _. (q : Question) (wanted : List WantedData) → q ≡ record { root = schema; pools = pools.now; limit = limit } → AreCovered q wanted (covered_of covered.old)
+        → AreCovered q (wanted ++ map (with_value path.now) (map (λ v. data_of v) values.now)) (covered_of covered.new)) }
 {
     let mut schema = schema;
     for value in values {
-        schema = add_wanted::<Z>(alloc, schema, pools, limit, path, Some(value), state)?;
+        schema = add_wanted::<Z>(alloc, schema, pools, limit, path, Some(value), covered)?;
     }
     Ok(schema)
 }
@@ -120,25 +107,24 @@ fn add_wanted<Z: SizeSet>(
     limit: u32,
     path: &str,
     value: Option<&Tree>,
-    state: &mut State,
+    covered: &mut Covered,
 ) -> Result<Schema, AllocError>
     requires limit { (1 ≤ limit) × (limit < Z.BITS) }
     requires paths { HasGoodPaths schema pools.now }
     requires declared { IsTextOf (IsDeclared schema) path.now }
     requires value { (p : FieldPath) → path_text p ≡ path.now → MayBeWanted schema pools.now (option_map (λ v. data_of v.now) value) p }
     ensures schema { IfOk result (λ s. s ≡ schema) }
-    ensures adds { IfOk result (λ _. (q : Question) (wanted : List WantedData) → q ≡ record { root = schema; pools = pools.now; limit = limit } → All (IsAhead q) state.old.ahead.items → AreCovered q wanted (covered_of state.old.covered)
-        → AreCovered q (wanted ++ record { path = path.now; value = option_map (λ v. data_of v.now) value.entry } ∷ []) (covered_of state.new.covered)) }
-    ensures ahead { IfOk result (λ _. (q : Question) → q ≡ record { root = schema; pools = pools.now; limit = limit } → All (IsAhead q) state.old.ahead.items → All (IsAhead q) state.new.ahead.items) }
+    ensures adds { IfOk result (λ _. (q : Question) (wanted : List WantedData) → q ≡ record { root = schema; pools = pools.now; limit = limit } → AreCovered q wanted (covered_of covered.old)
+        → AreCovered q (wanted ++ record { path = path.now; value = option_map (λ v. data_of v.now) value.entry } ∷ []) (covered_of covered.new)) }
 {
     let steps = steps_of(alloc, &schema, path)?;
     explain::laws::paths_have_one_text();
-    if is_had(state.covered.lines.as_slice(), value, steps.as_slice()) {
+    if is_had(covered.lines.as_slice(), value, steps.as_slice()) {
         return Ok(schema);
     }
     let wanted = wanted_of(alloc, path, value)?;
-    if is_missed(alloc, state.covered.missed.as_slice(), steps.as_slice())? {
-        state.covered.missed.push(wanted)?;
+    if is_missed(alloc, covered.missed.as_slice(), steps.as_slice())? {
+        covered.missed.push(wanted)?;
         return Ok(schema);
     }
     let aim = Aim {
@@ -146,10 +132,10 @@ fn add_wanted<Z: SizeSet>(
         value,
         steps: steps.as_slice(),
     };
-    let (schema, tree) = find_first::<Z>(alloc, schema, pools, limit, aim, &mut state.ahead)?;
+    let (schema, tree) = find_first::<Z>(alloc, schema, pools, limit, aim)?;
     match tree {
-        Some(tree) => state.covered.lines.push(Line { wanted, tree })?,
-        None => state.covered.missed.push(wanted)?,
+        Some(tree) => covered.lines.push(Line { wanted, tree })?,
+        None => covered.missed.push(wanted)?,
     }
     Ok(schema)
 }

@@ -12,7 +12,7 @@
 //! What such lines say together is in `laws`.
 #![tactic(auto)]
 
-mod ahead;
+mod closing;
 mod covering;
 mod first;
 pub mod laws;

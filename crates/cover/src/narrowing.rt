@@ -1,31 +1,36 @@
-//! Pools over which exactly those samples are left in which a path is there, with a value where one is wanted.
+//! Pools whose first sample is the first one in which a path is there, with a value where one is wanted.
 ghost use Rattle.std.specs.Prelude.{◌≡◌, ◌≤◌, ◌<◌, ◌++◌, true, false, ℕ, List, [], Option, IfOk, IfErr, OnOk, option_map, length, map};
 ghost use Rattle.jtree.specs.Data.{list, item, no_items};
 ghost use Rattle.jtree.specs.View.{data_of, members_of};
 ghost use Rattle.cover.specs.There.{is_there as is_there_of};
+ghost use Rattle.cover.specs.Internal.Closed.{KeepsFirst};
 ghost use Rattle.cover.specs.Internal.Ways.{path_of};
 ghost use Rattle.cover.specs.Internal.Narrowed.{narrowed as narrowed_of, beginnings, rest_at, kept_list as kept_list_of, kept_lists as kept_lists_of, kept_items as kept_items_of, with_end as with_end_of, with_member as with_member_of};
 ghost use Rattle.cover.specs.Internal.MemberPlace.{IsPlace};
 ghost use Rattle.explain.specs.Paths.PathText.{path_text};
 ghost use Rattle.plan.specs.Pools.Pools.{fixed_at};
 
+use crate::closing::close_along;
 use crate::there::is_there;
 use crate::way::{PathStep, below};
 use jtree::{Items, Member, Members, Text, Tree};
 use plan::Pools;
 use std::alloc::{AllocError, Global};
 use std::cmp::Ordering;
+use stored::Schema;
 
-/// These pools, narrowed to the path of the steps, whose text is `path`, with a value where one is wanted.
+/// Pools whose first sample is that of these ones, narrowed to the path of the steps, whose text is `path`, with a value where one is
+/// wanted.
 pub(crate) fn narrowed(
     alloc: Global,
+    schema: &Schema,
     pools: &Pools,
     path: &str,
     value: Option<&Tree>,
     steps: &[PathStep],
 ) -> Result<Pools, AllocError>
     requires { path_text (path_of steps.now) ≡ path.now }
-    ensures { IfOk result (λ p. p ≡ narrowed_of pools.now (option_map (λ w. data_of w.now) value.entry) (path_of steps.now)) }
+    ensures { IfOk result (λ p. KeepsFirst schema.now (narrowed_of pools.now (option_map (λ w. data_of w.now) value.entry) (path_of steps.now)) p) }
 {
     let kept = kept_lists(alloc, value, steps, pools.fixed())?;
     let fixed = with_end(alloc, pools, path, value, kept)?;
@@ -34,6 +39,7 @@ pub(crate) fn narrowed(
         present.push(text.copy(alloc)?)?;
     }
     push_beginnings(alloc, steps, &mut present)?;
+    let fixed = close_along(alloc, &present, "", schema.root(), steps, fixed)?;
     pools.with_paths(alloc, fixed, present)
 }
 
@@ -157,7 +163,7 @@ fn list_of_one(alloc: Global, tree: &Tree) -> Result<Tree, AllocError>
 }
 
 /// The members with one more, in the order of their names, in place of the one of its name.
-fn with_member(lists: Members, member: Member) -> Result<Members, AllocError>
+pub(crate) fn with_member(lists: Members, member: Member) -> Result<Members, AllocError>
     ensures { IfOk result (λ ms. ms ≡ with_member_of member.name (data_of member.tree) lists) }
 {
     lists.reveal_invariant();

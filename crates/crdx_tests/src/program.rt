@@ -4,6 +4,7 @@ mod argument_cases;
 mod bad_path_cases;
 mod broken_sink_cases;
 mod check_cases;
+mod cover_beside_cases;
 mod cover_cases;
 mod envelope_cases;
 mod explain_cases;

@@ -1,5 +1,7 @@
 //! `cover`: for each path the first sample in which it is there, and with `--values` for each value the first one with it.
-use crate::support::documents::{AT_MOST_ONE, LIST_OF_OBJECTS, NULL_OR_TRUTH, ONE_OF_TWO, SPEC};
+use crate::support::documents::{
+    ALL_PATHS, AT_MOST_ONE, LIST_OF_OBJECTS, NULL_OR_TRUTH, ONE_OF_TWO, SPEC,
+};
 use crate::support::harness::{SchemaRun, all_schema_runs};
 use crate::support::report::Report;
 use std::test::Fail;
@@ -26,7 +28,7 @@ static ROWS: [SchemaRun<'static>; 32] = [
 {"spec":{"a":0}}
 {"spec":{"b":false}}
 "#,
-        err: "crdx: all paths are in some sample\n",
+        err: ALL_PATHS,
         status: 0,
     },
     SchemaRun {
@@ -81,7 +83,7 @@ static ROWS: [SchemaRun<'static>; 32] = [
 {"l":[{"a":false}]}
 {"l":[{"b":false}]}
 "#,
-        err: "crdx: all paths are in some sample\n",
+        err: ALL_PATHS,
         status: 0,
     },
     SchemaRun {
@@ -94,7 +96,7 @@ static ROWS: [SchemaRun<'static>; 32] = [
         out: r#"{"l":[{},{}]}
 {"l":[{"a":false},{"a":false}]}
 "#,
-        err: "crdx: all paths are in some sample\n",
+        err: ALL_PATHS,
         status: 0,
     },
     SchemaRun {
@@ -115,7 +117,7 @@ static ROWS: [SchemaRun<'static>; 32] = [
         out: r#"{"m":{}}
 {"m":{"k":false}}
 "#,
-        err: "crdx: all paths are in some sample\n",
+        err: ALL_PATHS,
         status: 0,
     },
     SchemaRun {
@@ -126,7 +128,7 @@ static ROWS: [SchemaRun<'static>; 32] = [
         out: r#"{"n":null}
 {"n":{"a":false}}
 "#,
-        err: "crdx: all paths are in some sample\n",
+        err: ALL_PATHS,
         status: 0,
     },
     SchemaRun {
@@ -136,7 +138,7 @@ static ROWS: [SchemaRun<'static>; 32] = [
         second: "{}",
         out: r#"{"o":{"c":false}}
 "#,
-        err: "crdx: all paths are in some sample\n",
+        err: ALL_PATHS,
         status: 0,
     },
     SchemaRun {
@@ -147,7 +149,7 @@ static ROWS: [SchemaRun<'static>; 32] = [
         out: r#"{"d":false}
 {"d":false,"e":false}
 "#,
-        err: "crdx: all paths are in some sample\n",
+        err: ALL_PATHS,
         status: 0,
     },
     SchemaRun {
@@ -159,7 +161,7 @@ static ROWS: [SchemaRun<'static>; 32] = [
 {"o":{"a":false}}
 {"o":{"b":false}}
 "#,
-        err: "crdx: all paths are in some sample\n",
+        err: ALL_PATHS,
         status: 0,
     },
     SchemaRun {
@@ -171,7 +173,7 @@ static ROWS: [SchemaRun<'static>; 32] = [
 {"o":{"a":false}}
 {"o":{"b":false,"c":false}}
 "#,
-        err: "crdx: all paths are in some sample\n",
+        err: ALL_PATHS,
         status: 0,
     },
     SchemaRun {
@@ -183,7 +185,7 @@ static ROWS: [SchemaRun<'static>; 32] = [
 {"spec":{"a":9}}
 {"spec":{"b":true}}
 "#,
-        err: "crdx: all paths are in some sample\n",
+        err: ALL_PATHS,
         status: 0,
     },
     SchemaRun {
@@ -205,7 +207,7 @@ static ROWS: [SchemaRun<'static>; 32] = [
         out: r#"{"spec":{"b":false}}
 {"spec":{"a":0,"b":false}}
 "#,
-        err: "crdx: all paths are in some sample\n",
+        err: ALL_PATHS,
         status: 0,
     },
     SchemaRun {
@@ -215,7 +217,7 @@ static ROWS: [SchemaRun<'static>; 32] = [
         second: "{}",
         out: r#"{"l":[true,true,true,true,true,true,true,true,true,true,true,true,true,true,true,true,true,true,true,true]}
 "#,
-        err: "crdx: all paths are in some sample\n",
+        err: ALL_PATHS,
         status: 0,
     },
     SchemaRun {

@@ -200,3 +200,6 @@ pub const ONE_OF_TWO_AT_THE_ROOT: &str = r#"{
 
 /// Pools with a number that is no integer.
 pub const FRACTION_IN_POOLS: &str = r#"{"integers":[1.5]}"#;
+
+/// What `cover` says where each path is in some sample.
+pub const ALL_PATHS: &str = "crdx: all paths are in some sample\n";

@@ -1,9 +1,8 @@
-use Rattle.std.proofs.Common.{◌≡◌, ◌∙◌, ◌++◌, [], Some, refl, sym, subst, ap, append-nil, arith, rules, map, length, take}
+use Rattle.std.proofs.Common.{◌≡◌, ◌∙◌, ◌++◌, Some, refl, sym, subst, ap, append-nil, arith, map, take}
 use Rattle.std.proofs.lemmas.List.{take_all}
 use Rattle.jtree.specs.View.{data_of}
 use Rattle.explain.specs.Fields.Declared.{IsDeclared}
 use Rattle.explain.specs.Fields.PathFault.{IsTextOf}
-use Rattle.explain.specs.Paths.FieldPath.{FieldPath}
 use Rattle.plan.specs.Pools.PlanFault.{HasGoodPaths}
 use Rattle.plan.specs.Samples.Question.{Question}
 use Rattle.cover.specs.Cover.{AreCovered}
@@ -14,7 +13,7 @@ use Rattle.cover.proofs.LineLemmas.{more_values}
 use Rattle.cover.proofs.covering.add_values.Goals as goal
 
 pub loop-value-init : goal.loop-value-init
-loop-value-init g c = record { schema = refl; covered = λ q wanted is ahead covered. subst (λ ws. AreCovered q ws (covered_of c.args.state.now.covered)) (sym (append-nil wanted)) covered; ahead = λ q is ahead. ahead }
+loop-value-init g c = record { schema = refl; covered = λ q wanted is covered. subst (λ ws. AreCovered q ws (covered_of c.args.covered.now)) (sym (append-nil wanted)) covered }
 
 pub add_wanted-requires-clause-paths : goal.add_wanted-requires-clause-paths
 add_wanted-requires-clause-paths g c = subst (λ r. HasGoodPaths r c.args.pools.now) (sym c.loop-value.invariant.schema) c.requires.paths
@@ -35,14 +34,13 @@ loop-value-preserved g c =
     is ∙ ap (λ r. record { root = r; pools = c.args.pools.now; limit = c.args.limit }) (sym inv.schema) in
     record {
       schema = c.in_ok-schema.ensures.schema ∙ inv.schema;
-      covered = λ q wanted is ahead covered.
+      covered = λ q wanted is covered.
           let before = wanted ++ map (with_value c.args.path.now) (map (λ v. data_of v) (take c.loop-value.value-index xs)) in
-          subst (λ ws. AreCovered q ws (covered_of c.add_wanted.new.state.covered)) (more_values wanted c.args.path.now xs c.loop-value.value-index c.value-item.result (omega arith) c.value-item.is)
-          (c.in_ok-schema.ensures.adds q before (here q is) (inv.ahead q is ahead) (inv.covered q wanted is ahead covered));
-      ahead = λ q is ahead. c.in_ok-schema.ensures.ahead q (here q is) (inv.ahead q is ahead);
+          subst (λ ws. AreCovered q ws (covered_of c.add_wanted.new.covered)) (more_values wanted c.args.path.now xs c.loop-value.value-index c.value-item.result (omega arith) c.value-item.is)
+          (c.in_ok-schema.ensures.adds q before (here q is) (inv.covered q wanted is covered));
     }
 
 pub returns-clause-adds : goal.returns-clause-adds
-returns-clause-adds g c = λ q wanted is ahead covered.
-    subst (λ xs. AreCovered q (wanted ++ map (with_value c.args.path.now) (map (λ v. data_of v) xs)) (covered_of c.loop-value.state.covered)) (take_all c.loop-value.value-index c.args.values.now (omega arith))
-    (c.loop-value.invariant.covered q wanted is ahead covered)
+returns-clause-adds g c = λ q wanted is covered.
+    subst (λ xs. AreCovered q (wanted ++ map (with_value c.args.path.now) (map (λ v. data_of v) xs)) (covered_of c.loop-value.covered)) (take_all c.loop-value.value-index c.args.values.now (omega arith))
+    (c.loop-value.invariant.covered q wanted is covered)

@@ -1,16 +1,14 @@
-use Rattle.std.proofs.Common.{◌≡◌, ◌++◌, List, All, map, take}
+use Rattle.std.proofs.Common.{◌≡◌, ◌++◌, List, map, take}
 use Rattle.jtree.specs.View.{data_of}
 use Rattle.plan.specs.Samples.Question.{Question}
 use Rattle.cover.specs.Cover.{AreCovered}
 use Rattle.cover.specs.View.{covered_of}
 use Rattle.cover.specs.Wanted.{Wanted, with_value}
-use Rattle.cover.specs.Internal.Ahead.{IsAhead}
 use Rattle.cover.proofs.covering.add_values.Given as goal
 
 abbrev pub invariant-loop-value : goal.invariant-loop-value
 invariant-loop-value g l = record {
   schema : l.schema ≡ l.fn.schema;
-  covered : (q : Question) (wanted : List Wanted) → q ≡ record { root = l.fn.schema; pools = l.pools; limit = l.limit } → All (IsAhead q) l.initial.state.ahead.items → AreCovered q wanted (covered_of l.initial.state.covered)
-      → AreCovered q (wanted ++ map (with_value l.path) (map (λ v. data_of v) (take l.value-index l.values))) (covered_of l.state.covered);
-  ahead : (q : Question) → q ≡ record { root = l.fn.schema; pools = l.pools; limit = l.limit } → All (IsAhead q) l.initial.state.ahead.items → All (IsAhead q) l.state.ahead.items;
+  covered : (q : Question) (wanted : List Wanted) → q ≡ record { root = l.fn.schema; pools = l.pools; limit = l.limit } → AreCovered q wanted (covered_of l.initial.covered)
+      → AreCovered q (wanted ++ map (with_value l.path) (map (λ v. data_of v) (take l.value-index l.values))) (covered_of l.covered);
 }

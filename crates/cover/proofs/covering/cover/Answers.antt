@@ -1,15 +1,12 @@
-use Rattle.std.proofs.Common.{◌≡◌, ◌∙◌, ◌++◌, ◌∷◌, [], Some, sym, subst, ap, refl, rules, append_assoc, arith, All, map, take}
-use Rattle.std.proofs.lemmas.List.Elements.{All-nil}
+use Rattle.std.proofs.Common.{◌∙◌, ◌++◌, ◌∷◌, [], Some, sym, subst, ap, append_assoc, arith, All, map, take}
 use Rattle.jtree.specs.View.{data_of}
 use Rattle.explain.specs.Fields.Declared.{AreFields, IsDeclared}
 use Rattle.explain.specs.Fields.PathFault.{IsTextOf}
 use Rattle.explain.specs.Fields.View.{field_of}
-use Rattle.plan.specs.Pools.PlanFault.{HasGoodPaths}
 use Rattle.cover.specs.Cover.{AreCovered, none}
 use Rattle.cover.specs.View.{covered_of}
 use Rattle.cover.specs.Wanted.{AreValuesOf, AreWanted, with_any, with_value}
 use Rattle.cover.specs.Wanted as wanted
-use Rattle.cover.specs.Internal.Ahead.{IsAhead}
 use Rattle.cover.specs.Internal.Narrowed.{MayBeWanted}
 use Rattle.cover.proofs.LineLemmas.{text_of, declared_field, same_question, next_paths, all_paths}
 use Rattle.cover.proofs.covering.cover.Goals as goal
@@ -20,7 +17,6 @@ loop-field-init g c = record {
   wanted = [];
   are = wanted.none;
   covered = rw (c.new-2.ensures.items, c.new-3.ensures.items) none;
-  ahead = subst (All (IsAhead c.args.plan)) (sym c.new-4.ensures.items) (All-nil (IsAhead c.args.plan));
 }
 
 pub values_of-requires : goal.values_of-requires
@@ -59,12 +55,11 @@ loop-field-preserved g c =
     let path = c.as_str-path.result.now in
     let vs = map (λ v. data_of v) c.in_ok-found.found.items in
     let now = c.in_ok-schema.ensures.schema in
-    let after = covered_of c.add_values.new.state.covered in
+    let after = covered_of c.add_values.new.covered in
     let same = same_question q c.loop-field.schema c.into_parts-schema.result.1 c.limit-limit.result inv.schema c.into_parts-schema.ensures.pools c.limit-limit.ensures in
     let next = same_question q c.in_ok-schema.schema c.into_parts-schema.result.1 c.limit-limit.result (now ∙ inv.schema) c.into_parts-schema.ensures.pools c.limit-limit.ensures in
-    let one = c.in_ok-schema.ensures.adds q inv.wanted same inv.ahead inv.covered in
-    let ahead = c.in_ok-schema.ensures.ahead q same inv.ahead in
-    let more = c.in_ok-schema-2.ensures.adds q (inv.wanted ++ with_any path ∷ []) next ahead one in
+    let one = c.in_ok-schema.ensures.adds q inv.wanted same inv.covered in
+    let more = c.in_ok-schema-2.ensures.adds q (inv.wanted ++ with_any path ∷ []) next one in
     let found : AreValuesOf c.args.values q.root q.pools path vs =
     subst (λ P. AreValuesOf c.args.values q.root P path vs) c.into_parts-schema.ensures.pools
     (subst (λ r. AreValuesOf c.args.values r c.into_parts-schema.result.1 path vs) inv.schema c.in_ok-found.ensures.values) in
@@ -75,7 +70,6 @@ loop-field-preserved g c =
       are = subst (λ ps. AreWanted c.args.values q ps (inv.wanted ++ with_any path ∷ map (with_value path) vs)) paths (wanted.more (map text_of (take i fs)) inv.wanted path vs inv.are found);
       covered = subst (λ ws. AreCovered q ws after) (append_assoc inv.wanted (with_any path ∷ []) (map (with_value path) vs))
           (subst (λ ts. AreCovered q ((inv.wanted ++ with_any path ∷ []) ++ map (with_value path) (map (λ v. data_of v) ts)) after) c.deref.ensures.value more);
-      ahead = c.in_ok-schema-2.ensures.ahead q next ahead;
     }
 
 pub returns : goal.returns

@@ -1,8 +1,7 @@
-use Rattle.std.proofs.Common.{◌≡◌, List, All, map, take}
+use Rattle.std.proofs.Common.{◌≡◌, List, map, take}
 use Rattle.cover.specs.Cover.{AreCovered}
 use Rattle.cover.specs.View.{covered_of}
 use Rattle.cover.specs.Wanted.{Wanted, AreWanted}
-use Rattle.cover.specs.Internal.Ahead.{IsAhead}
 use Rattle.cover.proofs.LineLemmas.{text_of}
 use Rattle.cover.proofs.covering.cover.Given as goal
 
@@ -11,6 +10,5 @@ invariant-loop-field g l = record {
   schema : l.schema ≡ l.fn.plan.root;
   wanted : List Wanted;
   are : AreWanted l.fn.values l.fn.plan (map text_of (take l.field-index l.field-items)) wanted;
-  covered : AreCovered l.fn.plan wanted (covered_of l.state.covered);
-  ahead : All (IsAhead l.fn.plan) l.state.ahead.items;
+  covered : AreCovered l.fn.plan wanted (covered_of l.covered);
 }

@@ -1,4 +1,4 @@
-use Rattle.std.proofs.Common.{◌≡◌, ◌∙◌, sym, subst, arith, false, take, All, option_map}
+use Rattle.std.proofs.Common.{◌≡◌, ◌∙◌, sym, subst, arith, false, All, option_map}
 use Rattle.std.proofs.lemmas.List.{take_all}
 use Rattle.std.proofs.lemmas.List.Elements.{All-more}
 use Rattle.jtree.specs.View.{data_of}

@@ -1,4 +1,4 @@
-use Rattle.std.proofs.Common.{◌≡◌, ◌+◌, ◌∙◌, sym, subst, ap, arith, take, drop, map, Contains}
+use Rattle.std.proofs.Common.{◌≡◌, ◌+◌, ◌∙◌, subst, ap, arith, take, drop, map, Contains}
 use Rattle.std.specs.Prelude.{string_bytes}
 use Rattle.explain.specs.Paths.PathText.{path_text}
 use Rattle.plan.specs.Samples.Site.{below}

@@ -1,4 +1,4 @@
-use Rattle.std.proofs.Common.{arith, rules, sym, ◌∙◌}
+use Rattle.std.proofs.Common.{arith, rules}
 use Rattle.cover.proofs.SampleLemmas.{first_some}
 use Rattle.cover.proofs.first.first_sample.Goals as goal
 

@@ -1,4 +1,4 @@
-use Rattle.std.proofs.Common.{◌≡◌, ◌∙◌, Some, sym, subst, All, map}
+use Rattle.std.proofs.Common.{◌≡◌, Some, All, map}
 use Rattle.std.proofs.lemmas.Result.{IfOk-weaker}
 use Rattle.jtree.specs.View.{data_of}
 use Rattle.schema.specs.Nodes.View.{node_of}
