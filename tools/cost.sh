@@ -412,14 +412,13 @@ for pools in pools-of-16000-places large-pools; do
 done
 within 'a sample of 1024 optional fields' 1 32768 sample "$folder/truths" v1 --large --limit 63 --count 1
 
-# `cover` makes a plan for each object, and for each path that none of the first samples with the object has
+# `cover` makes a plan for each path that no line has yet
 python3 tools/large_schema.py 2021 117 >"$folder/2021-places"
 echo '{"integers":[1],"strings":["a"],"names":["k"]}' >"$folder/small-pools"
 ./crdx pools "$folder/2021-places" v1 --large >"$folder/pools-of-2021-places"
-for pools in small-pools pools-of-2021-places; do
+for pools in small-pools pools-of-2021-places full-pools; do
     within "cover of 2021 places over $pools" 5 65536 cover "$folder/2021-places" v1 --large --pools "$folder/$pools"
 done
-within 'cover of 2021 places over 64 entries a list' 10 65536 cover "$folder/2021-places" v1 --large --pools "$folder/full-pools"
 
 # objects on lines: samples are valid, so of each nothing is written
 issuer=examples/issuer

@@ -30,9 +30,9 @@ use Rattle.plan.specs.Samples.Question.{Question}
 use Rattle.plan.specs.Samples.Site.{below, fixed_below}
 use Rattle.enumerate.specs.Live.{IsNextSample}
 use Rattle.enumerate.specs.Page.{IsSampleOf}
-use Rattle.cover.specs.Internal.Closed.{closed_at, KeepsFirst, KeepsFirstOn, AllowsChange, MayLoseFields, IsOpenWay, IsClosable, IsClosableAt, declared_of}
-use Rattle.cover.proofs.DropLemmas.{drop, Lacks, drop_tree, drop_lacks, drop_smaller}
-use Rattle.cover.proofs.DropOverLemmas.{closed_along, lacking_along, drop_over, closed_below, same_ends}
+use Rattle.cover.specs.Internal.Closed.{KeepsFirst, KeepsFirstOn, AllowsChange, MayLoseFields, IsOpenWay, declared_of}
+use Rattle.cover.proofs.DropLemmas.{IsClosable, IsClosableAt, drop, Lacks, drop_tree, drop_lacks, drop_smaller}
+use Rattle.cover.proofs.DropOverLemmas.{closed_at, closed_along, lacking_along, drop_over, closed_below, same_ends}
 use Rattle.cover.proofs.DropStoredLemmas.{drop_stored}
 use Rattle.cover.proofs.GoodLemmas.{more_name, not_empty}
 use Rattle.cover.proofs.NarrowLemmas.{StoredLaw, node_after}

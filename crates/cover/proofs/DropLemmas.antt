@@ -1,4 +1,4 @@
--- A tree without the field of a name at the end of a path.
+-- A tree without the field of a name at the end of a path, and where a schema and pools let it be left out.
 use Rattle.std.proofs.Common.{◌≡◌, ◌⊎◌, ◌≤◌, ◌<◌, ℕ, zero, suc, List, [], ◌∷◌, Bool, true, false, Option, Some, None, refl, sym, ap, subst, ◌∙◌, inl, inr, arith}
 use Rattle.std.specs.Prelude.{◌+◌, option_map, if◌then◌else◌}
 use Rattle.std.specs.Str.{bytes_eq}
@@ -7,8 +7,13 @@ use Rattle.jtree.specs.Data as tree
 use Rattle.jtree.specs.Nodes.{node_count, items_count, members_count}
 use Rattle.jtree.specs.Path.{member_at, item_at}
 use Rattle.jtree.specs.Internal.Lookups.{bool_cases, same_name, own_name, IsNameBefore-trans}
-use Rattle.explain.specs.Paths.FieldPath.{field, item, value, FieldPath}
+use Rattle.schema.specs.Nodes.Node.{Node, node, object}
+use Rattle.schema.specs.Nodes.ByPlace.{Declared, field_at, node_below}
+use Rattle.explain.specs.Paths.FieldPath.{field, item, value, FieldPath, place_step}
+use Rattle.plan.specs.Pools.Pools.{Pools, is_present}
+use Rattle.plan.specs.Samples.Site.{below}
 use Rattle.plan.proofs.ListLemmas.{tree_positive}
+use Rattle.cover.specs.Internal.Closed.{AskNothing}
 
 -- all members but those of the name
 abbrev pub without : List ℕ → Members → Members
@@ -38,6 +43,18 @@ Lacks y (field k ∷ p) (tree.object ms) = (w : Data) → member_at k ms ≡ Som
 Lacks y (value ∷ p) (tree.object ms) = (k : List ℕ) (w : Data) → member_at k ms ≡ Some w → Lacks y p w
 Lacks y (item ∷ p) (tree.list ds) = (i : ℕ) (w : Data) → item_at i ds ≡ Some w → Lacks y p w
 Lacks y _ v = Unit {0}
+
+-- an object at a node with this path stays valid, and over the pools, where it loses the field of this name
+abbrev pub IsClosable : Pools → List ℕ → List ℕ → Node → Type 0
+IsClosable P at k (node nullable description (object fs preserves type bounds cs)) =
+    (bounds.least ≡ None) × AskNothing cs × (is_present (below at (field k)) P ≡ false)
+    × ((f : Declared) → field_at k fs ≡ Some f → (f.required ≡ false) × (f.default ≡ None))
+IsClosable P at k N = ⊥
+
+-- and at the end of these steps there is such a node, or none
+abbrev pub IsClosableAt : Pools → List ℕ → List ℕ → Node → FieldPath → Type 0
+IsClosableAt P at k N [] = IsClosable P at k N
+IsClosableAt P at k N (t ∷ p) = (M : Node) → node_below N (place_step t) ≡ Some M → IsClosableAt P (below at t) k M p
 
 -- ---- what is at names and places
 
@@ -96,17 +113,17 @@ item_from f ds i w e = mapped_from f (item_at i ds) w (sym (item_each f ds i) �
 -- ---- what is left is a tree
 
 without_before : (j k : List ℕ) (ms : Members) → AreMembers ms → IsNameBefore j ms → IsNameBefore j (without k ms)
-without_before j k no_members object before = tt
-without_before j k (member l d ms) object before = elim (bool_cases (bytes_eq k l)) [
-  | inl here ↦ rw here (without_before j k ms object.2 (IsNameBefore-trans j l ms before object.1))
+without_before j k no_members sorted before = tt
+without_before j k (member l d ms) sorted before = elim (bool_cases (bytes_eq k l)) [
+  | inl here ↦ rw here (without_before j k ms sorted.2 (IsNameBefore-trans j l ms before sorted.1))
   | inr there ↦ rw there before
 ]
 
 without_members : (k : List ℕ) (ms : Members) → AreMembers ms → AreMembers (without k ms)
-without_members k no_members object = tt
-without_members k (member l d ms) object = elim (bool_cases (bytes_eq k l)) [
-  | inl here ↦ rw here (without_members k ms object.2)
-  | inr there ↦ rw there (object.0, without_before l k ms object.2 object.1, without_members k ms object.2)
+without_members k no_members sorted = tt
+without_members k (member l d ms) sorted = elim (bool_cases (bytes_eq k l)) [
+  | inl here ↦ rw here (without_members k ms sorted.2)
+  | inr there ↦ rw there (sorted.0, without_before l k ms sorted.2 sorted.1, without_members k ms sorted.2)
 ]
 
 each_before : (f : List ℕ → Data → Data) (j : List ℕ) (ms : Members) → IsNameBefore j ms → IsNameBefore j (each_member f ms)
@@ -114,8 +131,8 @@ each_before f j no_members before = tt
 each_before f j (member l d ms) before = before
 
 each_members : (f : List ℕ → Data → Data) (ms : Members) → ((l : List ℕ) (d : Data) → IsTree d → IsTree (f l d)) → AreMembers ms → AreMembers (each_member f ms)
-each_members f no_members each object = tt
-each_members f (member l d ms) each object = (each l d object.0, each_before f l ms object.1, each_members f ms each object.2)
+each_members f no_members each sorted = tt
+each_members f (member l d ms) each sorted = (each l d sorted.0, each_before f l ms sorted.1, each_members f ms each sorted.2)
 
 each_trees : (f : Data → Data) (ds : Items) → ((d : Data) → IsTree d → IsTree (f d)) → AreTrees ds → AreTrees (each_item f ds)
 each_trees f no_items each trees = tt

@@ -22,10 +22,11 @@ use Rattle.explain.specs.Paths.PathText.{path_text}
 use Rattle.plan.specs.Pools.Pools.{Pools, entries_in, list_at, with_paths, fixed_at, is_present}
 use Rattle.plan.specs.Samples.Site.{below, fixed_below}
 use Rattle.plan.specs.Samples.Over.{choices_or, listed, all_names, is_in, asks_field, has_present, has_enough, is_over_here, StepFollows, IsOverAlong, IsOver}
-use Rattle.cover.specs.Internal.Closed.{closed_at, IsOpenWay, IsClosableAt}
+use Rattle.cover.specs.Internal.Closed.{IsOpenWay}
+use Rattle.cover.specs.Internal.Narrowed.{with_member}
 use Rattle.cover.proofs.PathLemmas.{OneText, text_below, append_one}
 use Rattle.cover.proofs.KeptLemmas.{more_at}
-use Rattle.cover.proofs.DropLemmas.{without, each_member, each_item, drop, Lacks, without_at, each_at, without_from, each_from, item_from}
+use Rattle.cover.proofs.DropLemmas.{IsClosableAt, without, each_member, each_item, drop, Lacks, without_at, each_at, without_from, each_from, item_from}
 
 -- ---- a value at its node, over pools that fix other values
 
@@ -83,6 +84,10 @@ same_here P F at (node nullable description (list N type keys bounds)) (tree.lis
 same_here P F at (node nullable description (list N type keys bounds)) (tree.object ms) = refl
 
 -- ---- the pools that leave no value at a text
+
+abbrev pub closed_at : List ℕ → Pools → Pools
+closed_at text P = with_paths P (with_member text (tree.list no_items) P.fixed) P.present
+
 
 fixed_entries : (text : List ℕ) (P : Pools) (j : List ℕ) (b : Bool) → bytes_eq j text ≡ b
     → fixed_at j (closed_at text P) ≡ option_and_then entries_in (if b then Some (tree.list no_items) else member_at j P.fixed)

@@ -21,9 +21,9 @@ use Rattle.stored.specs.Objects.StoredByParts.{IsStoredField, IsWithin, are_apar
 use Rattle.explain.specs.Paths.FieldPath.{field, item, value, FieldPath}
 use Rattle.plan.specs.Pools.Pools.{Pools}
 use Rattle.plan.specs.Samples.Site.{below}
-use Rattle.cover.specs.Internal.Closed.{AskNothing, IsOpenWay, IsClosableAt}
+use Rattle.cover.specs.Internal.Closed.{AskNothing, IsOpenWay}
 use Rattle.cover.proofs.NarrowLemmas.{StoredLaw}
-use Rattle.cover.proofs.DropLemmas.{without, each_member, each_item, drop, without_at, each_at, each_from, item_from}
+use Rattle.cover.proofs.DropLemmas.{IsClosableAt, without, each_member, each_item, drop, without_at, each_at, each_from, item_from}
 
 -- ---- how many members and items are left
 

@@ -1,26 +1,21 @@
 -- Fields that no first sample has: nothing asks for them, so each sample that has one is greater than the same without it (this project's
 -- own).
-use Rattle.std.specs.Prelude.{◌≡◌, ◌<◌, ℕ, List, [], ◌∷◌, true, false, Option, Some, None, option_map}
-use Rattle.jtree.specs.Data.{Data, list, no_items}
+use Rattle.std.specs.Prelude.{◌≡◌, ◌<◌, ℕ, List, [], ◌∷◌, true, Option, Some, None, option_map}
+use Rattle.jtree.specs.Data.{Data}
 use Rattle.jtree.specs.Nodes.{most_nodes}
 use Rattle.jtree.specs.View.{data_of}
 use Rattle.schema.specs.Nodes.Node.{Node, node, object, map, Fields, Validations}
 use Rattle.schema.specs.Nodes.Node as nodes
-use Rattle.schema.specs.Nodes.ByPlace.{Declared, field_at, node_below}
+use Rattle.schema.specs.Nodes.ByPlace.{Declared, node_below}
 use Rattle.schema.specs.Nodes.View.{node_of}
 use Rattle.schema.specs.declared.node.Field.{Field as CodeField}
 use Rattle.schema.specs.declared.node.ListType.TheVariants.{Atomic}
 use Rattle.stored.specs.Objects.Tests.{meets_junctors}
 use Rattle.explain.specs.Paths.FieldPath.{FieldStep, field, item, value, FieldPath, place_step}
-use Rattle.plan.specs.Pools.Pools.{Pools, with_paths, is_present}
+use Rattle.plan.specs.Pools.Pools.{Pools}
 use Rattle.plan.specs.Pools.PlanFault.{HasGoodPaths}
 use Rattle.plan.specs.Samples.Site.{below, fixed_below}
 use Rattle.enumerate.specs.Live.{IsNextSample}
-use Rattle.cover.specs.Internal.Narrowed.{with_member}
-
--- the pools that leave no value at the path of a text
-abbrev pub closed_at : List ℕ → Pools → Pools
-closed_at text P = with_paths P (with_member text (list no_items) P.fixed) P.present
 
 -- within each limit the first sample over the second pools is the first one over the first pools; and where the paths of these are good,
 -- so are those of the second ones
@@ -44,18 +39,6 @@ AllowsChange N t = ⊥
 abbrev pub IsOpenWay : Pools → List ℕ → Node → FieldPath → Type 0
 IsOpenWay P at N [] = Unit {0}
 IsOpenWay P at N (t ∷ p) = (fixed_below P at N t ≡ None) × AllowsChange N t × ((M : Node) → node_below N (place_step t) ≡ Some M → IsOpenWay P (below at t) M p)
-
--- an object at a node with this path stays valid, and over the pools, where it loses the field of this name
-abbrev pub IsClosable : Pools → List ℕ → List ℕ → Node → Type 0
-IsClosable P at k (node nullable description (object fs preserves type bounds cs)) =
-    (bounds.least ≡ None) × AskNothing cs × (is_present (below at (field k)) P ≡ false)
-    × ((f : Declared) → field_at k fs ≡ Some f → (f.required ≡ false) × (f.default ≡ None))
-IsClosable P at k N = ⊥
-
--- and at the end of these steps there is such a node, or none
-abbrev pub IsClosableAt : Pools → List ℕ → List ℕ → Node → FieldPath → Type 0
-IsClosableAt P at k N [] = IsClosable P at k N
-IsClosableAt P at k N (t ∷ p) = (M : Node) → node_below N (place_step t) ≡ Some M → IsClosableAt P (below at t) k M p
 
 -- the first sample stays, and these steps stay open
 abbrev pub KeepsFirstOn : Node → FieldPath → Pools → Pools → Type 0
