@@ -88,7 +88,6 @@ same_here P F at (node nullable description (list N type keys bounds)) (tree.obj
 abbrev pub closed_at : List ℕ → Pools → Pools
 closed_at text P = with_paths P (with_member text (tree.list no_items) P.fixed) P.present
 
-
 fixed_entries : (text : List ℕ) (P : Pools) (j : List ℕ) (b : Bool) → bytes_eq j text ≡ b
     → fixed_at j (closed_at text P) ≡ option_and_then entries_in (if b then Some (tree.list no_items) else member_at j P.fixed)
 fixed_entries text P j b e =
