@@ -184,13 +184,13 @@ fn lends(
         trees: Vec::new(alloc),
     };
     let first = live.lend_page(row.first, &mut copies, meter);
-    report.is_value("the first answer", &first, &Ok(false))?;
+    report.is_value("the first answer", &first, &Ok(false));
     let second = live.lend_page(row.second, &mut copies, meter);
-    report.is_value("the second answer", &second, &row.answer)?;
+    report.is_value("the second answer", &second, &row.answer);
     if live.tree().is_none() {
         for count in [0, 1] {
             let again = live.lend_page(count, &mut copies, meter);
-            report.is_value("an answer after the end", &again, &Err(EFault::Ended))?;
+            report.is_value("an answer after the end", &again, &Err(EFault::Ended));
         }
     }
     is_said(report, "taken", texts(alloc, &copies.trees), row.taken)?;
@@ -217,7 +217,7 @@ fn lent(rt: HostRuntime) -> Result<(), Fail> {
     let mut report = Report::new(rt.alloc());
     for row in &LENT {
         let ended = try_lent(&mut report, rt.alloc(), row);
-        report.row(row.name, ended)?;
+        report.row(row.name, ended);
     }
     report.end(&rt)
 }

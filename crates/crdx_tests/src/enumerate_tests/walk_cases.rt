@@ -56,8 +56,9 @@ fn moves(
     meter: &mut Meter,
 ) -> Result<(), Fail> {
     let most = meter.steps().saturating_add(steps);
-    report.is_value("a move", &live.advance(meter), &wanted)?;
-    Ok(report.holds("few steps", meter.steps() <= most)?)
+    report.is_value("a move", &live.advance(meter), &wanted);
+    report.holds("few steps", meter.steps() <= most);
+    Ok(())
 }
 
 fn goes_through(
@@ -68,7 +69,7 @@ fn goes_through(
     meter: &mut Meter,
 ) -> Result<(), Fail> {
     for (place, sample) in samples.iter().enumerate() {
-        report.holds("a sample", is_same(live.tree(), sample))?;
+        report.holds("a sample", is_same(live.tree(), sample));
         let more = place.saturating_add(1) < row.count as usize;
         moves(report, live, Ok(more), row.steps, meter)?;
     }
@@ -77,10 +78,11 @@ fn goes_through(
 
 fn is_over(report: &mut Report, live: &mut Live<'_, u64>, meter: &mut Meter) -> Result<(), Fail> {
     for _ in 0..2 {
-        report.holds("no sample", live.tree().is_none())?;
+        report.holds("no sample", live.tree().is_none());
         moves(report, live, Err(EFault::Ended), 0, meter)?;
     }
-    Ok(report.holds("no sample", live.tree().is_none())?)
+    report.holds("no sample", live.tree().is_none());
+    Ok(())
 }
 
 /// An enumeration goes through these samples, and then it is over.
@@ -92,11 +94,11 @@ fn is_enumerated(
     row: &Enumeration,
     meter: &mut Meter,
 ) -> Result<(), Fail> {
-    report.is_number("the number", samples.len() as u64, u64::from(row.count))?;
+    report.is_number("the number", samples.len() as u64, u64::from(row.count));
     let Some(mut live) = Live::first(alloc, plan, meter)? else {
         return Err(Fail::from("no sample"));
     };
-    report.holds("few steps", meter.steps() <= row.steps)?;
+    report.holds("few steps", meter.steps() <= row.steps);
     goes_through(report, &mut live, samples, row, meter)
 }
 
@@ -110,7 +112,7 @@ fn is_paged(
     other: &mut Meter,
 ) -> Result<(), Fail> {
     let page = page(alloc, plan, None, row.count.clamp(1, 10000), meter)?;
-    report.holds("the end", page.end)?;
+    report.holds("the end", page.end);
     is_enumerated(report, alloc, plan, &page.items, row, other)
 }
 
@@ -119,9 +121,10 @@ fn try_enumeration(report: &mut Report, alloc: Global, row: &Enumeration) -> Res
     let mut meter = plan.meter();
     let mut other = plan.meter();
     is_paged(report, alloc, &plan, row, &mut meter, &mut other)?;
-    report.holds("some steps", meter.steps() > 0)?;
-    report.holds("few steps", meter.steps() <= row.most)?;
-    Ok(report.is_number("the steps", other.steps(), meter.steps())?)
+    report.holds("some steps", meter.steps() > 0);
+    report.holds("few steps", meter.steps() <= row.most);
+    report.is_number("the steps", other.steps(), meter.steps());
+    Ok(())
 }
 
 #[test]
@@ -129,7 +132,7 @@ fn enumerations(rt: HostRuntime) -> Result<(), Fail> {
     let mut report = Report::new(rt.alloc());
     for row in &ENUMERATIONS {
         let ended = try_enumeration(&mut report, rt.alloc(), row);
-        report.row(row.name, ended)?;
+        report.row(row.name, ended);
     }
     report.end(&rt)
 }
@@ -360,8 +363,9 @@ static WALKS: [WalkRow; 14] = [
 fn try_walk(report: &mut Report, alloc: Global, row: &WalkRow) -> Result<(), Fail> {
     let mut sink = FailingSink::new(alloc, row.room, usize::MAX, false);
     let found = walked(alloc, row.walk, &mut sink)?;
-    report.is_value("the answer", &found, &row.answer)?;
-    Ok(report.is_text("the output", sink.text(), row.out)?)
+    report.is_value("the answer", &found, &row.answer);
+    report.is_text("the output", sink.text(), row.out);
+    Ok(())
 }
 
 #[test]
@@ -369,7 +373,7 @@ fn walks(rt: HostRuntime) -> Result<(), Fail> {
     let mut report = Report::new(rt.alloc());
     for row in &WALKS {
         let ended = try_walk(&mut report, rt.alloc(), row);
-        report.row(row.name, ended)?;
+        report.row(row.name, ended);
     }
     report.end(&rt)
 }

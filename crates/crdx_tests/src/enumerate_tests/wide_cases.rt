@@ -29,8 +29,8 @@ fn is_next(
     let place = list_before_three(alloc, 31)?;
     let place = Tree::from_bytes(alloc, place.as_bytes())?;
     let page = page(alloc, plan, Some(&place), 3, meter)?;
-    report.holds("no end", !page.end)?;
-    report.holds("few steps", meter.steps() <= 8192)?;
+    report.holds("no end", !page.end);
+    report.holds("few steps", meter.steps() <= 8192);
     let wanted = next_three_lists(alloc, 31)?;
     is_said(report, "the lines", lines_of(alloc, &page.items), &wanted)
 }
@@ -43,7 +43,7 @@ fn try_thirty_one(report: &mut Report, alloc: Global) -> Result<(), Fail> {
         limit: 127,
     };
     let mut plan = wide(alloc, given)?;
-    report.is_number("the width", plan.width(), 3)?;
+    report.is_number("the width", plan.width(), 3);
     let mut meter = plan.meter();
     is_next(report, alloc, &plan, &mut meter)
 }
@@ -52,7 +52,7 @@ fn try_thirty_one(report: &mut Report, alloc: Global) -> Result<(), Fail> {
 fn thirty_one_items(rt: HostRuntime) -> Result<(), Fail> {
     let mut report = Report::new(rt.alloc());
     let ended = try_thirty_one(&mut report, rt.alloc());
-    report.row("thirty-one items", ended)?;
+    report.row("thirty-one items", ended);
     report.end(&rt)
 }
 
@@ -129,9 +129,10 @@ fn are_same(
     report.holds(
         "the same page",
         found.items.as_slice() == wide.items.as_slice(),
-    )?;
-    report.holds("the same end", found.end == wide.end)?;
-    Ok(report.holds("a sample", !found.items.is_empty())?)
+    );
+    report.holds("the same end", found.end == wide.end);
+    report.holds("a sample", !found.items.is_empty());
+    Ok(())
 }
 
 fn try_same(report: &mut Report, alloc: Global, row: &WidePlan) -> Result<(), Fail> {
@@ -146,7 +147,7 @@ fn pages_of_both_words(rt: HostRuntime) -> Result<(), Fail> {
     let mut report = Report::new(rt.alloc());
     for row in &PLANS {
         let ended = try_same(&mut report, rt.alloc(), row);
-        report.row(row.name, ended)?;
+        report.row(row.name, ended);
     }
     report.end(&rt)
 }

@@ -126,13 +126,13 @@ fn fields_and_nodes_of_paths(rt: HostRuntime) -> Result<(), Fail> {
     let schema = schema_of(rt.alloc(), MAP_LIST)?;
     let listing = Listing::new(rt.alloc(), &schema)?;
     let fields = listing.fields();
-    report.is_number("the fields", fields.len() as u64, 4)?;
+    report.is_number("the fields", fields.len() as u64, 4);
     let last = fields.last().map(|field| field.path.as_str());
-    report.is_value("the last path", &last, &Some("/m/[]/v"))?;
-    report.row("all fields", Ok(()))?;
+    report.is_value("the last path", &last, &Some("/m/[]/v"));
+    report.row("all fields", Ok(()));
     for row in &PATHS {
         let ended = try_path(&mut report, rt.alloc(), &schema, &listing, row);
-        report.row(row.name, ended)?;
+        report.row(row.name, ended);
     }
     report.end(&rt)
 }

@@ -101,7 +101,7 @@ fn lines(rt: HostRuntime) -> Result<(), Fail> {
     let mut report = Report::new(rt.alloc());
     for row in &LINES {
         let ended = try_lines(&mut report, rt.alloc(), row);
-        report.row(row.name, ended)?;
+        report.row(row.name, ended);
     }
     report.end(&rt)
 }
@@ -154,7 +154,7 @@ fn long_lines(rt: HostRuntime) -> Result<(), Fail> {
     let mut report = Report::new(rt.alloc());
     for row in &LONG_LINES {
         let ended = try_long_line(&mut report, rt.alloc(), row);
-        report.row(row.name, ended)?;
+        report.row(row.name, ended);
     }
     report.end(&rt)
 }
@@ -207,7 +207,7 @@ fn failures(rt: HostRuntime) -> Result<(), Fail> {
         let source = FailingSource::new(b"{}\n1\n2", 1, row.left);
         let found = said_of(rt.alloc(), source);
         let ended = is_said(&mut report, "the lines", found, row.wanted);
-        report.row(row.name, ended)?;
+        report.row(row.name, ended);
     }
     report.end(&rt)
 }

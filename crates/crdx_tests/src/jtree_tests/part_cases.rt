@@ -118,13 +118,13 @@ fn said_of_part(alloc: Global, tree: &Tree, name: &str) -> Result<String, Fail> 
 
 fn try_part(report: &mut Report, alloc: Global, row: &Part) -> Result<(), Fail> {
     let tree = Tree::from_bytes(alloc, row.document.as_bytes())?;
-    report.is_number("the nodes", tree.nodes(), row.nodes)?;
+    report.is_number("the nodes", tree.nodes(), row.nodes);
     if let Tree::Object(members) = &tree {
         let found = members.nodes().saturating_add(1);
-        report.is_number("the nodes by the members", found, row.nodes)?;
+        report.is_number("the nodes by the members", found, row.nodes);
     }
-    report.is_value("the text", &tree.get_text(row.member), &row.text)?;
-    report.is_value("the test", &tree.has_text(row.member, "x"), &row.is_x)?;
+    report.is_value("the text", &tree.get_text(row.member), &row.text);
+    report.is_value("the test", &tree.has_text(row.member, "x"), &row.is_x);
     is_said(
         report,
         "the value",
@@ -138,7 +138,7 @@ fn parts(rt: HostRuntime) -> Result<(), Fail> {
     let mut report = Report::new(rt.alloc());
     for row in &PARTS {
         let ended = try_part(&mut report, rt.alloc(), row);
-        report.row(row.name, ended)?;
+        report.row(row.name, ended);
     }
     report.end(&rt)
 }
@@ -379,10 +379,11 @@ fn try_last_part(report: &mut Report, alloc: Global, row: &LastPart) -> Result<(
         "how deep the last node is",
         &tree.last_depth(),
         &row.last_depth,
-    )?;
+    );
     let text = String::from_utf8(tree.append_part(row.depth, Vec::from_slice(alloc, b"> ")?)?)?;
     let part = text.as_str().strip_prefix("> ");
-    Ok(report.is_value("the text of the part", &part, &Some(row.text))?)
+    report.is_value("the text of the part", &part, &Some(row.text));
+    Ok(())
 }
 
 fn try_overwriting(
@@ -398,7 +399,7 @@ fn try_overwriting(
     let done = tree
         .last()
         .overwrite(node, tree.last_depth(), &mut text, &mut scratch)?;
-    report.is_value("whether it has as many bytes", &done, &row.same_length)?;
+    report.is_value("whether it has as many bytes", &done, &row.same_length);
     let text = String::from_utf8(text)?;
     let wanted = if row.same_length {
         row.document
@@ -406,7 +407,8 @@ fn try_overwriting(
         row.changed
     };
     let found = text.as_str().strip_prefix("> ");
-    Ok(report.is_value("the text", &found, &Some(wanted))?)
+    report.is_value("the text", &found, &Some(wanted));
+    Ok(())
 }
 
 fn try_last_node(report: &mut Report, alloc: Global, row: &LastNode) -> Result<(), Fail> {
@@ -416,7 +418,7 @@ fn try_last_node(report: &mut Report, alloc: Global, row: &LastNode) -> Result<(
     try_overwriting(report, alloc, &tree, &node, row)?;
     let depth = tree.last_depth();
     let found = tree.set_last(alloc, &node)?;
-    report.is_value("how deep the node is", &found, &depth)?;
+    report.is_value("how deep the node is", &found, &depth);
     is_tree(
         report,
         alloc,
@@ -434,7 +436,7 @@ fn last_nodes(rt: HostRuntime) -> Result<(), Fail> {
     let mut report = Report::new(rt.alloc());
     for row in &LAST_NODES {
         let ended = try_last_node(&mut report, rt.alloc(), row);
-        report.row(row.name, ended)?;
+        report.row(row.name, ended);
     }
     report.end(&rt)
 }
@@ -444,7 +446,7 @@ fn last_parts(rt: HostRuntime) -> Result<(), Fail> {
     let mut report = Report::new(rt.alloc());
     for row in &LAST_PARTS {
         let ended = try_last_part(&mut report, rt.alloc(), row);
-        report.row(row.name, ended)?;
+        report.row(row.name, ended);
     }
     report.end(&rt)
 }

@@ -322,17 +322,11 @@ fn repeated(alloc: Global, row: &Long) -> Result<String, AllocError> {
     Ok(document)
 }
 
-fn all_long(
-    report: &mut Report,
-    alloc: Global,
-    limits: PoolLimits,
-    rows: &[Long],
-) -> Result<(), AllocError> {
+fn all_long(report: &mut Report, alloc: Global, limits: PoolLimits, rows: &[Long]) {
     for row in rows {
         let ended = try_long(report, alloc, limits, row);
-        report.row(row.name, ended)?;
+        report.row(row.name, ended);
     }
-    Ok(())
 }
 
 #[test]
@@ -343,9 +337,9 @@ fn limits(rt: HostRuntime) -> Result<(), Fail> {
         paths: 3,
     };
     let mut report = Report::new(rt.alloc());
-    all_long(&mut report, rt.alloc(), PoolLimits::STANDARD, &LONG)?;
-    all_long(&mut report, rt.alloc(), PoolLimits::LARGE, &LARGE)?;
-    all_documents(&mut report, rt.alloc(), few, &FEW)?;
+    all_long(&mut report, rt.alloc(), PoolLimits::STANDARD, &LONG);
+    all_long(&mut report, rt.alloc(), PoolLimits::LARGE, &LARGE);
+    all_documents(&mut report, rt.alloc(), few, &FEW);
     report.end(&rt)
 }
 
@@ -445,7 +439,7 @@ fn paths(rt: HostRuntime) -> Result<(), Fail> {
     let mut report = Report::new(rt.alloc());
     for row in &MANY_PATHS {
         let ended = try_many_paths(&mut report, rt.alloc(), row);
-        report.row(row.name, ended)?;
+        report.row(row.name, ended);
     }
     report.end(&rt)
 }

@@ -203,14 +203,14 @@ static DOCUMENTS: [Document; 38] = [
 #[test]
 fn forms(rt: HostRuntime) -> Result<(), Fail> {
     let mut report = Report::new(rt.alloc());
-    all_documents(&mut report, rt.alloc(), PoolLimits::STANDARD, &DOCUMENTS)?;
+    all_documents(&mut report, rt.alloc(), PoolLimits::STANDARD, &DOCUMENTS);
     report.end(&rt)
 }
 
 fn are_texts(report: &mut Report, found: &[Text], wanted: &[&str]) -> Result<(), Fail> {
-    report.is_number("the length", found.len() as u64, wanted.len() as u64)?;
+    report.is_number("the length", found.len() as u64, wanted.len() as u64);
     for (text, wanted) in found.iter().zip(wanted) {
-        report.is_text("an entry", text.as_str(), wanted)?;
+        report.is_text("an entry", text.as_str(), wanted);
     }
     Ok(())
 }
@@ -224,7 +224,7 @@ fn are_trees(
     let Some(found) = found else {
         return Err(Fail::from("no list"));
     };
-    report.is_number("the length", found.len() as u64, wanted.len() as u64)?;
+    report.is_number("the length", found.len() as u64, wanted.len() as u64);
     for (tree, wanted) in found.iter().zip(wanted) {
         is_tree(report, alloc, "an entry", tree, wanted)?;
     }
@@ -236,32 +236,34 @@ static WRITTEN: &str =
         "paths":{"/b":[2,"x",2],"/a":[]},"fixed":{"/b":[null,null],"/c":[]},"present":["/z","/b","/z"]}"#;
 
 fn general_as_written(report: &mut Report, alloc: Global, pools: &Pools) -> Result<(), Fail> {
-    report.is_value("integers", &pools.integers(), &[3, -1, 3].as_slice())?;
-    report.row("integers", Ok(()))?;
+    report.is_value("integers", &pools.integers(), &[3, -1, 3].as_slice());
+    report.row("integers", Ok(()));
     let ended = are_texts(report, pools.strings(), &["b", "a", "b"]);
-    report.row("strings", ended)?;
+    report.row("strings", ended);
     let ended = are_texts(report, pools.names(), &["", "é"]);
-    report.row("names", ended)?;
+    report.row("names", ended);
     let ended = are_trees(report, alloc, Some(pools.any()), &[r#"{"q":[1]}"#, "null"]);
-    Ok(report.row("any", ended)?)
+    report.row("any", ended);
+    Ok(())
 }
 
 fn paths_as_written(report: &mut Report, alloc: Global, pools: &Pools) -> Result<(), Fail> {
     let ended = are_trees(report, alloc, pools.list_at("/b"), &["2", r#""x""#, "2"]);
-    report.row("a path with values", ended)?;
+    report.row("a path with values", ended);
     let ended = are_trees(report, alloc, pools.list_at("/a"), &[]);
-    report.row("a path without values", ended)?;
-    report.holds("no list", pools.list_at("/c").is_none())?;
-    report.row("a path that is not listed", Ok(()))?;
+    report.row("a path without values", ended);
+    report.holds("no list", pools.list_at("/c").is_none());
+    report.row("a path that is not listed", Ok(()));
     let ended = are_trees(report, alloc, pools.fixed_at("/b"), &["null", "null"]);
-    report.row("a fixed path", ended)?;
-    report.holds("no list", pools.fixed_at("/a").is_none())?;
-    report.row("a path that is not fixed", Ok(()))?;
+    report.row("a fixed path", ended);
+    report.holds("no list", pools.fixed_at("/a").is_none());
+    report.row("a path that is not fixed", Ok(()));
     let ended = are_texts(report, pools.present(), &["/z", "/b", "/z"]);
-    report.row("present paths", ended)?;
-    report.holds("a present path", pools.is_present("/b"))?;
-    report.holds("a path that is not present", !pools.is_present("/a"))?;
-    Ok(report.row("whether a path is present", Ok(()))?)
+    report.row("present paths", ended);
+    report.holds("a present path", pools.is_present("/b"));
+    report.holds("a path that is not present", !pools.is_present("/a"));
+    report.row("whether a path is present", Ok(()));
+    Ok(())
 }
 
 /// The order and the repeats are kept.
@@ -278,10 +280,10 @@ fn entries_as_written(rt: HostRuntime) -> Result<(), Fail> {
 fn no_entries(rt: HostRuntime) -> Result<(), Fail> {
     let mut report = Report::new(rt.alloc());
     let found = counts(rt.alloc(), &Pools::new(rt.alloc()))?;
-    report.is_text("the entries", found.as_str(), "0 0 0 0 0 0 0")?;
-    report.row("empty pools", Ok(()))?;
+    report.is_text("the entries", found.as_str(), "0 0 0 0 0 0 0");
+    report.row("empty pools", Ok(()));
     let code = said(rt.alloc(), &PFault::NoMemory)?;
-    report.is_text("the code", code.as_str(), "P3")?;
-    report.row("out of memory", Ok(()))?;
+    report.is_text("the code", code.as_str(), "P3");
+    report.row("out of memory", Ok(()));
     report.end(&rt)
 }

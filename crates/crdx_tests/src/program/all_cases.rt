@@ -71,7 +71,7 @@ static LISTINGS: [Run<'static>; 6] = [
 #[test]
 fn listings(rt: HostRuntime) -> Result<(), Fail> {
     let mut report = Report::new(rt.alloc());
-    all_runs(&mut report, rt.alloc(), &LISTINGS)?;
+    all_runs(&mut report, rt.alloc(), &LISTINGS);
     report.end(&rt)
 }
 
@@ -110,25 +110,27 @@ const ALL: &str = "crdx sample crd.json v1 --pools pools.json --all";
 fn try_all(report: &mut Report, alloc: Global) -> Result<(), Fail> {
     let lines = large_lines(alloc)?;
     let output = run_large(alloc, ALL, FailingSink::endless(alloc))?;
-    is_answer(report, &output, lines.as_str(), "crdx: end\n", 0)?;
-    Ok(report.holds("enough flushes", output.out.flushes >= LEAST_FLUSHES)?)
+    is_answer(report, &output, lines.as_str(), "crdx: end\n", 0);
+    report.holds("enough flushes", output.out.flushes >= LEAST_FLUSHES);
+    Ok(())
 }
 
 /// A count is flushed once, at its end.
 fn try_count(report: &mut Report, alloc: Global) -> Result<(), Fail> {
     let command = "crdx sample crd.json v1 --pools pools.json --count 1000";
     let output = run_large(alloc, command, FailingSink::endless(alloc))?;
-    report.is_text("standard error", output.err.text(), "crdx: more\n")?;
-    Ok(report.is_number("the flushes", output.out.flushes, 1)?)
+    report.is_text("standard error", output.err.text(), "crdx: more\n");
+    report.is_number("the flushes", output.out.flushes, 1);
+    Ok(())
 }
 
 #[test]
 fn large_listings(rt: HostRuntime) -> Result<(), Fail> {
     let mut report = Report::new(rt.alloc());
     let ended = try_all(&mut report, rt.alloc());
-    report.row("12,167 samples, more than a count", ended)?;
+    report.row("12,167 samples, more than a count", ended);
     let ended = try_count(&mut report, rt.alloc());
-    report.row("a count", ended)?;
+    report.row("a count", ended);
     report.end(&rt)
 }
 
@@ -156,7 +158,7 @@ fn full_sinks(rt: HostRuntime) -> Result<(), Fail> {
     for index in [0, 1, 127, 128, 129, 10_000, 12_166] {
         let name = format!(in rt.alloc(); "a sink that is full after {index} lines")?;
         let ended = try_full(&mut report, rt.alloc(), lines.as_str(), index);
-        report.row(name.as_str(), ended)?;
+        report.row(name.as_str(), ended);
     }
     report.end(&rt)
 }
@@ -175,6 +177,6 @@ fn try_failed_flush(report: &mut Report, alloc: Global) -> Result<(), Fail> {
 fn failed_flushes(rt: HostRuntime) -> Result<(), Fail> {
     let mut report = Report::new(rt.alloc());
     let ended = try_failed_flush(&mut report, rt.alloc());
-    report.row("a flush that fails", ended)?;
+    report.row("a flush that fails", ended);
     report.end(&rt)
 }

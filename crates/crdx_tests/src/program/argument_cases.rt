@@ -326,7 +326,7 @@ fn requests(rt: HostRuntime) -> Result<(), Fail> {
     for row in &REQUESTS {
         let found = asked(rt.alloc(), row.command);
         let ended = is_said(&mut report, "what is asked", found, row.wanted);
-        report.row(row.name, ended)?;
+        report.row(row.name, ended);
     }
     report.end(&rt)
 }

@@ -347,6 +347,6 @@ static ROWS: [SchemaRun<'static>; 35] = [
 #[test]
 fn bad_paths(rt: HostRuntime) -> Result<(), Fail> {
     let mut report = Report::new(rt.alloc());
-    all_schema_runs(&mut report, rt.alloc(), &ROWS)?;
+    all_schema_runs(&mut report, rt.alloc(), &ROWS);
     report.end(&rt)
 }

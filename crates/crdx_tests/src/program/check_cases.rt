@@ -361,27 +361,27 @@ static REFUSED: [SchemaRun<'static>; 2] = [
 #[test]
 fn sound_schemas(rt: HostRuntime) -> Result<(), Fail> {
     let mut report = Report::new(rt.alloc());
-    all_checked(&mut report, rt.alloc(), &SOUND)?;
+    all_checked(&mut report, rt.alloc(), &SOUND);
     report.end(&rt)
 }
 
 #[test]
 fn broken_schemas(rt: HostRuntime) -> Result<(), Fail> {
     let mut report = Report::new(rt.alloc());
-    all_checked(&mut report, rt.alloc(), &BROKEN)?;
+    all_checked(&mut report, rt.alloc(), &BROKEN);
     report.end(&rt)
 }
 
 #[test]
 fn broken_junctors(rt: HostRuntime) -> Result<(), Fail> {
     let mut report = Report::new(rt.alloc());
-    all_checked(&mut report, rt.alloc(), &BROKEN_JUNCTORS)?;
+    all_checked(&mut report, rt.alloc(), &BROKEN_JUNCTORS);
     report.end(&rt)
 }
 
 #[test]
 fn refused_schemas(rt: HostRuntime) -> Result<(), Fail> {
     let mut report = Report::new(rt.alloc());
-    all_schema_runs(&mut report, rt.alloc(), &REFUSED)?;
+    all_schema_runs(&mut report, rt.alloc(), &REFUSED);
     report.end(&rt)
 }

@@ -480,20 +480,20 @@ static LISTINGS: [SchemaRun<'static>; 10] = [
 #[test]
 fn documents(rt: HostRuntime) -> Result<(), Fail> {
     let mut report = Report::new(rt.alloc());
-    all_runs(&mut report, rt.alloc(), &DOCUMENTS)?;
+    all_runs(&mut report, rt.alloc(), &DOCUMENTS);
     report.end(&rt)
 }
 
 #[test]
 fn schemas(rt: HostRuntime) -> Result<(), Fail> {
     let mut report = Report::new(rt.alloc());
-    all_schema_runs(&mut report, rt.alloc(), &SCHEMAS)?;
+    all_schema_runs(&mut report, rt.alloc(), &SCHEMAS);
     report.end(&rt)
 }
 
 #[test]
 fn listings(rt: HostRuntime) -> Result<(), Fail> {
     let mut report = Report::new(rt.alloc());
-    all_schema_runs(&mut report, rt.alloc(), &LISTINGS)?;
+    all_schema_runs(&mut report, rt.alloc(), &LISTINGS);
     report.end(&rt)
 }

@@ -34,12 +34,12 @@ fn cut_documents(rt: HostRuntime) -> Result<(), Fail> {
     for room in 0..WIDGET.len() {
         let crd = beginning(WIDGET, room);
         let ended = try_refused(&mut report, rt.alloc(), crd, "{}", "crdx: crd: J3\n");
-        report.row(crd, ended)?;
+        report.row(crd, ended);
     }
     for room in 0..ZERO_AND_ONE.len() {
         let pools = beginning(ZERO_AND_ONE, room);
         let ended = try_refused(&mut report, rt.alloc(), WIDGET, pools, "crdx: pools: J3\n");
-        report.row(pools, ended)?;
+        report.row(pools, ended);
     }
     report.end(&rt)
 }
@@ -59,11 +59,11 @@ fn try_long(report: &mut Report, alloc: Global) -> Result<(), Fail> {
 fn deep_and_long_pools(rt: HostRuntime) -> Result<(), Fail> {
     let mut report = Report::new(rt.alloc());
     let ended = try_deep(&mut report, rt.alloc(), 127, "crdx: pools: P1 \"\"\n");
-    report.row("127 deep", ended)?;
+    report.row("127 deep", ended);
     let ended = try_deep(&mut report, rt.alloc(), 128, "crdx: pools: J3\n");
-    report.row("128 deep", ended)?;
+    report.row("128 deep", ended);
     let ended = try_long(&mut report, rt.alloc());
-    report.row("1,048,577 spaces", ended)?;
+    report.row("1,048,577 spaces", ended);
     report.end(&rt)
 }
 
@@ -72,14 +72,15 @@ fn try_no_text(report: &mut Report, alloc: Global) -> Result<(), Fail> {
     let mut inputs = FakeInputs::new(alloc, WIDGET, "");
     inputs.second = b"\xff";
     let output = run_on(alloc, command, inputs, FailingSink::endless(alloc))?;
-    Ok(is_answer(report, &output, "", "crdx: pools: J3\n", 3)?)
+    is_answer(report, &output, "", "crdx: pools: J3\n", 3);
+    Ok(())
 }
 
 #[test]
 fn pools_that_are_no_text(rt: HostRuntime) -> Result<(), Fail> {
     let mut report = Report::new(rt.alloc());
     let ended = try_no_text(&mut report, rt.alloc());
-    report.row("a byte of 255", ended)?;
+    report.row("a byte of 255", ended);
     report.end(&rt)
 }
 
@@ -165,7 +166,7 @@ fn places_that_are_no_samples(rt: HostRuntime) -> Result<(), Fail> {
     let crd = definition(rt.alloc(), MAP_LIST)?;
     for row in &PLACES {
         let ended = try_place(&mut report, rt.alloc(), crd.as_str(), row);
-        report.row(row.place, ended)?;
+        report.row(row.place, ended);
     }
     report.end(&rt)
 }

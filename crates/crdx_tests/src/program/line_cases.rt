@@ -306,7 +306,7 @@ static RUNS: [SchemaRun<'static>; 25] = [
 #[test]
 fn runs(rt: HostRuntime) -> Result<(), Fail> {
     let mut report = Report::new(rt.alloc());
-    all_schema_runs(&mut report, rt.alloc(), &RUNS)?;
+    all_schema_runs(&mut report, rt.alloc(), &RUNS);
     report.end(&rt)
 }
 
@@ -359,7 +359,8 @@ fn try_long_line(report: &mut Report, alloc: Global, row: &LongLine) -> Result<(
     let command = "crdx prune crd.json v1 object.json --lines";
     let sink = FailingSink::endless(alloc);
     let output = run_lines(alloc, command, lines.as_str(), usize::MAX, sink)?;
-    Ok(is_answer(report, &output, row.out, row.err, row.status)?)
+    is_answer(report, &output, row.out, row.err, row.status);
+    Ok(())
 }
 
 #[test]
@@ -367,7 +368,7 @@ fn long_lines(rt: HostRuntime) -> Result<(), Fail> {
     let mut report = Report::new(rt.alloc());
     for row in &LONG_LINES {
         let ended = try_long_line(&mut report, rt.alloc(), row);
-        report.row(row.name, ended)?;
+        report.row(row.name, ended);
     }
     report.end(&rt)
 }
@@ -384,7 +385,8 @@ fn try_cut(report: &mut Report, alloc: Global, left: usize) -> Result<(), Fail> 
     let sink = FailingSink::endless(alloc);
     let output = run_lines(alloc, VALIDATE, THREE, left, sink)?;
     let err = "crdx: object: read failed\n";
-    Ok(is_answer(report, &output, out.as_str(), err, 4)?)
+    is_answer(report, &output, out.as_str(), err, 4);
+    Ok(())
 }
 
 /// Reading fails after each byte, also after the last one.
@@ -394,7 +396,7 @@ fn cut_inputs(rt: HostRuntime) -> Result<(), Fail> {
     for left in 0..=THREE.len() {
         let name = format!(in rt.alloc(); "lines of which {left} bytes are read")?;
         let ended = try_cut(&mut report, rt.alloc(), left);
-        report.row(name.as_str(), ended)?;
+        report.row(name.as_str(), ended);
     }
     report.end(&rt)
 }
@@ -451,7 +453,8 @@ fn try_room(
         let out = beginning(out, room);
         return has_failed(report, alloc, &output, out, count_lines(out));
     }
-    is_answer(report, &output, out, "", row.status)
+    is_answer(report, &output, out, "", row.status);
+    Ok(())
 }
 
 fn try_rooms(report: &mut Report, alloc: Global, row: &Lines) -> Result<(), Fail> {
@@ -469,7 +472,7 @@ fn full_sinks(rt: HostRuntime) -> Result<(), Fail> {
     let mut report = Report::new(rt.alloc());
     for row in &WHOLE {
         let ended = try_rooms(&mut report, rt.alloc(), row);
-        report.row(row.name, ended)?;
+        report.row(row.name, ended);
     }
     report.end(&rt)
 }
@@ -487,6 +490,6 @@ fn try_failed_flush(report: &mut Report, alloc: Global) -> Result<(), Fail> {
 fn failed_flushes(rt: HostRuntime) -> Result<(), Fail> {
     let mut report = Report::new(rt.alloc());
     let ended = try_failed_flush(&mut report, rt.alloc());
-    report.row("a flush that fails", ended)?;
+    report.row("a flush that fails", ended);
     report.end(&rt)
 }

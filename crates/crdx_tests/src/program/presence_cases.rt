@@ -405,20 +405,20 @@ F12 "/o/b"
 #[test]
 fn fields(rt: HostRuntime) -> Result<(), Fail> {
     let mut report = Report::new(rt.alloc());
-    all_fields(&mut report, rt.alloc(), &FIELDS)?;
+    all_fields(&mut report, rt.alloc(), &FIELDS);
     report.end(&rt)
 }
 
 #[test]
 fn roots(rt: HostRuntime) -> Result<(), Fail> {
     let mut report = Report::new(rt.alloc());
-    all_checked(&mut report, rt.alloc(), &ROOTS)?;
+    all_checked(&mut report, rt.alloc(), &ROOTS);
     report.end(&rt)
 }
 
 #[test]
 fn objects(rt: HostRuntime) -> Result<(), Fail> {
     let mut report = Report::new(rt.alloc());
-    all_validated(&mut report, rt.alloc(), &OBJECTS)?;
+    all_validated(&mut report, rt.alloc(), &OBJECTS);
     report.end(&rt)
 }

@@ -335,6 +335,6 @@ static ROWS: [SchemaRun<'static>; 26] = [
 #[test]
 fn present_paths(rt: HostRuntime) -> Result<(), Fail> {
     let mut report = Report::new(rt.alloc());
-    all_schema_runs(&mut report, rt.alloc(), &ROWS)?;
+    all_schema_runs(&mut report, rt.alloc(), &ROWS);
     report.end(&rt)
 }

@@ -207,7 +207,7 @@ static ROWS: [Run<'static>; 20] = [
 #[test]
 fn inputs(rt: HostRuntime) -> Result<(), Fail> {
     let mut report = Report::new(rt.alloc());
-    all_runs(&mut report, rt.alloc(), &ROWS)?;
+    all_runs(&mut report, rt.alloc(), &ROWS);
     report.end(&rt)
 }
 
@@ -228,7 +228,7 @@ static HELP: [CommandLine; 2] = [
 #[test]
 fn help(rt: HostRuntime) -> Result<(), Fail> {
     let mut report = Report::new(rt.alloc());
-    all_helped(&mut report, rt.alloc(), &HELP)?;
+    all_helped(&mut report, rt.alloc(), &HELP);
     report.end(&rt)
 }
 
@@ -277,7 +277,7 @@ fn long_objects(rt: HostRuntime) -> Result<(), Fail> {
     let mut report = Report::new(rt.alloc());
     for row in &LONG {
         let ended = try_long(&mut report, rt.alloc(), row);
-        report.row(row.name, ended)?;
+        report.row(row.name, ended);
     }
     report.end(&rt)
 }

@@ -94,8 +94,9 @@ fn goes_on(
     }
     let output = run_walk(alloc, command.as_str(), FailingSink::endless(alloc))?;
     let joined = format!(in alloc; "{out}{}", output.out.text())?;
-    report.is_text("both outputs", joined.as_str(), walk.lines)?;
-    report.is_text("standard error", output.err.text(), "crdx: end\n")
+    report.is_text("both outputs", joined.as_str(), walk.lines);
+    report.is_text("standard error", output.err.text(), "crdx: end\n");
+    Ok(())
 }
 
 fn try_walk(report: &mut Report, alloc: Global, walk: &TenLines) -> Result<(), Fail> {
@@ -113,7 +114,7 @@ fn walks_go_on(rt: HostRuntime) -> Result<(), Fail> {
     let mut report = Report::new(rt.alloc());
     for walk in &WALKS {
         let ended = try_walk(&mut report, rt.alloc(), walk);
-        report.row(walk.name, ended)?;
+        report.row(walk.name, ended);
     }
     report.end(&rt)
 }

@@ -140,6 +140,6 @@ static REFUSALS: [Run<'static>; 14] = [
 #[test]
 fn refusals(rt: HostRuntime) -> Result<(), Fail> {
     let mut report = Report::new(rt.alloc());
-    all_runs(&mut report, rt.alloc(), &REFUSALS)?;
+    all_runs(&mut report, rt.alloc(), &REFUSALS);
     report.end(&rt)
 }

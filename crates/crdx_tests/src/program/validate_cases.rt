@@ -324,14 +324,14 @@ F15 "/z"
 #[test]
 fn values(rt: HostRuntime) -> Result<(), Fail> {
     let mut report = Report::new(rt.alloc());
-    all_validated(&mut report, rt.alloc(), &VALUES)?;
+    all_validated(&mut report, rt.alloc(), &VALUES);
     report.end(&rt)
 }
 
 #[test]
 fn kinds(rt: HostRuntime) -> Result<(), Fail> {
     let mut report = Report::new(rt.alloc());
-    all_validated(&mut report, rt.alloc(), &KINDS)?;
+    all_validated(&mut report, rt.alloc(), &KINDS);
     report.end(&rt)
 }
 
@@ -343,13 +343,13 @@ fn strict(rt: HostRuntime) -> Result<(), Fail> {
         rt.alloc(),
         "crdx validate --strict crd.json v1",
         &STRICT,
-    )?;
+    );
     report.end(&rt)
 }
 
 #[test]
 fn items_and_members(rt: HostRuntime) -> Result<(), Fail> {
     let mut report = Report::new(rt.alloc());
-    all_validated(&mut report, rt.alloc(), &ITEMS_AND_MEMBERS)?;
+    all_validated(&mut report, rt.alloc(), &ITEMS_AND_MEMBERS);
     report.end(&rt)
 }

@@ -123,6 +123,6 @@ V16 "/properties/x/anyOf/4"
 #[test]
 fn junctors(rt: HostRuntime) -> Result<(), Fail> {
     let mut report = Report::new(rt.alloc());
-    all_checked(&mut report, rt.alloc(), &JUNCTORS)?;
+    all_checked(&mut report, rt.alloc(), &JUNCTORS);
     report.end(&rt)
 }

@@ -437,48 +437,48 @@ V13 "/properties/x"
 #[test]
 fn list_types(rt: HostRuntime) -> Result<(), Fail> {
     let mut report = Report::new(rt.alloc());
-    all_fields(&mut report, rt.alloc(), &LIST_TYPES)?;
+    all_fields(&mut report, rt.alloc(), &LIST_TYPES);
     report.end(&rt)
 }
 
 #[test]
 fn keys_elsewhere(rt: HostRuntime) -> Result<(), Fail> {
     let mut report = Report::new(rt.alloc());
-    all_fields(&mut report, rt.alloc(), &KEYS_ELSEWHERE)?;
+    all_fields(&mut report, rt.alloc(), &KEYS_ELSEWHERE);
     report.end(&rt)
 }
 
 #[test]
 fn map_lists(rt: HostRuntime) -> Result<(), Fail> {
     let mut report = Report::new(rt.alloc());
-    all_fields(&mut report, rt.alloc(), &MAP_LISTS)?;
+    all_fields(&mut report, rt.alloc(), &MAP_LISTS);
     report.end(&rt)
 }
 
 #[test]
 fn items(rt: HostRuntime) -> Result<(), Fail> {
     let mut report = Report::new(rt.alloc());
-    all_fields(&mut report, rt.alloc(), &ITEMS)?;
+    all_fields(&mut report, rt.alloc(), &ITEMS);
     report.end(&rt)
 }
 
 #[test]
 fn keys(rt: HostRuntime) -> Result<(), Fail> {
     let mut report = Report::new(rt.alloc());
-    all_fields(&mut report, rt.alloc(), &KEYS)?;
+    all_fields(&mut report, rt.alloc(), &KEYS);
     report.end(&rt)
 }
 
 #[test]
 fn sets(rt: HostRuntime) -> Result<(), Fail> {
     let mut report = Report::new(rt.alloc());
-    all_fields(&mut report, rt.alloc(), &SETS)?;
+    all_fields(&mut report, rt.alloc(), &SETS);
     report.end(&rt)
 }
 
 #[test]
 fn map_types(rt: HostRuntime) -> Result<(), Fail> {
     let mut report = Report::new(rt.alloc());
-    all_checked(&mut report, rt.alloc(), &MAP_TYPES)?;
+    all_checked(&mut report, rt.alloc(), &MAP_TYPES);
     report.end(&rt)
 }

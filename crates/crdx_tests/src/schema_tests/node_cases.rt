@@ -188,11 +188,11 @@ fn nodes(rt: HostRuntime) -> Result<(), Fail> {
     let mut report = Report::new(rt.alloc());
     for row in &NODES {
         let ended = try_field(&mut report, rt.alloc(), row);
-        report.row(row.name, ended)?;
+        report.row(row.name, ended);
     }
     for row in &ROOTS {
         let ended = try_root(&mut report, rt.alloc(), row);
-        report.row(row.name, ended)?;
+        report.row(row.name, ended);
     }
     report.end(&rt)
 }

@@ -396,34 +396,34 @@ V17 "/properties/x"
 #[test]
 fn types(rt: HostRuntime) -> Result<(), Fail> {
     let mut report = Report::new(rt.alloc());
-    all_checked(&mut report, rt.alloc(), &TYPES)?;
+    all_checked(&mut report, rt.alloc(), &TYPES);
     report.end(&rt)
 }
 
 #[test]
 fn unknown_fields(rt: HostRuntime) -> Result<(), Fail> {
     let mut report = Report::new(rt.alloc());
-    all_fields(&mut report, rt.alloc(), &UNKNOWN_FIELDS)?;
+    all_fields(&mut report, rt.alloc(), &UNKNOWN_FIELDS);
     report.end(&rt)
 }
 
 #[test]
 fn keywords(rt: HostRuntime) -> Result<(), Fail> {
     let mut report = Report::new(rt.alloc());
-    all_checked(&mut report, rt.alloc(), &KEYWORDS)?;
+    all_checked(&mut report, rt.alloc(), &KEYWORDS);
     report.end(&rt)
 }
 
 #[test]
 fn required(rt: HostRuntime) -> Result<(), Fail> {
     let mut report = Report::new(rt.alloc());
-    all_fields(&mut report, rt.alloc(), &REQUIRED)?;
+    all_fields(&mut report, rt.alloc(), &REQUIRED);
     report.end(&rt)
 }
 
 #[test]
 fn values(rt: HostRuntime) -> Result<(), Fail> {
     let mut report = Report::new(rt.alloc());
-    all_checked(&mut report, rt.alloc(), &VALUES)?;
+    all_checked(&mut report, rt.alloc(), &VALUES);
     report.end(&rt)
 }

@@ -171,7 +171,7 @@ fn definitions(rt: HostRuntime) -> Result<(), Fail> {
     for row in &DEFINITIONS {
         let found = said(rt.alloc(), row.document);
         let ended = is_said(&mut report, "what is read", found, row.wanted);
-        report.row(row.name, ended)?;
+        report.row(row.name, ended);
     }
     report.end(&rt)
 }
@@ -422,10 +422,10 @@ static FIRST_BREAKS: [SchemaSaid; 6] = [
 #[test]
 fn forms(rt: HostRuntime) -> Result<(), Fail> {
     let mut report = Report::new(rt.alloc());
-    all_schemas(&mut report, rt.alloc(), &FORMS)?;
-    all_schemas(&mut report, rt.alloc(), &TEXTS)?;
-    all_schemas(&mut report, rt.alloc(), &SCHEMAS)?;
-    all_schemas(&mut report, rt.alloc(), &NUMBERS)?;
-    all_schemas(&mut report, rt.alloc(), &FIRST_BREAKS)?;
+    all_schemas(&mut report, rt.alloc(), &FORMS);
+    all_schemas(&mut report, rt.alloc(), &TEXTS);
+    all_schemas(&mut report, rt.alloc(), &SCHEMAS);
+    all_schemas(&mut report, rt.alloc(), &NUMBERS);
+    all_schemas(&mut report, rt.alloc(), &FIRST_BREAKS);
     report.end(&rt)
 }

@@ -110,20 +110,20 @@ static REQUIRED_AT_THE_ROOT: [Checked<'static>; 3] = [
 #[test]
 fn roots(rt: HostRuntime) -> Result<(), Fail> {
     let mut report = Report::new(rt.alloc());
-    all_checked(&mut report, rt.alloc(), &ROOTS)?;
+    all_checked(&mut report, rt.alloc(), &ROOTS);
     report.end(&rt)
 }
 
 #[test]
 fn root_keywords(rt: HostRuntime) -> Result<(), Fail> {
     let mut report = Report::new(rt.alloc());
-    all_checked(&mut report, rt.alloc(), &ROOT_KEYWORDS)?;
+    all_checked(&mut report, rt.alloc(), &ROOT_KEYWORDS);
     report.end(&rt)
 }
 
 #[test]
 fn required_at_the_root(rt: HostRuntime) -> Result<(), Fail> {
     let mut report = Report::new(rt.alloc());
-    all_checked(&mut report, rt.alloc(), &REQUIRED_AT_THE_ROOT)?;
+    all_checked(&mut report, rt.alloc(), &REQUIRED_AT_THE_ROOT);
     report.end(&rt)
 }

@@ -181,7 +181,7 @@ V14 "/properties/spec-b"
 #[test]
 fn judged(rt: HostRuntime) -> Result<(), Fail> {
     let mut report = Report::new(rt.alloc());
-    all_checked(&mut report, rt.alloc(), &MISPLACED)?;
-    all_checked(&mut report, rt.alloc(), &JUDGED)?;
+    all_checked(&mut report, rt.alloc(), &MISPLACED);
+    all_checked(&mut report, rt.alloc(), &JUDGED);
     report.end(&rt)
 }

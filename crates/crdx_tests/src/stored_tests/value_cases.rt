@@ -207,7 +207,7 @@ fn all_answer(
     };
     for item in &items.items {
         let text = item.to_text(alloc)?;
-        report.holds_of(what, text.as_str(), good.holds(node, item) == wanted)?;
+        report.holds_of(what, text.as_str(), good.holds(node, item) == wanted);
     }
     Ok(())
 }
@@ -252,11 +252,11 @@ fn values(rt: HostRuntime) -> Result<(), Fail> {
     let mut report = Report::new(rt.alloc());
     for row in &VALUES {
         let ended = try_values(&mut report, rt.alloc(), row, Good::Valid);
-        report.row(row.name, ended)?;
+        report.row(row.name, ended);
     }
     for row in &STORED {
         let ended = try_values(&mut report, rt.alloc(), row, Good::Stored);
-        report.row(row.name, ended)?;
+        report.row(row.name, ended);
     }
     report.end(&rt)
 }

@@ -285,7 +285,7 @@ fn documents(rt: HostRuntime) -> Result<(), Fail> {
     let mut report = Report::new(rt.alloc());
     for row in &DOCUMENTS {
         let ended = try_document(&mut report, rt.alloc(), row);
-        report.row(row.name, ended)?;
+        report.row(row.name, ended);
     }
     report.end(&rt)
 }
@@ -300,7 +300,7 @@ fn hints(rt: HostRuntime) -> Result<(), Fail> {
     let mut report = Report::new(rt.alloc());
     for row in &HINTS {
         let ended = try_hints(&mut report, rt.alloc(), row);
-        report.row(row.name, ended)?;
+        report.row(row.name, ended);
     }
     report.end(&rt)
 }
@@ -316,7 +316,7 @@ fn objects(rt: HostRuntime) -> Result<(), Fail> {
     let mut report = Report::new(rt.alloc());
     for row in &OBJECTS {
         let ended = try_objects(&mut report, rt.alloc(), row);
-        report.row(row.name, ended)?;
+        report.row(row.name, ended);
     }
     report.end(&rt)
 }
@@ -327,9 +327,10 @@ fn try_plan(report: &mut Report, alloc: Global) -> Result<(), Fail> {
     let document = suggested(alloc, &schema, r#"[{"x":2}]"#, ("/x", ""), limits)??;
     let schema = schema_of(alloc, &schema)?;
     let pools = Pools::read(alloc, &document)?;
-    report.is_number("the integers", pools.integers().len() as u64, 4)?;
+    report.is_number("the integers", pools.integers().len() as u64, 4);
     let plan: Plan<u64> = Plan::new(alloc, schema, pools, 2)?;
-    Ok(report.is_number("the limit", u64::from(plan.limit()), 2)?)
+    report.is_number("the limit", u64::from(plan.limit()), 2);
+    Ok(())
 }
 
 #[test]
@@ -339,6 +340,6 @@ fn pools_and_a_plan(rt: HostRuntime) -> Result<(), Fail> {
     suggest::laws::the_object_is_a_sample();
     let mut report = Report::new(rt.alloc());
     let ended = try_plan(&mut report, rt.alloc());
-    report.row("a plan over what is suggested", ended)?;
+    report.row("a plan over what is suggested", ended);
     report.end(&rt)
 }

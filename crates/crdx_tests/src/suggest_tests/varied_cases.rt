@@ -222,7 +222,7 @@ fn varied(rt: HostRuntime) -> Result<(), Fail> {
     let mut report = Report::new(rt.alloc());
     for row in &VARIED {
         let ended = try_varied(&mut report, rt.alloc(), row);
-        report.row(row.name, ended)?;
+        report.row(row.name, ended);
     }
     report.end(&rt)
 }
@@ -261,9 +261,10 @@ fn is_answer(
     document: &Result<Tree, SuggestFault>,
     wanted: Answer<'_>,
 ) -> Result<(), Fail> {
-    report.is_value("the answer", &answer_of(document), &wanted)?;
+    report.is_value("the answer", &answer_of(document), &wanted);
     let phrase = phrase_of(alloc, wanted)?;
-    Ok(report.is_text("what is printed", &said_of(alloc, document)?, &phrase)?)
+    report.is_text("what is printed", &said_of(alloc, document)?, &phrase);
+    Ok(())
 }
 
 fn try_fault(report: &mut Report, alloc: Global, row: &Refused) -> Result<(), Fail> {
@@ -277,7 +278,7 @@ fn faults(rt: HostRuntime) -> Result<(), Fail> {
     let mut report = Report::new(rt.alloc());
     for row in &FAULTS {
         let ended = try_fault(&mut report, rt.alloc(), row);
-        report.row(row.name, ended)?;
+        report.row(row.name, ended);
     }
     report.end(&rt)
 }
@@ -367,7 +368,7 @@ fn many_siblings(rt: HostRuntime) -> Result<(), Fail> {
     let mut report = Report::new(rt.alloc());
     for row in &MANY_FIELDS {
         let ended = try_many(&mut report, rt.alloc(), row);
-        report.row(row.name, ended)?;
+        report.row(row.name, ended);
     }
     report.end(&rt)
 }

@@ -42,13 +42,14 @@ fn are_candidates(
     requires leaf { sort_of (site_at (sites_of plan.now.pools plan.now.root) node) ≡ sort.Leaf }
 {
     let count = wanted.len();
-    report.is_number("the count", plan.count(node), count as u64)?;
+    report.is_number("the count", plan.count(node), count as u64);
     for (place, tree) in wanted.iter().enumerate() {
         let found = plan.candidate(node, place_of(place), meter);
-        report.holds("a candidate", is_same(found, tree))?;
+        report.holds("a candidate", is_same(found, tree));
     }
     let after = plan.candidate(node, place_of(count), meter);
-    Ok(report.holds("no candidate after the last", after.is_none())?)
+    report.holds("no candidate after the last", after.is_none());
+    Ok(())
 }
 
 /// The candidates of a leaf are all parts, also those of more nodes than the limit.
@@ -67,7 +68,10 @@ fn try_leaf(
             let parts = plain_parts(of.alloc, node, path, of.pools, u64::MAX)?;
             are_candidates(report, of.plan, number, &parts, meter)
         }
-        Sort::Row | Sort::List => Ok(report.holds("a leaf", false)?),
+        Sort::Row | Sort::List => {
+            report.holds("a leaf", false);
+            Ok(())
+        }
     }
 }
 
@@ -110,7 +114,8 @@ fn is_more(
     taken: u32,
 ) -> Result<(), Fail> {
     let Some(more) = found else {
-        return Ok(report.holds("a list", false)?);
+        report.holds("a list", false);
+        return Ok(());
     };
     let wanted = plain_more(alloc, parts, taken)?;
     are_sizes(report, alloc, "what can follow", more, &wanted)
@@ -147,7 +152,7 @@ fn rests_at(
     requires { number < length (sites_of of.plan.now.pools of.plan.now.root) }
 {
     let named = plain_named(of.alloc, ending)?;
-    report.holds("few named fields", named.len() <= 4)?;
+    report.holds("few named fields", named.len() <= 4);
     for taken in 0..=place.min(99) as u32 {
         for seen in 0..choices_of(&named) {
             let before = Before {
@@ -182,7 +187,8 @@ fn is_rest(
     after: &[Choice],
 ) -> Result<(), Fail> {
     let Some(rest) = found else {
-        return Ok(report.holds("a place", false)?);
+        report.holds("a place", false);
+        return Ok(());
     };
     let limit = u64::from(of.plan.limit());
     let wanted = plain_rest(of.alloc, after, limit, ending, before)?;
@@ -236,7 +242,7 @@ fn try_items(
     requires { number < length (sites_of of.plan.now.pools of.plan.now.root) }
 {
     let found = item_of(of.plan, number, 0, meter);
-    report.holds("an item", found.is_some() == has_items)?;
+    report.holds("an item", found.is_some() == has_items);
     let Some(below) = found else {
         return Ok(());
     };
@@ -314,7 +320,7 @@ fn try_slot(
 ) -> Result<(), Fail>
     requires { IfSome found (λ n. n < length (sites_of of.plan.now.pools of.plan.now.root)) }
 {
-    report.holds("a slot", found.is_some() == slot.is_some())?;
+    report.holds("a slot", found.is_some() == slot.is_some());
     match (found, slot) {
         (Some(below), Some(slot)) => {
             try_nodes(report, of, below, node, path, &slot.values, meter)
@@ -337,9 +343,10 @@ fn try_page(
 {
     let page = page(of.alloc, of.plan, before.last(), count, meter)?;
     let wanted = next.get(..count as usize).unwrap_or(next);
-    report.holds("a page", page.items.as_slice() == wanted)?;
+    report.holds("a page", page.items.as_slice() == wanted);
     let end = next.len() <= count as usize;
-    Ok(report.holds("the end of a page", page.end == end)?)
+    report.holds("the end of a page", page.end == end);
+    Ok(())
 }
 
 /// All samples in one page, and a page of two past each of them.
@@ -349,7 +356,7 @@ fn try_samples(
     samples: &[Tree],
     meter: &mut Meter,
 ) -> Result<(), Fail> {
-    report.holds("few samples", samples.len() <= 5000)?;
+    report.holds("few samples", samples.len() <= 5000);
     try_page(report, of, &[], samples, 10000, meter)?;
     for place in 0..=samples.len() {
         let (before, next) = samples.split_at(place);
@@ -364,7 +371,7 @@ fn try_stored(report: &mut Report, of: Compared<'_>, root: &Node) -> Result<(), 
     for value in plain_values(of.alloc, root, "", of.pools, limit)? {
         if is_stored(root, &value) != is_plainly_stored(root, &value) {
             let text = value.to_text(of.alloc)?;
-            report.holds_of("the same answer of `is_stored`", text.as_str(), false)?;
+            report.holds_of("the same answer of `is_stored`", text.as_str(), false);
         }
     }
     Ok(())
@@ -409,5 +416,6 @@ pub fn compare_plan(
     let limit = given.limit;
     let name = format!(in alloc; "{name}, of at most {limit} nodes")?;
     let ended = try_plan(report, alloc, given);
-    report.row(name.as_str(), ended)
+    report.row(name.as_str(), ended);
+    Ok(())
 }

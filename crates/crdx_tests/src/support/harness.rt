@@ -57,7 +57,8 @@ pub fn is_said(
     wanted: &str,
 ) -> Result<(), Fail> {
     let found = found?;
-    Ok(report.is_text(what, found.as_str(), wanted)?)
+    report.is_text(what, found.as_str(), wanted);
+    Ok(())
 }
 
 /// Notes it unless the tree has the text that is wanted.
@@ -69,20 +70,15 @@ pub fn is_tree(
     wanted: &str,
 ) -> Result<(), Fail> {
     let text = found.to_text(alloc)?;
-    Ok(report.is_text(what, text.as_str(), wanted)?)
+    report.is_text(what, text.as_str(), wanted);
+    Ok(())
 }
 
 /// Notes it unless a run wrote these texts and ended with this status.
-pub fn is_answer(
-    report: &mut Report,
-    output: &Output,
-    out: &str,
-    err: &str,
-    status: u8,
-) -> Result<(), AllocError> {
-    report.is_text("standard output", output.out.text(), out)?;
-    report.is_text("standard error", output.err.text(), err)?;
-    report.is_number("the status", u64::from(output.status), u64::from(status))
+pub fn is_answer(report: &mut Report, output: &Output, out: &str, err: &str, status: u8) {
+    report.is_text("standard output", output.out.text(), out);
+    report.is_text("standard error", output.err.text(), err);
+    report.is_number("the status", u64::from(output.status), u64::from(status));
 }
 
 /// A CustomResourceDefinition whose one version, `v1`, has this schema.
@@ -118,16 +114,16 @@ pub fn try_run(report: &mut Report, alloc: Global, run: &Run<'_>) -> Result<(), 
     let output = run_on(alloc, run.command, inputs, FailingSink::endless(alloc))?;
     let out = with_phrases(alloc, run.out)?;
     let err = with_phrases(alloc, run.err)?;
-    Ok(is_answer(report, &output, out.as_str(), err.as_str(), run.status)?)
+    is_answer(report, &output, out.as_str(), err.as_str(), run.status);
+    Ok(())
 }
 
 /// Tries each run.
-pub fn all_runs(report: &mut Report, alloc: Global, runs: &[Run<'_>]) -> Result<(), AllocError> {
+pub fn all_runs(report: &mut Report, alloc: Global, runs: &[Run<'_>]) {
     for run in runs {
         let ended = try_run(report, alloc, run);
-        report.row(run.name, ended)?;
+        report.row(run.name, ended);
     }
-    Ok(())
 }
 
 /// As `Run`, with a schema in place of the definition that has it.
@@ -159,16 +155,11 @@ pub fn try_schema_run(report: &mut Report, alloc: Global, run: &SchemaRun<'_>) -
 }
 
 /// Tries each run by a schema.
-pub fn all_schema_runs(
-    report: &mut Report,
-    alloc: Global,
-    runs: &[SchemaRun<'_>],
-) -> Result<(), AllocError> {
+pub fn all_schema_runs(report: &mut Report, alloc: Global, runs: &[SchemaRun<'_>]) {
     for run in runs {
         let ended = try_schema_run(report, alloc, run);
-        report.row(run.name, ended)?;
+        report.row(run.name, ended);
     }
-    Ok(())
 }
 
 /// Notes it unless a sink failed when this was out, with so many whole lines in it, and the run says so.
@@ -180,7 +171,8 @@ pub fn has_failed(
     lines: u64,
 ) -> Result<(), AllocError> {
     let err = format!(in alloc; "crdx: write failed after {lines} lines\n")?;
-    is_answer(report, output, out, err.as_str(), 4)
+    is_answer(report, output, out, err.as_str(), 4);
+    Ok(())
 }
 
 /// Whether there is a tree, and it is the one that is wanted.
@@ -261,16 +253,11 @@ pub struct SchemaSaid {
 }
 
 /// As `try_schema`, of each row.
-pub fn all_schemas(
-    report: &mut Report,
-    alloc: Global,
-    rows: &[SchemaSaid],
-) -> Result<(), AllocError> {
+pub fn all_schemas(report: &mut Report, alloc: Global, rows: &[SchemaSaid]) {
     for row in rows {
         let ended = try_schema(report, alloc, row.schema, row.wanted);
-        report.row(row.name, ended)?;
+        report.row(row.name, ended);
     }
-    Ok(())
 }
 
 /// A schema, or that of a field, and what `check` writes: `structural` with the status 0, or the lines of all that is broken with the
@@ -306,23 +293,18 @@ pub fn all_checked_by<'a>(
     alloc: Global,
     command: &'a str,
     rows: &[Checked<'a>],
-) -> Result<(), AllocError> {
+) {
     for row in rows {
         let ended = try_checked(report, alloc, command, row);
-        report.row(row.name, ended)?;
+        report.row(row.name, ended);
     }
-    Ok(())
 }
 
 const CHECK: &str = "crdx check crd.json v1";
 
 /// Tries what `check` writes of each schema.
-pub fn all_checked(
-    report: &mut Report,
-    alloc: Global,
-    rows: &[Checked<'_>],
-) -> Result<(), AllocError> {
-    all_checked_by(report, alloc, CHECK, rows)
+pub fn all_checked(report: &mut Report, alloc: Global, rows: &[Checked<'_>]) {
+    all_checked_by(report, alloc, CHECK, rows);
 }
 
 /// As `try_checked`, of an object with one field, `x`, of this schema.
@@ -337,16 +319,11 @@ fn try_field(report: &mut Report, alloc: Global, row: &Checked<'_>) -> Result<()
 }
 
 /// Tries what `check` writes of each schema of a field.
-pub fn all_fields(
-    report: &mut Report,
-    alloc: Global,
-    rows: &[Checked<'_>],
-) -> Result<(), AllocError> {
+pub fn all_fields(report: &mut Report, alloc: Global, rows: &[Checked<'_>]) {
     for row in rows {
         let ended = try_field(report, alloc, row);
-        report.row(row.name, ended)?;
+        report.row(row.name, ended);
     }
-    Ok(())
 }
 
 /// An object by a schema, and what `validate` writes: `valid` with the status 0, or the lines of all faults with the status 1.
@@ -382,19 +359,14 @@ pub fn all_validated_by<'a>(
     alloc: Global,
     command: &'a str,
     rows: &[Validated<'a>],
-) -> Result<(), AllocError> {
+) {
     for row in rows {
         let ended = try_validated(report, alloc, command, row);
-        report.row(row.name, ended)?;
+        report.row(row.name, ended);
     }
-    Ok(())
 }
 
 /// Tries what `validate` writes of each object.
-pub fn all_validated(
-    report: &mut Report,
-    alloc: Global,
-    rows: &[Validated<'_>],
-) -> Result<(), AllocError> {
-    all_validated_by(report, alloc, "crdx validate crd.json v1", rows)
+pub fn all_validated(report: &mut Report, alloc: Global, rows: &[Validated<'_>]) {
+    all_validated_by(report, alloc, "crdx validate crd.json v1", rows);
 }

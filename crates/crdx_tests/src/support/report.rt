@@ -18,6 +18,8 @@ pub struct Report {
     differences: String,
     /// The rows that failed, each with what differs in it.
     failed: String,
+    /// Whether there was no memory for a note.
+    is_full: bool,
 }
 
 impl Report {
@@ -29,79 +31,80 @@ impl Report {
             checks: 0,
             differences: String::new(alloc),
             failed: String::new(alloc),
+            is_full: false,
         }
     }
 
     /// Notes it unless the value is the one that is wanted.
-    pub fn is_value<T: PartialEq + Debug>(
-        &mut self,
-        what: &str,
-        found: &T,
-        wanted: &T,
-    ) -> Result<(), AllocError> {
+    pub fn is_value<T: PartialEq + Debug>(&mut self, what: &str, found: &T, wanted: &T) {
         self.count_check();
-        if *found == *wanted {
-            return Ok(());
+        if *found != *wanted {
+            self.note(format!(in self.alloc;
+                "{what}:\n    found  {found:?}\n    wanted {wanted:?}"
+            ));
         }
-        self.note(format!(in self.alloc; "{what}:\n    found  {found:?}\n    wanted {wanted:?}")?)
     }
 
     /// Notes it unless the text is the one that is wanted.
-    pub fn is_text(&mut self, what: &str, found: &str, wanted: &str) -> Result<(), AllocError> {
-        self.is_value(what, &found, &wanted)
+    pub fn is_text(&mut self, what: &str, found: &str, wanted: &str) {
+        self.is_value(what, &found, &wanted);
     }
 
     /// Notes it unless the number is the one that is wanted.
-    pub fn is_number(&mut self, what: &str, found: u64, wanted: u64) -> Result<(), AllocError> {
-        self.is_value(what, &found, &wanted)
+    pub fn is_number(&mut self, what: &str, found: u64, wanted: u64) {
+        self.is_value(what, &found, &wanted);
     }
 
     /// Notes it unless it holds.
-    pub fn holds(&mut self, what: &str, is: bool) -> Result<(), AllocError> {
+    pub fn holds(&mut self, what: &str, is: bool) {
         self.count_check();
-        if is {
-            return Ok(());
+        if !is {
+            self.note(format!(in self.alloc; "{what}: does not hold"));
         }
-        self.note(format!(in self.alloc; "{what}: does not hold")?)
     }
 
     /// Notes it, and of which text, unless it holds.
-    pub fn holds_of(&mut self, what: &str, text: &str, is: bool) -> Result<(), AllocError> {
+    pub fn holds_of(&mut self, what: &str, text: &str, is: bool) {
         self.count_check();
-        if is {
-            return Ok(());
+        if !is {
+            self.note(format!(in self.alloc; "{what}: does not hold of {text:?}"));
         }
-        self.note(format!(in self.alloc; "{what}: does not hold of {text:?}")?)
     }
 
     fn count_check(&mut self) {
         self.checks = self.checks.saturating_add(1);
     }
 
-    fn note(&mut self, difference: String) -> Result<(), AllocError> {
+    fn note(&mut self, difference: Result<String, AllocError>) {
+        let is_kept = self.keep_difference(difference).is_ok();
+        self.is_full |= !is_kept;
+    }
+
+    fn keep_difference(
+        &mut self,
+        difference: Result<String, AllocError>,
+    ) -> Result<(), AllocError> {
         self.differences.push_str("  ")?;
-        self.differences.push_str(difference.as_str())?;
+        self.differences.push_str(difference?.as_str())?;
         Ok(self.differences.push('\n')?)
     }
 
     /// Ends a row, which has failed where a check did, where nothing was checked, and where it ended early, by an error.
-    pub fn row(&mut self, name: &str, ended: Result<(), Fail>) -> Result<(), AllocError> {
+    pub fn row(&mut self, name: &str, ended: Result<(), Fail>) {
         match ended {
-            Err(fail) => {
-                let error = error_text(self.alloc, fail)?;
-                self.note(format!(in self.alloc; "ended early: {error}")?)?;
-            }
+            Err(fail) => self.note(ended_early(self.alloc, fail)),
             Ok(()) if self.checks == 0 => {
-                self.note(String::from_str(self.alloc, "nothing was checked")?)?;
+                self.note(String::from_str(self.alloc, "nothing was checked"));
             }
             Ok(()) => {}
         }
         self.rows = self.rows.saturating_add(1);
         self.checks = 0;
-        self.keep_differences(name)
+        let is_kept = self.keep_row(name).is_ok();
+        self.is_full |= !is_kept;
     }
 
-    fn keep_differences(&mut self, name: &str) -> Result<(), AllocError> {
+    fn keep_row(&mut self, name: &str) -> Result<(), AllocError> {
         if self.differences.is_empty() {
             return Ok(());
         }
@@ -110,11 +113,14 @@ impl Report {
         self.failed.push_str(failed.as_str())
     }
 
-    /// Ends the test: fails with all rows that failed, and where no row was tried.
+    /// Ends the test: fails with all rows that failed, where no row was tried, and where a note was lost.
     pub fn end(mut self, rt: &impl Abort) -> Result<(), Fail> {
-        self.keep_differences("outside the rows")?;
+        self.keep_row("outside the rows")?;
         if self.rows == 0 {
             self.failed.push_str("no row was tried\n")?;
+        }
+        if self.is_full {
+            self.failed.push_str("there was no memory for a note\n")?;
         }
         assert!(rt;
             self.failed.is_empty(),
@@ -123,6 +129,12 @@ impl Report {
         );
         Ok(())
     }
+}
+
+/// What is noted of a row that ended early.
+fn ended_early(alloc: Global, fail: Fail) -> Result<String, AllocError> {
+    let error = error_text(alloc, fail)?;
+    format!(in alloc; "ended early: {error}")
 }
 
 /// The text that a failure writes.
