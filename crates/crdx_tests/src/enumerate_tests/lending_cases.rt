@@ -10,8 +10,9 @@ use crate::support::pages::place_of;
 use crate::support::report::Report;
 use enumerate::{Change, EFault, Live, Taker};
 use jtree::Tree;
-use plan::Meter;
+use plan::{Meter, Plan};
 use std::alloc::{AllocError, Global};
+use std::fmt::Write;
 use std::test::Fail;
 
 /// Copies of samples, with room for so many. It fails where a sample differs from the one before in more than the change.
@@ -158,8 +159,8 @@ static LENT: [LentRow; 6] = [
 fn texts(alloc: Global, trees: &[Tree]) -> Result<String, Fail> {
     let mut all = String::new(alloc);
     for tree in trees {
-        all.push_str(tree.to_text(alloc)?.as_str())?;
-        all.push(' ')?;
+        let text = tree.to_text(alloc)?;
+        write!(all, "{text} ")?;
     }
     Ok(all)
 }
@@ -168,6 +169,18 @@ fn said_of_tree(alloc: Global, tree: Option<&Tree>) -> Result<String, Fail> {
     match tree {
         Some(tree) => Ok(tree.to_text(alloc)?),
         None => Ok(String::from_str(alloc, "ended")?),
+    }
+}
+
+fn has_ended(
+    report: &mut Report,
+    live: &mut Live<'_, u64>,
+    copies: &mut Copies,
+    meter: &mut Meter,
+) {
+    for count in [0, 1] {
+        let again = live.lend_page(count, copies, meter);
+        report.is_value("an answer after the end", &again, &Err(EFault::Ended));
     }
 }
 
@@ -188,10 +201,7 @@ fn lends(
     let second = live.lend_page(row.second, &mut copies, meter);
     report.is_value("the second answer", &second, &row.answer);
     if live.tree().is_none() {
-        for count in [0, 1] {
-            let again = live.lend_page(count, &mut copies, meter);
-            report.is_value("an answer after the end", &again, &Err(EFault::Ended));
-        }
+        has_ended(report, live, &mut copies, meter);
     }
     is_said(report, "taken", texts(alloc, &copies.trees), row.taken)?;
     is_said(
@@ -202,14 +212,24 @@ fn lends(
     )
 }
 
+fn lends_past(
+    report: &mut Report,
+    alloc: Global,
+    plan: &Plan<u64>,
+    row: &LentRow,
+    meter: &mut Meter,
+) -> Result<(), Fail> {
+    let place = place_of(alloc, row.place)?;
+    match Live::past(alloc, plan, place.as_ref(), meter)? {
+        Some(mut live) => lends(report, alloc, &mut live, row, meter),
+        None => Err(Fail::from("no sample")),
+    }
+}
+
 fn try_lent(report: &mut Report, alloc: Global, row: &LentRow) -> Result<(), Fail> {
     let mut plan = made(alloc, TWO_FIELDS)?;
     let mut meter = plan.meter();
-    let place = place_of(alloc, row.place)?;
-    match Live::past(alloc, &plan, place.as_ref(), &mut meter)? {
-        Some(mut live) => lends(report, alloc, &mut live, row, &mut meter),
-        None => Err(Fail::from("no sample")),
-    }
+    lends_past(report, alloc, &plan, row, &mut meter)
 }
 
 #[test]

@@ -284,29 +284,42 @@ static ASKED: [Asked; 9] = [
 ];
 
 /// The path of the node that is held, what is below it, or both are asked for.
+fn present_paths(alloc: Global, path: &str, row: &Asked, place: u32) -> Result<String, AllocError> {
+    let Asked { one, other, .. } = row;
+    match place {
+        0 => format!(in alloc; r#"["{path}"]"#),
+        1 => format!(in alloc; r#"["{path}{one}"]"#),
+        2 => format!(in alloc; r#"["{path}{other}","{path}{one}"]"#),
+        _ => format!(in alloc; r#"["{path}{other}","{path}","/x"]"#),
+    }
+}
+
+fn asked_node(
+    report: &mut Report,
+    alloc: Global,
+    holder: &Holder,
+    row: &Asked,
+    present: &str,
+) -> Result<(), AllocError> {
+    let pools = format!(in alloc; r#"{{"integers":[0],"names":["p"],"present":{present}}}"#)?;
+    let name = format!(in alloc; ", {present}")?;
+    let over = Over {
+        pools: pools.as_str(),
+        limit: 6,
+        name: name.as_str(),
+    };
+    one_node(report, alloc, holder, row.name, row.schema, over)
+}
+
 fn asked_nodes(
     report: &mut Report,
     alloc: Global,
     holder: &Holder,
     row: &Asked,
 ) -> Result<(), AllocError> {
-    let Holder { path, .. } = holder;
-    let Asked { one, other, .. } = row;
-    for present in [
-        format!(in alloc; r#"["{path}"]"#)?,
-        format!(in alloc; r#"["{path}{one}"]"#)?,
-        format!(in alloc; r#"["{path}{other}","{path}{one}"]"#)?,
-        format!(in alloc; r#"["{path}{other}","{path}","/x"]"#)?,
-    ] {
-        let present = present.as_str();
-        let pools = format!(in alloc; r#"{{"integers":[0],"names":["p"],"present":{present}}}"#)?;
-        let name = format!(in alloc; ", {present}")?;
-        let over = Over {
-            pools: pools.as_str(),
-            limit: 6,
-            name: name.as_str(),
-        };
-        one_node(report, alloc, holder, row.name, row.schema, over)?;
+    for place in 0..4 {
+        let present = present_paths(alloc, holder.path, row, place)?;
+        asked_node(report, alloc, holder, row, present.as_str())?;
     }
     Ok(())
 }

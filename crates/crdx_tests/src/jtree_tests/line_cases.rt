@@ -6,6 +6,7 @@ use crate::support::texts::padded;
 use jtree::lines::{LineFeed, LineSource};
 use jtree::{JFault, MOST_BYTES, Tree};
 use std::alloc::Global;
+use std::fmt::Write;
 use std::test::Fail;
 
 /// The bytes of a source, and what is read of each line, which is in brackets; or the fault that ends them.
@@ -59,13 +60,11 @@ static LINES: [LinesRow; 8] = [
 ];
 
 fn push_read(alloc: Global, all: &mut String, read: Result<Tree, JFault>) -> Result<(), Fail> {
-    all.push('[')?;
-    match read {
-        Ok(tree) => all.push_str(tree.to_text(alloc)?.as_str())?,
-        Err(fault) => all.push_str(fault.to_string(alloc)?.as_str())?,
-    }
-    all.push(']')?;
-    Ok(())
+    let text = match read {
+        Ok(tree) => tree.to_text(alloc)?,
+        Err(fault) => fault.to_string(alloc)?,
+    };
+    Ok(write!(all, "[{text}]")?)
 }
 
 /// What is read of each line of a source, at most eight of them.

@@ -153,7 +153,7 @@ struct LastNode {
     same_length: bool,
 }
 
-static LAST_NODES: [LastNode; 16] = [
+static LAST_NODES: [LastNode; 8] = [
     LastNode {
         name: "an integer",
         document: "-5",
@@ -218,6 +218,9 @@ static LAST_NODES: [LastNode; 16] = [
         changed: r#"{"a":{"b":7},"c":{"d":[8,12]}}"#,
         same_length: true,
     },
+];
+
+static OTHER_NODES: [LastNode; 8] = [
     LastNode {
         name: "the least integer",
         document: r#"{"z":[{"y":-9223372036854775808}]}"#,
@@ -373,6 +376,11 @@ static LAST_PARTS: [LastPart; 11] = [
     },
 ];
 
+fn after_others(alloc: Global, tree: &Tree, depth: usize) -> Result<String, Fail> {
+    let others = Vec::from_slice(alloc, b"> ")?;
+    Ok(String::from_utf8(tree.append_part(depth, others)?)?)
+}
+
 fn try_last_part(report: &mut Report, alloc: Global, row: &LastPart) -> Result<(), Fail> {
     let tree = Tree::from_bytes(alloc, row.document.as_bytes())?;
     report.is_value(
@@ -380,7 +388,7 @@ fn try_last_part(report: &mut Report, alloc: Global, row: &LastPart) -> Result<(
         &tree.last_depth(),
         &row.last_depth,
     );
-    let text = String::from_utf8(tree.append_part(row.depth, Vec::from_slice(alloc, b"> ")?)?)?;
+    let text = after_others(alloc, &tree, row.depth)?;
     let part = text.as_str().strip_prefix("> ");
     report.is_value("the text of the part", &part, &Some(row.text));
     Ok(())
@@ -411,33 +419,57 @@ fn try_overwriting(
     Ok(())
 }
 
-fn try_last_node(report: &mut Report, alloc: Global, row: &LastNode) -> Result<(), Fail> {
-    let mut tree = Tree::from_bytes(alloc, row.document.as_bytes())?;
-    is_tree(report, alloc, "the last node", tree.last(), row.last)?;
-    let mut node = Tree::from_bytes(alloc, row.other.as_bytes())?;
-    try_overwriting(report, alloc, &tree, &node, row)?;
+fn try_set_last(
+    report: &mut Report,
+    alloc: Global,
+    tree: &mut Tree,
+    node: &Tree,
+    row: &LastNode,
+) -> Result<(), Fail> {
     let depth = tree.last_depth();
-    let found = tree.set_last(alloc, &node)?;
+    let found = tree.set_last(alloc, node)?;
     report.is_value("how deep the node is", &found, &depth);
     is_tree(
         report,
         alloc,
         "the tree with the other node",
-        &tree,
+        tree,
         row.changed,
-    )?;
+    )
+}
+
+fn try_set(
+    report: &mut Report,
+    alloc: Global,
+    node: &mut Tree,
+    row: &LastNode,
+) -> Result<(), Fail> {
     let before = Tree::from_bytes(alloc, row.last.as_bytes())?;
     node.set(alloc, &before)?;
-    is_tree(report, alloc, "a node set to the last one", &node, row.last)
+    is_tree(report, alloc, "a node set to the last one", node, row.last)
+}
+
+fn try_last_node(report: &mut Report, alloc: Global, row: &LastNode) -> Result<(), Fail> {
+    let mut tree = Tree::from_bytes(alloc, row.document.as_bytes())?;
+    is_tree(report, alloc, "the last node", tree.last(), row.last)?;
+    let mut node = Tree::from_bytes(alloc, row.other.as_bytes())?;
+    try_overwriting(report, alloc, &tree, &node, row)?;
+    try_set_last(report, alloc, &mut tree, &node, row)?;
+    try_set(report, alloc, &mut node, row)
+}
+
+fn all_last_nodes(report: &mut Report, alloc: Global, rows: &[LastNode]) {
+    for row in rows {
+        let ended = try_last_node(report, alloc, row);
+        report.row(row.name, ended);
+    }
 }
 
 #[test]
 fn last_nodes(rt: HostRuntime) -> Result<(), Fail> {
     let mut report = Report::new(rt.alloc());
-    for row in &LAST_NODES {
-        let ended = try_last_node(&mut report, rt.alloc(), row);
-        report.row(row.name, ended);
-    }
+    all_last_nodes(&mut report, rt.alloc(), &LAST_NODES);
+    all_last_nodes(&mut report, rt.alloc(), &OTHER_NODES);
     report.end(&rt)
 }
 

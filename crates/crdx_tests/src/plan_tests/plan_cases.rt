@@ -448,19 +448,23 @@ fn limits(rt: HostRuntime) -> Result<(), Fail> {
     report.end(&rt)
 }
 
-/// The laws that nothing runs for end, and leave the plan as it is.
+/// The width of a plan after its laws were called, for which nothing runs and which leave it as it is.
+fn width_of(alloc: Global, given: Given<'_>) -> Result<u64, Fail> {
+    let plan = made(alloc, given)?;
+    plan.no_dead_end();
+    plan.sound_parts();
+    let width = plan.width();
+    drop(plan);
+    Ok(width)
+}
+
 #[test]
 fn laws(rt: HostRuntime) -> Result<(), Fail> {
     schema::laws::items_are_distinct();
     schema::laws::junctors_name_fields();
     stored::laws::stored_by_parts();
-    let plan = made(rt.alloc(), MAP_LISTS)?;
-    plan.no_dead_end();
-    plan.sound_parts();
-    let width = plan.width();
-    drop(plan);
     let mut report = Report::new(rt.alloc());
-    report.is_number("the width", width, 2);
+    report.is_number("the width", width_of(rt.alloc(), MAP_LISTS)?, 2);
     report.row("a map list", Ok(()));
     report.end(&rt)
 }

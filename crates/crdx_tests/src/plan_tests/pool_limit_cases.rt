@@ -4,6 +4,7 @@ use crate::support::pools::{Document, all_documents, outcome};
 use crate::support::report::Report;
 use plan::PoolLimits;
 use std::alloc::{AllocError, Global};
+use std::fmt::Write;
 use std::test::Fail;
 
 /// The beginning of a document, an entry with its comma, how many there are, the text after them, and what is answered.
@@ -17,7 +18,7 @@ struct Long {
 }
 
 /// Each repeat counts, and the form is judged before the limits.
-static LONG: [Long; 18] = [
+static PATHS_AND_SCALARS: [Long; 8] = [
     Long {
         name: "64 present paths",
         head: r#"{"present":["#,
@@ -82,6 +83,9 @@ static LONG: [Long; 18] = [
         tail: r#""s"]}"#,
         wanted: "P2 strings 65 64",
     },
+];
+
+static NAMES_AND_TREES: [Long; 10] = [
     Long {
         name: "32 names",
         head: r#"{"names":["#,
@@ -337,7 +341,18 @@ fn limits(rt: HostRuntime) -> Result<(), Fail> {
         paths: 3,
     };
     let mut report = Report::new(rt.alloc());
-    all_long(&mut report, rt.alloc(), PoolLimits::STANDARD, &LONG);
+    all_long(
+        &mut report,
+        rt.alloc(),
+        PoolLimits::STANDARD,
+        &PATHS_AND_SCALARS,
+    );
+    all_long(
+        &mut report,
+        rt.alloc(),
+        PoolLimits::STANDARD,
+        &NAMES_AND_TREES,
+    );
     all_long(&mut report, rt.alloc(), PoolLimits::LARGE, &LARGE);
     all_documents(&mut report, rt.alloc(), few, &FEW);
     report.end(&rt)
@@ -347,7 +362,7 @@ fn limits(rt: HostRuntime) -> Result<(), Fail> {
 fn many_paths(alloc: Global, name: &str, count: usize) -> Result<String, AllocError> {
     let mut document = format!(in alloc; r#"{{"{name}":{{"#)?;
     for path in 1..count {
-        document.push_str(format!(in alloc; r#""/{path}":[],"#)?.as_str())?;
+        write!(document, r#""/{path}":[],"#)?;
     }
     document.push_str(r#""/last":[0]}}"#)?;
     Ok(document)

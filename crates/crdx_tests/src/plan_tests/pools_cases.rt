@@ -1,5 +1,6 @@
 //! Documents of pools: their form, and what is read.
-use crate::support::harness::{is_tree, pools_of};
+use crate::support::harness::{is_said, pools_of};
+use crate::support::pages::lines_of;
 use crate::support::pools::{Document, all_documents, counts, said};
 use crate::support::report::Report;
 use jtree::{Text, Tree};
@@ -7,7 +8,7 @@ use plan::{PFault, PoolLimits, Pools};
 use std::alloc::Global;
 use std::test::Fail;
 
-static DOCUMENTS: [Document; 38] = [
+static FIXED_AND_PRESENT: [Document; 11] = [
     Document {
         name: "no member",
         document: "{}",
@@ -63,6 +64,9 @@ static DOCUMENTS: [Document; 38] = [
         document: r#"{"strings":[0],"present":[0]}"#,
         wanted: r#"P1 "/present/0""#,
     },
+];
+
+static VALUES_AND_PATHS: [Document; 12] = [
     Document {
         name: "each pool",
         document: r#"{"any":[null],"integers":[1,1,1,1],"names":["n","n"],"strings":["a","b","a"]}"#,
@@ -123,6 +127,9 @@ static DOCUMENTS: [Document; 38] = [
         document: r#"{"names":[1],"paths":{"/b":2}}"#,
         wanted: r#"P1 "/names/0""#,
     },
+];
+
+static FORMS: [Document; 7] = [
     Document {
         name: "a list",
         document: "[]",
@@ -158,6 +165,9 @@ static DOCUMENTS: [Document; 38] = [
         document: r#"{"integers":[0,1,2,3,4,5,6,7,8,9,"y"]}"#,
         wanted: r#"P1 "/integers/10""#,
     },
+];
+
+static NAMES: [Document; 8] = [
     Document {
         name: "a pool of another name",
         document: r#"{"floats":[]}"#,
@@ -203,67 +213,73 @@ static DOCUMENTS: [Document; 38] = [
 #[test]
 fn forms(rt: HostRuntime) -> Result<(), Fail> {
     let mut report = Report::new(rt.alloc());
-    all_documents(&mut report, rt.alloc(), PoolLimits::STANDARD, &DOCUMENTS);
+    all_documents(
+        &mut report,
+        rt.alloc(),
+        PoolLimits::STANDARD,
+        &FIXED_AND_PRESENT,
+    );
+    all_documents(
+        &mut report,
+        rt.alloc(),
+        PoolLimits::STANDARD,
+        &VALUES_AND_PATHS,
+    );
+    all_documents(&mut report, rt.alloc(), PoolLimits::STANDARD, &FORMS);
+    all_documents(&mut report, rt.alloc(), PoolLimits::STANDARD, &NAMES);
     report.end(&rt)
 }
 
-fn are_texts(report: &mut Report, found: &[Text], wanted: &[&str]) -> Result<(), Fail> {
+fn are_texts(report: &mut Report, found: &[Text], wanted: &[&str]) {
     report.is_number("the length", found.len() as u64, wanted.len() as u64);
     for (text, wanted) in found.iter().zip(wanted) {
         report.is_text("an entry", text.as_str(), wanted);
     }
-    Ok(())
 }
 
 fn are_trees(
     report: &mut Report,
     alloc: Global,
     found: Option<&[Tree]>,
-    wanted: &[&str],
+    wanted: &str,
 ) -> Result<(), Fail> {
-    let Some(found) = found else {
-        return Err(Fail::from("no list"));
-    };
-    report.is_number("the length", found.len() as u64, wanted.len() as u64);
-    for (tree, wanted) in found.iter().zip(wanted) {
-        is_tree(report, alloc, "an entry", tree, wanted)?;
+    match found {
+        Some(found) => is_said(report, "the entries", lines_of(alloc, found), wanted),
+        None => Err(Fail::from("no list")),
     }
-    Ok(())
 }
 
 static WRITTEN: &str =
     r#"{"strings":["b","a","b"],"names":["","é"],"integers":[3,-1,3],"any":[{"q":[1]},null],
         "paths":{"/b":[2,"x",2],"/a":[]},"fixed":{"/b":[null,null],"/c":[]},"present":["/z","/b","/z"]}"#;
 
-fn general_as_written(report: &mut Report, alloc: Global, pools: &Pools) -> Result<(), Fail> {
+fn general_as_written(report: &mut Report, alloc: Global, pools: &Pools) {
     report.is_value("integers", &pools.integers(), &[3, -1, 3].as_slice());
     report.row("integers", Ok(()));
-    let ended = are_texts(report, pools.strings(), &["b", "a", "b"]);
-    report.row("strings", ended);
-    let ended = are_texts(report, pools.names(), &["", "é"]);
-    report.row("names", ended);
-    let ended = are_trees(report, alloc, Some(pools.any()), &[r#"{"q":[1]}"#, "null"]);
+    are_texts(report, pools.strings(), &["b", "a", "b"]);
+    report.row("strings", Ok(()));
+    are_texts(report, pools.names(), &["", "é"]);
+    report.row("names", Ok(()));
+    let ended = are_trees(report, alloc, Some(pools.any()), "{\"q\":[1]}\nnull\n");
     report.row("any", ended);
-    Ok(())
 }
 
-fn paths_as_written(report: &mut Report, alloc: Global, pools: &Pools) -> Result<(), Fail> {
-    let ended = are_trees(report, alloc, pools.list_at("/b"), &["2", r#""x""#, "2"]);
+fn paths_as_written(report: &mut Report, alloc: Global, pools: &Pools) {
+    let ended = are_trees(report, alloc, pools.list_at("/b"), "2\n\"x\"\n2\n");
     report.row("a path with values", ended);
-    let ended = are_trees(report, alloc, pools.list_at("/a"), &[]);
+    let ended = are_trees(report, alloc, pools.list_at("/a"), "");
     report.row("a path without values", ended);
     report.holds("no list", pools.list_at("/c").is_none());
     report.row("a path that is not listed", Ok(()));
-    let ended = are_trees(report, alloc, pools.fixed_at("/b"), &["null", "null"]);
+    let ended = are_trees(report, alloc, pools.fixed_at("/b"), "null\nnull\n");
     report.row("a fixed path", ended);
     report.holds("no list", pools.fixed_at("/a").is_none());
     report.row("a path that is not fixed", Ok(()));
-    let ended = are_texts(report, pools.present(), &["/z", "/b", "/z"]);
-    report.row("present paths", ended);
+    are_texts(report, pools.present(), &["/z", "/b", "/z"]);
+    report.row("present paths", Ok(()));
     report.holds("a present path", pools.is_present("/b"));
     report.holds("a path that is not present", !pools.is_present("/a"));
     report.row("whether a path is present", Ok(()));
-    Ok(())
 }
 
 /// The order and the repeats are kept.
@@ -271,8 +287,8 @@ fn paths_as_written(report: &mut Report, alloc: Global, pools: &Pools) -> Result
 fn entries_as_written(rt: HostRuntime) -> Result<(), Fail> {
     let pools = pools_of(rt.alloc(), WRITTEN)?;
     let mut report = Report::new(rt.alloc());
-    general_as_written(&mut report, rt.alloc(), &pools)?;
-    paths_as_written(&mut report, rt.alloc(), &pools)?;
+    general_as_written(&mut report, rt.alloc(), &pools);
+    paths_as_written(&mut report, rt.alloc(), &pools);
     report.end(&rt)
 }
 

@@ -58,7 +58,7 @@ struct SizesRow {
     sizes: &'static [u32],
 }
 
-static SIZES: [SizesRow; 39] = [
+static SIZES: [SizesRow; 11] = [
     SizesRow {
         name: "the sizes of at least two of three truth values",
         given: TWO_OF_THREE,
@@ -140,6 +140,9 @@ static SIZES: [SizesRow; 39] = [
         asked: Asked::Sizes,
         sizes: &[],
     },
+];
+
+static RESTS: [SizesRow; 8] = [
     SizesRow {
         name: "the rest after no slot",
         given: TWO_OF_THREE,
@@ -196,6 +199,9 @@ static SIZES: [SizesRow; 39] = [
         asked: Asked::Rest(3, 3, 0),
         sizes: &[0],
     },
+];
+
+static RESTS_WITHIN_BOUNDS: [SizesRow; 8] = [
     SizesRow {
         name: "the rest of one or two members after no slot",
         given: ONE_OR_TWO_FIELDS,
@@ -252,6 +258,9 @@ static SIZES: [SizesRow; 39] = [
         asked: Asked::Rest(4, 4, 0),
         sizes: &[0],
     },
+];
+
+static FOLLOWERS: [SizesRow; 4] = [
     SizesRow {
         name: "what can follow after no item",
         given: MAP_LISTS,
@@ -280,6 +289,9 @@ static SIZES: [SizesRow; 39] = [
         asked: Asked::More(3),
         sizes: &[],
     },
+];
+
+static NAMED_FIELDS: [SizesRow; 8] = [
     SizesRow {
         name: "the sizes where one of two fields is asked for",
         given: ONE_OF_TWO_FIELDS,
@@ -358,12 +370,20 @@ fn try_sizes(report: &mut Report, alloc: Global, row: &SizesRow) -> Result<(), F
     }
 }
 
+fn all_sizes(report: &mut Report, alloc: Global, rows: &[SizesRow]) {
+    for row in rows {
+        let ended = try_sizes(report, alloc, row);
+        report.row(row.name, ended);
+    }
+}
+
 #[test]
 fn sizes(rt: HostRuntime) -> Result<(), Fail> {
     let mut report = Report::new(rt.alloc());
-    for row in &SIZES {
-        let ended = try_sizes(&mut report, rt.alloc(), row);
-        report.row(row.name, ended);
-    }
+    all_sizes(&mut report, rt.alloc(), &SIZES);
+    all_sizes(&mut report, rt.alloc(), &RESTS);
+    all_sizes(&mut report, rt.alloc(), &RESTS_WITHIN_BOUNDS);
+    all_sizes(&mut report, rt.alloc(), &FOLLOWERS);
+    all_sizes(&mut report, rt.alloc(), &NAMED_FIELDS);
     report.end(&rt)
 }

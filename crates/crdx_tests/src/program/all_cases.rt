@@ -5,6 +5,7 @@ use crate::support::harness::{Output, Run, all_runs, definition, has_failed, is_
 use crate::support::report::Report;
 use crate::support::texts::beginning;
 use std::alloc::{AllocError, Global};
+use std::fmt::Write;
 use std::test::Fail;
 
 const NAMED_LAST: &str =
@@ -98,8 +99,7 @@ fn large_lines(alloc: Global) -> Result<String, AllocError> {
     let mut lines = String::new(alloc);
     for n in 0..12_167u32 {
         let (a, b, c) = (n / 529, n / 23 % 23, n % 23);
-        let line = format!(in alloc; "{{\"a\":{a},\"b\":{b},\"c\":{c}}}\n")?;
-        lines.push_str(line.as_str())?;
+        writeln!(lines, "{{\"a\":{a},\"b\":{b},\"c\":{c}}}")?;
     }
     Ok(lines)
 }

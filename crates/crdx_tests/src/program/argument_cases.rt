@@ -7,11 +7,12 @@ use crdx::arguments::{
     PoolsArguments, Request, SampleArguments, parse_arguments,
 };
 use std::alloc::{AllocError, Global};
+use std::fmt::Write;
 use std::test::Fail;
 
-// What is wanted: the definition, the version, and the object, or the pools, the sample to go on from, the name, the limit and the
-// count, or all. What is read of the standard input is (input), and - is nothing.
-static REQUESTS: [CommandLine; 38] = [
+// What is wanted in these tables: the definition, the version, and the object, or the pools, the sample to go on from, the name, the
+// limit and the count, or all. What is read of the standard input is (input), and - is nothing.
+static COVERS_AND_CHECKS: [CommandLine; 13] = [
     CommandLine {
         name: "a cover",
         command: "crdx cover c.json v1",
@@ -77,6 +78,9 @@ static REQUESTS: [CommandLine; 38] = [
         command: "crdx validate c.json --why v1 --large o.json",
         wanted: "validate c.json v1 large with reasons o.json",
     },
+];
+
+static POOLS: [CommandLine; 8] = [
     CommandLine {
         name: "pools with both options",
         command: "crdx pools --large c.json v1 --why",
@@ -117,6 +121,9 @@ static REQUESTS: [CommandLine; 38] = [
         command: "crdx sample c.json v1 --pools -",
         wanted: "sample c.json v1 (input) - - 8 100",
     },
+];
+
+static OBJECTS: [CommandLine; 9] = [
     CommandLine {
         name: "an object in a file, of a definition on the standard input",
         command: "crdx leaves - v1 o.json",
@@ -162,6 +169,9 @@ static REQUESTS: [CommandLine; 38] = [
         command: "crdx leaves c.json v1 - --large --lines",
         wanted: "lines: leaves c.json v1 large (input)",
     },
+];
+
+static FIELDS_AND_SAMPLES: [CommandLine; 8] = [
     CommandLine {
         name: "all fields",
         command: "crdx explain c.json v1",
@@ -209,6 +219,13 @@ fn input_text(name: Option<&str>) -> &str {
     name.unwrap_or("(input)")
 }
 
+fn pools_text(pools: Option<Option<&str>>) -> &str {
+    match pools {
+        Some(pools) => input_text(pools),
+        None => "-",
+    }
+}
+
 /// The definition and the version, and whether the larger limits and reasons are asked for.
 fn common_text(alloc: Global, common: &CommonArguments<'_>) -> Result<String, AllocError> {
     let crd = input_text(common.crd);
@@ -239,78 +256,75 @@ fn object_text(alloc: Global, arguments: &ObjectArguments<'_>) -> Result<String,
 fn joined(alloc: Global, front: &str, words: &[&str]) -> Result<String, AllocError> {
     let mut text = String::new(alloc);
     for word in words {
-        text.push_str(front)?;
-        text.push_str(" ")?;
-        text.push_str(word)?;
+        write!(text, "{front} {word}")?;
     }
     Ok(text)
 }
 
+fn sample_text(alloc: Global, arguments: &SampleArguments<'_>) -> Result<String, AllocError> {
+    let SampleArguments {
+        common,
+        pools,
+        after,
+        name,
+        limit,
+        count,
+        all,
+    } = arguments;
+    let common = common_text(alloc, common)?;
+    let pools = pools_text(*pools);
+    let after = after.unwrap_or("-");
+    let name = name.unwrap_or("-");
+    if *all {
+        return format!(in alloc; "sample {common} {pools} {after} {name} {limit} all");
+    }
+    format!(in alloc; "sample {common} {pools} {after} {name} {limit} {count}")
+}
+
+fn cover_text(alloc: Global, arguments: &CoverArguments<'_>) -> Result<String, AllocError> {
+    let CoverArguments { samples, values } = arguments;
+    let common = common_text(alloc, &samples.common)?;
+    let pools = pools_text(samples.pools);
+    let name = samples.name.unwrap_or("-");
+    let limit = samples.limit;
+    let values = if *values { " values" } else { "" };
+    format!(in alloc; "cover {common} {pools} {name} {limit}{values}")
+}
+
+fn check_text(alloc: Global, common: &CommonArguments<'_>) -> Result<String, AllocError> {
+    let reasons = if common.why { "" } else { " without reasons" };
+    let common = common_text(alloc, common)?;
+    format!(in alloc; "check {common}{reasons}")
+}
+
+fn suggested_text(alloc: Global, arguments: &PoolsArguments<'_>) -> Result<String, AllocError> {
+    let common = common_text(alloc, &arguments.common)?;
+    let from = joined(alloc, " from", arguments.from.as_slice())?;
+    let varied = joined(alloc, " vary", arguments.varied.as_slice())?;
+    let without = joined(alloc, " without", arguments.without.as_slice())?;
+    format!(in alloc; "pools {common}{from}{varied}{without}")
+}
+
+fn explain_text(alloc: Global, arguments: &ExplainArguments<'_>) -> Result<String, AllocError> {
+    let common = common_text(alloc, &arguments.common)?;
+    let path = arguments.path.unwrap_or("-");
+    format!(in alloc; "explain {common} {path}")
+}
+
+fn lines_text(alloc: Global, arguments: &ObjectArguments<'_>) -> Result<String, AllocError> {
+    let text = object_text(alloc, arguments)?;
+    format!(in alloc; "lines: {text}")
+}
+
 fn said(alloc: Global, request: &Request<'_>) -> Result<String, AllocError> {
     match request {
-        Request::Sample(
-            SampleArguments {
-                common,
-                pools,
-                after,
-                name,
-                limit,
-                count,
-                all,
-            },
-        ) => {
-            let common = common_text(alloc, common)?;
-            let pools = match pools {
-                Some(pools) => input_text(*pools),
-                None => "-",
-            };
-            let after = after.unwrap_or("-");
-            let name = name.unwrap_or("-");
-            if *all {
-                return format!(in alloc; "sample {common} {pools} {after} {name} {limit} all");
-            }
-            format!(in alloc; "sample {common} {pools} {after} {name} {limit} {count}")
-        }
-        Request::Cover(CoverArguments { samples, values }) => {
-            let common = common_text(alloc, &samples.common)?;
-            let pools = match samples.pools {
-                Some(pools) => input_text(pools),
-                None => "-",
-            };
-            let name = samples.name.unwrap_or("-");
-            let limit = samples.limit;
-            let values = if *values { " values" } else { "" };
-            format!(in alloc; "cover {common} {pools} {name} {limit}{values}")
-        }
-        Request::Check(common) => {
-            let reasons = if common.why { "" } else { " without reasons" };
-            let common = common_text(alloc, common)?;
-            format!(in alloc; "check {common}{reasons}")
-        }
-        Request::SuggestPools(
-            PoolsArguments {
-                common,
-                from,
-                varied,
-                without,
-            },
-        ) => {
-            let common = common_text(alloc, common)?;
-            let from = joined(alloc, " from", from.as_slice())?;
-            let varied = joined(alloc, " vary", varied.as_slice())?;
-            let without = joined(alloc, " without", without.as_slice())?;
-            format!(in alloc; "pools {common}{from}{varied}{without}")
-        }
-        Request::Explain(ExplainArguments { common, path }) => {
-            let common = common_text(alloc, common)?;
-            let path = path.unwrap_or("-");
-            format!(in alloc; "explain {common} {path}")
-        }
+        Request::Sample(arguments) => sample_text(alloc, arguments),
+        Request::Cover(arguments) => cover_text(alloc, arguments),
+        Request::Check(common) => check_text(alloc, common),
+        Request::SuggestPools(arguments) => suggested_text(alloc, arguments),
+        Request::Explain(arguments) => explain_text(alloc, arguments),
         Request::Object(arguments) => object_text(alloc, arguments),
-        Request::ObjectLines(arguments) => {
-            let text = object_text(alloc, arguments)?;
-            format!(in alloc; "lines: {text}")
-        }
+        Request::ObjectLines(arguments) => lines_text(alloc, arguments),
         _ => String::from_str(alloc, "another request"),
     }
 }
@@ -320,13 +334,24 @@ fn asked(alloc: Global, line: &str) -> Result<String, Fail> {
     Ok(said(alloc, &parse_arguments(alloc, words.as_slice()))?)
 }
 
+fn all_requests(report: &mut Report, alloc: Global, rows: &[CommandLine]) {
+    for row in rows {
+        let ended = is_said(
+            report,
+            "what is asked",
+            asked(alloc, row.command),
+            row.wanted,
+        );
+        report.row(row.name, ended);
+    }
+}
+
 #[test]
 fn requests(rt: HostRuntime) -> Result<(), Fail> {
     let mut report = Report::new(rt.alloc());
-    for row in &REQUESTS {
-        let found = asked(rt.alloc(), row.command);
-        let ended = is_said(&mut report, "what is asked", found, row.wanted);
-        report.row(row.name, ended);
-    }
+    all_requests(&mut report, rt.alloc(), &COVERS_AND_CHECKS);
+    all_requests(&mut report, rt.alloc(), &POOLS);
+    all_requests(&mut report, rt.alloc(), &OBJECTS);
+    all_requests(&mut report, rt.alloc(), &FIELDS_AND_SAMPLES);
     report.end(&rt)
 }

@@ -4,7 +4,7 @@ use crate::support::harness::{SchemaRun, all_schema_runs};
 use crate::support::report::Report;
 use std::test::Fail;
 
-static ROWS: [SchemaRun<'static>; 35] = [
+static NO_SCALARS: [SchemaRun<'static>; 6] = [
     SchemaRun {
         name: "a path to an object",
         command: "crdx sample crd.json v1 --pools pools.json",
@@ -65,6 +65,9 @@ static ROWS: [SchemaRun<'static>; 35] = [
 "#,
         status: 3,
     },
+];
+
+static BELOW_FIELDS: [SchemaRun<'static>; 6] = [
     SchemaRun {
         name: "a path to the objects of a list",
         command: "crdx sample crd.json v1 --pools pools.json",
@@ -125,6 +128,9 @@ static ROWS: [SchemaRun<'static>; 35] = [
 "#,
         status: 3,
     },
+];
+
+static BESIDE_OTHERS: [SchemaRun<'static>; 10] = [
     SchemaRun {
         name: "the first of three bad paths",
         command: "crdx sample crd.json v1 --pools pools.json",
@@ -225,6 +231,9 @@ static ROWS: [SchemaRun<'static>; 35] = [
 "#,
         status: 1,
     },
+];
+
+static FIXED_AND_PRESENT: [SchemaRun<'static>; 9] = [
     SchemaRun {
         name: "a fixed path that is not declared",
         command: "crdx sample crd.json v1 --pools pools.json",
@@ -306,6 +315,9 @@ static ROWS: [SchemaRun<'static>; 35] = [
         err: "crdx: pools: P5 \"/spec/[0]\"\n",
         status: 3,
     },
+];
+
+static OF_SEVERAL_KINDS: [SchemaRun<'static>; 4] = [
     SchemaRun {
         name: "a bad path before fixed and present ones",
         command: "crdx sample crd.json v1 --pools pools.json",
@@ -347,6 +359,10 @@ static ROWS: [SchemaRun<'static>; 35] = [
 #[test]
 fn bad_paths(rt: HostRuntime) -> Result<(), Fail> {
     let mut report = Report::new(rt.alloc());
-    all_schema_runs(&mut report, rt.alloc(), &ROWS);
+    all_schema_runs(&mut report, rt.alloc(), &NO_SCALARS);
+    all_schema_runs(&mut report, rt.alloc(), &BELOW_FIELDS);
+    all_schema_runs(&mut report, rt.alloc(), &BESIDE_OTHERS);
+    all_schema_runs(&mut report, rt.alloc(), &FIXED_AND_PRESENT);
+    all_schema_runs(&mut report, rt.alloc(), &OF_SEVERAL_KINDS);
     report.end(&rt)
 }

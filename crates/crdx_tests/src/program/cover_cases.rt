@@ -18,7 +18,7 @@ const EMPTY_LIST: &str = r#"{"type":"object","properties":{"l":{
 
 const ALL_IN_SOME: &str = "crdx: all paths and values are in some sample\n";
 
-static ROWS: [SchemaRun<'static>; 32] = [
+static FIELDS: [SchemaRun<'static>; 5] = [
     SchemaRun {
         name: "an object and its fields",
         command: "crdx cover crd.json v1 --pools pools.json",
@@ -73,6 +73,9 @@ static ROWS: [SchemaRun<'static>; 32] = [
         err: "crdx: 2 paths are in no sample of at most 2 nodes\n",
         status: 0,
     },
+];
+
+static LISTS_AND_MAPS: [SchemaRun<'static>; 5] = [
     SchemaRun {
         name: "the items of a list",
         command: "crdx cover crd.json v1",
@@ -131,6 +134,9 @@ static ROWS: [SchemaRun<'static>; 32] = [
         err: ALL_PATHS,
         status: 0,
     },
+];
+
+static MEMBERS: [SchemaRun<'static>; 4] = [
     SchemaRun {
         name: "a required field is there with its object",
         command: "crdx cover crd.json v1",
@@ -176,6 +182,9 @@ static ROWS: [SchemaRun<'static>; 32] = [
         err: ALL_PATHS,
         status: 0,
     },
+];
+
+static FIXED_AND_PRESENT: [SchemaRun<'static>; 4] = [
     SchemaRun {
         name: "fixed values, some with a field and some without",
         command: "crdx cover crd.json v1 --pools pools.json",
@@ -220,6 +229,9 @@ static ROWS: [SchemaRun<'static>; 32] = [
         err: ALL_PATHS,
         status: 0,
     },
+];
+
+static VALUES: [SchemaRun<'static>; 8] = [
     SchemaRun {
         name: "the values of two scalars",
         command: "crdx cover crd.json v1 --pools pools.json --values",
@@ -326,6 +338,9 @@ crdx: 2 values are in no sample of at most 127 nodes
 "#,
         status: 0,
     },
+];
+
+static MISSED_VALUES: [SchemaRun<'static>; 6] = [
     SchemaRun {
         name: "values of missed paths",
         command: "crdx cover crd.json v1 --pools pools.json --values --why --limit 2",
@@ -404,6 +419,11 @@ crdx: 3 values are in no sample of at most 2 nodes
 #[test]
 fn covers(rt: HostRuntime) -> Result<(), Fail> {
     let mut report = Report::new(rt.alloc());
-    all_schema_runs(&mut report, rt.alloc(), &ROWS);
+    all_schema_runs(&mut report, rt.alloc(), &FIELDS);
+    all_schema_runs(&mut report, rt.alloc(), &LISTS_AND_MAPS);
+    all_schema_runs(&mut report, rt.alloc(), &MEMBERS);
+    all_schema_runs(&mut report, rt.alloc(), &FIXED_AND_PRESENT);
+    all_schema_runs(&mut report, rt.alloc(), &VALUES);
+    all_schema_runs(&mut report, rt.alloc(), &MISSED_VALUES);
     report.end(&rt)
 }

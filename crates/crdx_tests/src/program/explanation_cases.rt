@@ -9,7 +9,7 @@ const TWO_REQUIRED: &str = r#"{"type":"object","required":["s"],"properties":{"s
     "type":"object","required":["a","b"],"properties":{"a":{"type":"boolean"},"b":{"type":"boolean"}}
 }}}"#;
 
-static DOCUMENTS: [Run<'static>; 12] = [
+static DEFINITIONS: [Run<'static>; 6] = [
     Run {
         name: "another kind",
         command: "crdx check crd.json v1 --why",
@@ -72,6 +72,9 @@ static DOCUMENTS: [Run<'static>; 12] = [
         err: "crdx: crd: S2\n    found the versions [\"v1\"]\n",
         status: 3,
     },
+];
+
+static DOCUMENTS: [Run<'static>; 6] = [
     Run {
         name: "a fraction in a definition",
         command: "crdx check crd.json v1 --why",
@@ -128,7 +131,7 @@ static DOCUMENTS: [Run<'static>; 12] = [
     },
 ];
 
-static SCHEMAS: [SchemaRun<'static>; 26] = [
+static SCHEMAS: [SchemaRun<'static>; 6] = [
     SchemaRun {
         name: "a keyword of another form",
         command: "crdx check crd.json v1 --why",
@@ -188,6 +191,9 @@ V01 "/properties/b"
         err: "crdx: explain: X2\n    found no such field; no beginning of the path leads to one\n",
         status: 1,
     },
+];
+
+static POOLS: [SchemaRun<'static>; 8] = [
     SchemaRun {
         name: "pools that are a list",
         command: "crdx sample crd.json v1 --pools pools.json --why",
@@ -262,6 +268,9 @@ V01 "/properties/b"
         err: "crdx: pools: P5 \"/spec\"\n    found the path of an object; allowed are those of scalars and of open places\n",
         status: 3,
     },
+];
+
+static FIXED_AND_PRESENT: [SchemaRun<'static>; 6] = [
     SchemaRun {
         name: "fixed values that are a list",
         command: "crdx sample crd.json v1 --pools pools.json --why",
@@ -318,6 +327,9 @@ V01 "/properties/b"
         err: "crdx: pools: P5 \"/z\"\n    found a path that is not declared; `crdx explain` lists those that are\n",
         status: 3,
     },
+];
+
+static OBJECTS: [SchemaRun<'static>; 6] = [
     SchemaRun {
         name: "an object with a fault",
         command: "crdx leaves crd.json v1 object.json --why",
@@ -480,6 +492,7 @@ static LISTINGS: [SchemaRun<'static>; 10] = [
 #[test]
 fn documents(rt: HostRuntime) -> Result<(), Fail> {
     let mut report = Report::new(rt.alloc());
+    all_runs(&mut report, rt.alloc(), &DEFINITIONS);
     all_runs(&mut report, rt.alloc(), &DOCUMENTS);
     report.end(&rt)
 }
@@ -488,6 +501,9 @@ fn documents(rt: HostRuntime) -> Result<(), Fail> {
 fn schemas(rt: HostRuntime) -> Result<(), Fail> {
     let mut report = Report::new(rt.alloc());
     all_schema_runs(&mut report, rt.alloc(), &SCHEMAS);
+    all_schema_runs(&mut report, rt.alloc(), &POOLS);
+    all_schema_runs(&mut report, rt.alloc(), &FIXED_AND_PRESENT);
+    all_schema_runs(&mut report, rt.alloc(), &OBJECTS);
     report.end(&rt)
 }
 

@@ -11,7 +11,7 @@ use std::test::Fail;
 const LIST: &str =
     r#"{"type":"object","properties":{"l":{"type":"array","items":{"type":"boolean"}}}}"#;
 
-static ROWS: [SchemaRun<'static>; 30] = [
+static SCALARS_AND_OBJECTS: [SchemaRun<'static>; 4] = [
     SchemaRun {
         name: "a scalar",
         command: "crdx sample crd.json v1 --pools pools.json --limit 4",
@@ -62,6 +62,9 @@ static ROWS: [SchemaRun<'static>; 30] = [
         err: "crdx: end\n",
         status: 0,
     },
+];
+
+static LISTS_AND_MAPS: [SchemaRun<'static>; 9] = [
     SchemaRun {
         name: "lists",
         command: "crdx sample crd.json v1 --pools pools.json --limit 5",
@@ -176,6 +179,9 @@ static ROWS: [SchemaRun<'static>; 30] = [
         err: "crdx: end\n",
         status: 0,
     },
+];
+
+static OPEN_PLACES_AND_NULLS: [SchemaRun<'static>; 7] = [
     SchemaRun {
         name: "an open place",
         command: "crdx sample crd.json v1 --pools pools.json --limit 9",
@@ -251,6 +257,9 @@ static ROWS: [SchemaRun<'static>; 30] = [
         err: "crdx: end\n",
         status: 0,
     },
+];
+
+static BESIDE_OTHER_PATHS: [SchemaRun<'static>; 7] = [
     SchemaRun {
         name: "a path below another fixed path",
         command: "crdx sample crd.json v1 --pools pools.json --limit 9",
@@ -330,6 +339,9 @@ static ROWS: [SchemaRun<'static>; 30] = [
         err: "crdx: end\n",
         status: 0,
     },
+];
+
+static BEGINNINGS: [SchemaRun<'static>; 3] = [
     SchemaRun {
         name: "past a fixed value",
         command: r#"crdx sample crd.json v1 --pools pools.json --limit 4 --after {"spec":{"a":5}}"#,
@@ -365,6 +377,10 @@ static ROWS: [SchemaRun<'static>; 30] = [
 #[test]
 fn fixed_paths(rt: HostRuntime) -> Result<(), Fail> {
     let mut report = Report::new(rt.alloc());
-    all_schema_runs(&mut report, rt.alloc(), &ROWS);
+    all_schema_runs(&mut report, rt.alloc(), &SCALARS_AND_OBJECTS);
+    all_schema_runs(&mut report, rt.alloc(), &LISTS_AND_MAPS);
+    all_schema_runs(&mut report, rt.alloc(), &OPEN_PLACES_AND_NULLS);
+    all_schema_runs(&mut report, rt.alloc(), &BESIDE_OTHER_PATHS);
+    all_schema_runs(&mut report, rt.alloc(), &BEGINNINGS);
     report.end(&rt)
 }

@@ -15,8 +15,8 @@ pub struct CommandLine {
 
 const MISSING: &str = "error: the following required arguments were not provided:\n";
 
-// What is wanted: the first line of standard error.
-static MISTAKES: [CommandLine; 44] = [
+// What is wanted of a mistake, in these tables: the first line of standard error.
+static COVERS_AND_INPUTS: [CommandLine; 11] = [
     CommandLine {
         name: "the standard input for a definition and pools of a cover",
         command: "crdx cover - v1 --pools -",
@@ -72,6 +72,9 @@ static MISTAKES: [CommandLine; 44] = [
         command: "crdx explain crd.json v1 --large --large",
         wanted: "error: the argument '--large' cannot be used multiple times\n",
     },
+];
+
+static POOLS: [CommandLine; 7] = [
     CommandLine {
         name: "pools of no version",
         command: "crdx pools crd.json",
@@ -107,6 +110,9 @@ static MISTAKES: [CommandLine; 44] = [
         command: "crdx pools crd.json v1 --from",
         wanted: "error: a value is required for '--from <OBJECT>' but none was supplied\n",
     },
+];
+
+static WORDS: [CommandLine; 11] = [
     CommandLine {
         name: "a sample of nothing",
         command: "crdx sample",
@@ -162,6 +168,9 @@ static MISTAKES: [CommandLine; 44] = [
         command: "crdx sample crd.json v1 w",
         wanted: "error: unexpected argument 'w' found\n",
     },
+];
+
+static NUMBERS_OF_SAMPLES: [CommandLine; 7] = [
     CommandLine {
         name: "a limit of a check",
         command: "crdx check crd.json v1 --limit 4",
@@ -197,6 +206,9 @@ static MISTAKES: [CommandLine; 44] = [
         command: "crdx sample crd.json v1 --limit x",
         wanted: "error: invalid value 'x' for '--limit <N>': invalid digit found in string\n",
     },
+];
+
+static ALL_AND_LINES: [CommandLine; 8] = [
     CommandLine {
         name: "all samples and a number of them",
         command: "crdx sample crd.json v1 --all --count 5",
@@ -240,7 +252,7 @@ static MISTAKES: [CommandLine; 44] = [
 ];
 
 // What is wanted: a line of the help, or the version.
-static HELP: [CommandLine; 25] = [
+static HELP: [CommandLine; 13] = [
     CommandLine {
         name: "an option of a cover",
         command: "crdx cover --help",
@@ -306,6 +318,9 @@ static HELP: [CommandLine; 25] = [
         command: "crdx check --help",
         wanted: "Usage: crdx check [OPTIONS] <CRD> <VERSION>\n",
     },
+];
+
+static HELP_OF_OBJECTS: [CommandLine; 12] = [
     CommandLine {
         name: "a short option of a validation",
         command: "crdx validate -h",
@@ -414,13 +429,21 @@ fn try_mistake(report: &mut Report, alloc: Global, row: &CommandLine) -> Result<
     Ok(())
 }
 
+fn all_mistakes(report: &mut Report, alloc: Global, rows: &[CommandLine]) {
+    for row in rows {
+        let ended = try_mistake(report, alloc, row);
+        report.row(row.name, ended);
+    }
+}
+
 #[test]
 fn mistakes(rt: HostRuntime) -> Result<(), Fail> {
     let mut report = Report::new(rt.alloc());
-    for row in &MISTAKES {
-        let ended = try_mistake(&mut report, rt.alloc(), row);
-        report.row(row.name, ended);
-    }
+    all_mistakes(&mut report, rt.alloc(), &COVERS_AND_INPUTS);
+    all_mistakes(&mut report, rt.alloc(), &POOLS);
+    all_mistakes(&mut report, rt.alloc(), &WORDS);
+    all_mistakes(&mut report, rt.alloc(), &NUMBERS_OF_SAMPLES);
+    all_mistakes(&mut report, rt.alloc(), &ALL_AND_LINES);
     report.end(&rt)
 }
 
@@ -442,6 +465,7 @@ pub fn all_helped(report: &mut Report, alloc: Global, rows: &[CommandLine]) {
 fn help(rt: HostRuntime) -> Result<(), Fail> {
     let mut report = Report::new(rt.alloc());
     all_helped(&mut report, rt.alloc(), &HELP);
+    all_helped(&mut report, rt.alloc(), &HELP_OF_OBJECTS);
     report.end(&rt)
 }
 

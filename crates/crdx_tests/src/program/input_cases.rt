@@ -5,6 +5,7 @@ use crate::support::harness::{Run, is_answer, is_said, run_on, try_run};
 use crate::support::report::Report;
 use crate::support::texts::padded;
 use crdx::inputs::{HostInputs, InFault, Inputs};
+use jtree::Tree;
 use std::alloc::{AllocError, Global};
 use std::env::Env;
 use std::rt::Files;
@@ -43,12 +44,16 @@ static FILES: [Document; 3] = [
 // Where no file is.
 static NO_FILES: [&str; 2] = ["no such file", "/"];
 
-fn said_of_file(rt: &(impl Files + Input + AllocGlobal), path: &str) -> Result<String, Fail> {
-    match HostInputs::new(rt).tree(Some(path)) {
-        Ok(tree) => Ok(tree.to_text(rt.alloc())?),
-        Err(InFault::Document(fault)) => Ok(fault.to_string(rt.alloc())?),
-        Err(InFault::Failed) => Ok(String::from_str(rt.alloc(), "read failed")?),
+fn said_of_read(alloc: Global, read: Result<Tree, InFault>) -> Result<String, Fail> {
+    match read {
+        Ok(tree) => Ok(tree.to_text(alloc)?),
+        Err(InFault::Document(fault)) => Ok(fault.to_string(alloc)?),
+        Err(InFault::Failed) => Ok(String::from_str(alloc, "read failed")?),
     }
+}
+
+fn said_of_file(rt: &(impl Files + Input + AllocGlobal), path: &str) -> Result<String, Fail> {
+    said_of_read(rt.alloc(), HostInputs::new(rt).tree(Some(path)))
 }
 
 fn said_of_text(

@@ -3,6 +3,7 @@ use crate::support::harness::{SchemaRun, try_schema_run};
 use crate::support::report::Report;
 use crate::support::texts::{nested, repeated};
 use std::alloc::{AllocError, Global};
+use std::fmt::Write;
 use std::test::Fail;
 
 const STANDARD: &str = "crdx check crd.json v1 --why";
@@ -193,8 +194,7 @@ fn wide(alloc: Global, count: usize) -> Result<String, AllocError> {
     let mut schema = String::from_str(alloc, r#"{"type":"object","properties":{"#)?;
     for i in 0..count {
         let comma = if i > 0 { "," } else { "" };
-        let field = format!(in alloc; r#"{comma}"f{i}":{{"type":"boolean"}}"#)?;
-        schema.push_str(field.as_str())?;
+        write!(schema, r#"{comma}"f{i}":{{"type":"boolean"}}"#)?;
     }
     schema.push_str("}}")?;
     Ok(schema)
@@ -272,8 +272,7 @@ fn pools_of_paths(alloc: Global, count: usize) -> Result<String, AllocError> {
     let mut pools = String::from_str(alloc, r#"{"paths":{"#)?;
     for i in 0..count {
         let comma = if i > 0 { "," } else { "" };
-        let list = format!(in alloc; r#"{comma}"/f{i}":[true]"#)?;
-        pools.push_str(list.as_str())?;
+        write!(pools, r#"{comma}"/f{i}":[true]"#)?;
     }
     pools.push_str("}}")?;
     Ok(pools)
@@ -347,8 +346,8 @@ const SAMPLES: &str = "crdx sample crd.json v1 --limit 2 --pools pools.json --wh
 
 const LARGE_SAMPLES: &str = "crdx sample crd.json v1 --limit 2 --pools pools.json --why --large";
 
-// Pools; over those of which nothing is said there are an empty object and one with the integer.
-static POOLS: [Long; 15] = [
+// In this table and the next are pools; over those of which nothing is said there are an empty object and one with the integer.
+static POOLS: [Long; 7] = [
     Long {
         name: "64 integers",
         command: SAMPLES,
@@ -412,6 +411,9 @@ static POOLS: [Long; 15] = [
         tail: "]}",
         err: "crdx: pools: P2\n    found 1025 entries in \"any\"; allowed are 1024\n",
     },
+];
+
+static NAMES_AND_PATHS: [Long; 8] = [
     Long {
         name: "32 names",
         command: LARGE_SAMPLES,
@@ -505,13 +507,18 @@ fn try_long_pools(report: &mut Report, alloc: Global, row: &Long) -> Result<(), 
     try_schema_run(report, alloc, &run)
 }
 
+fn all_long_pools(report: &mut Report, alloc: Global, rows: &[Long]) {
+    for row in rows {
+        let ended = try_long_pools(report, alloc, row);
+        report.row(row.name, ended);
+    }
+}
+
 #[test]
 fn pools(rt: HostRuntime) -> Result<(), Fail> {
     let mut report = Report::new(rt.alloc());
-    for row in &POOLS {
-        let ended = try_long_pools(&mut report, rt.alloc(), row);
-        report.row(row.name, ended);
-    }
+    all_long_pools(&mut report, rt.alloc(), &POOLS);
+    all_long_pools(&mut report, rt.alloc(), &NAMES_AND_PATHS);
     report.end(&rt)
 }
 

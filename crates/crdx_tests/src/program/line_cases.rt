@@ -74,8 +74,8 @@ const COMPLETED_WITH_ENVELOPES: &str =
 
 const REFUSED: &str = "{\"a\":0}\n{\"a\":0.5}\n{\"a\":0}\n";
 
-// The second document has the lines.
-static RUNS: [SchemaRun<'static>; 25] = [
+// In these tables the second document has the lines.
+static ANSWERS: [SchemaRun<'static>; 7] = [
     SchemaRun {
         name: "faults behind their lines",
         command: "crdx validate crd.json v1 object.json --lines",
@@ -139,6 +139,9 @@ static RUNS: [SchemaRun<'static>; 25] = [
         err: "",
         status: 0,
     },
+];
+
+static ENVELOPES_AND_FAULTS: [SchemaRun<'static>; 6] = [
     SchemaRun {
         name: "envelopes stay where objects are pruned",
         command: "crdx prune crd.json v1 object.json --lines",
@@ -193,6 +196,9 @@ static RUNS: [SchemaRun<'static>; 25] = [
         err: "",
         status: 0,
     },
+];
+
+static LINES: [SchemaRun<'static>; 7] = [
     SchemaRun {
         name: "no lines",
         command: "crdx validate crd.json v1 object.json --lines",
@@ -256,6 +262,9 @@ static RUNS: [SchemaRun<'static>; 25] = [
         err: "crdx: object: 2: J3\n",
         status: 3,
     },
+];
+
+static REFUSALS: [SchemaRun<'static>; 5] = [
     SchemaRun {
         name: "a number that is refused, after an object with a fault",
         command: "crdx validate crd.json v1 object.json --lines",
@@ -306,7 +315,10 @@ static RUNS: [SchemaRun<'static>; 25] = [
 #[test]
 fn runs(rt: HostRuntime) -> Result<(), Fail> {
     let mut report = Report::new(rt.alloc());
-    all_schema_runs(&mut report, rt.alloc(), &RUNS);
+    all_schema_runs(&mut report, rt.alloc(), &ANSWERS);
+    all_schema_runs(&mut report, rt.alloc(), &ENVELOPES_AND_FAULTS);
+    all_schema_runs(&mut report, rt.alloc(), &LINES);
+    all_schema_runs(&mut report, rt.alloc(), &REFUSALS);
     report.end(&rt)
 }
 

@@ -7,7 +7,7 @@ use crate::support::harness::{SchemaRun, all_schema_runs};
 use crate::support::report::Report;
 use std::test::Fail;
 
-static ROWS: [SchemaRun<'static>; 35] = [
+static TRUTHS_AND_KEYS: [SchemaRun<'static>; 8] = [
     SchemaRun {
         name: "a list for a truth value",
         command: "crdx sample crd.json v1 --pools pools.json --limit 4",
@@ -109,6 +109,9 @@ static ROWS: [SchemaRun<'static>; 35] = [
         err: "crdx: end\n",
         status: 0,
     },
+];
+
+static ITEMS_AND_OPEN_PLACES: [SchemaRun<'static>; 6] = [
     SchemaRun {
         name: "the items of a set",
         command: "crdx sample crd.json v1 --pools pools.json --limit 63",
@@ -183,6 +186,9 @@ static ROWS: [SchemaRun<'static>; 35] = [
         err: "crdx: end\n",
         status: 0,
     },
+];
+
+static NULLS: [SchemaRun<'static>; 5] = [
     SchemaRun {
         name: "an empty list for a field that may be null",
         command: "crdx sample crd.json v1 --pools pools.json --limit 2",
@@ -240,6 +246,9 @@ static ROWS: [SchemaRun<'static>; 35] = [
         err: "crdx: end\n",
         status: 0,
     },
+];
+
+static ENUMS_AND_DEFAULTS: [SchemaRun<'static>; 5] = [
     SchemaRun {
         name: "a value that is not in the enum",
         command: "crdx sample crd.json v1 --pools pools.json --limit 2",
@@ -291,6 +300,9 @@ static ROWS: [SchemaRun<'static>; 35] = [
         err: "crdx: end\n",
         status: 0,
     },
+];
+
+static SEVERAL_FIELDS: [SchemaRun<'static>; 5] = [
     SchemaRun {
         name: "two fields of one type",
         command: "crdx sample crd.json v1 --pools pools.json --limit 3",
@@ -352,6 +364,9 @@ static ROWS: [SchemaRun<'static>; 35] = [
         err: "crdx: end\n",
         status: 0,
     },
+];
+
+static NAMES_AND_BEGINNINGS: [SchemaRun<'static>; 6] = [
     SchemaRun {
         name: "names with letters that are escaped",
         command: "crdx sample crd.json v1 --pools pools.json --limit 2",
@@ -427,6 +442,11 @@ static ROWS: [SchemaRun<'static>; 35] = [
 #[test]
 fn paths(rt: HostRuntime) -> Result<(), Fail> {
     let mut report = Report::new(rt.alloc());
-    all_schema_runs(&mut report, rt.alloc(), &ROWS);
+    all_schema_runs(&mut report, rt.alloc(), &TRUTHS_AND_KEYS);
+    all_schema_runs(&mut report, rt.alloc(), &ITEMS_AND_OPEN_PLACES);
+    all_schema_runs(&mut report, rt.alloc(), &NULLS);
+    all_schema_runs(&mut report, rt.alloc(), &ENUMS_AND_DEFAULTS);
+    all_schema_runs(&mut report, rt.alloc(), &SEVERAL_FIELDS);
+    all_schema_runs(&mut report, rt.alloc(), &NAMES_AND_BEGINNINGS);
     report.end(&rt)
 }

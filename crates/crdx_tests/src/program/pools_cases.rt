@@ -28,7 +28,7 @@ const HINTS: &str =
     r#"{"type":"object","properties":{"d":{"type":"string","format":"date"},"t":{"type":"string","default":"x"}}}"#;
 
 // The second document has the objects.
-static ROWS: [SchemaRun<'static>; 23] = [
+static VALUES: [SchemaRun<'static>; 9] = [
     SchemaRun {
         name: "no objects",
         command: "crdx pools crd.json v1",
@@ -117,6 +117,9 @@ static ROWS: [SchemaRun<'static>; 23] = [
         err: "",
         status: 0,
     },
+];
+
+static VARIED: [SchemaRun<'static>; 9] = [
     SchemaRun {
         name: "around an object",
         command: "crdx pools crd.json v1 --from object.json --vary /spec/a",
@@ -208,6 +211,9 @@ static ROWS: [SchemaRun<'static>; 23] = [
         err: "crdx: pools: P5 \"spec\"\n",
         status: 3,
     },
+];
+
+static REFUSALS: [SchemaRun<'static>; 5] = [
     SchemaRun {
         name: "a line that is no document",
         command: "crdx pools crd.json v1 --from object.json",
@@ -258,6 +264,8 @@ static ROWS: [SchemaRun<'static>; 23] = [
 #[test]
 fn pools_of_objects(rt: HostRuntime) -> Result<(), Fail> {
     let mut report = Report::new(rt.alloc());
-    all_schema_runs(&mut report, rt.alloc(), &ROWS);
+    all_schema_runs(&mut report, rt.alloc(), &VALUES);
+    all_schema_runs(&mut report, rt.alloc(), &VARIED);
+    all_schema_runs(&mut report, rt.alloc(), &REFUSALS);
     report.end(&rt)
 }

@@ -5,7 +5,7 @@ use crate::support::report::Report;
 use std::test::Fail;
 
 // All samples, made by hand.
-static SAMPLES: [SchemaRun<'static>; 17] = [
+static JUNCTORS: [SchemaRun<'static>; 6] = [
     SchemaRun {
         name: "one of two fields, of three nodes",
         command: "crdx sample crd.json v1 --pools pools.json --limit 3",
@@ -118,6 +118,9 @@ static SAMPLES: [SchemaRun<'static>; 17] = [
         err: "crdx: end\n",
         status: 0,
     },
+];
+
+static PLACES: [SchemaRun<'static>; 5] = [
     SchemaRun {
         name: "a junctor at the root",
         command: "crdx sample crd.json v1 --pools pools.json --limit 3",
@@ -201,6 +204,9 @@ static SAMPLES: [SchemaRun<'static>; 17] = [
         err: "crdx: end\n",
         status: 0,
     },
+];
+
+static BOUNDS_AND_DEPTH: [SchemaRun<'static>; 6] = [
     SchemaRun {
         name: "at least two members",
         command: "crdx sample crd.json v1 --pools pools.json --limit 4",
@@ -319,6 +325,8 @@ static SAMPLES: [SchemaRun<'static>; 17] = [
 #[test]
 fn samples(rt: HostRuntime) -> Result<(), Fail> {
     let mut report = Report::new(rt.alloc());
-    all_schema_runs(&mut report, rt.alloc(), &SAMPLES);
+    all_schema_runs(&mut report, rt.alloc(), &JUNCTORS);
+    all_schema_runs(&mut report, rt.alloc(), &PLACES);
+    all_schema_runs(&mut report, rt.alloc(), &BOUNDS_AND_DEPTH);
     report.end(&rt)
 }

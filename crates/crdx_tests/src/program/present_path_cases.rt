@@ -10,7 +10,7 @@ use std::test::Fail;
 const LIST: &str =
     r#"{"type":"object","properties":{"l":{"type":"array","items":{"type":"boolean"}}}}"#;
 
-static ROWS: [SchemaRun<'static>; 26] = [
+static FIELDS: [SchemaRun<'static>; 4] = [
     SchemaRun {
         name: "a field that is always there",
         command: "crdx sample crd.json v1 --pools pools.json --limit 4",
@@ -61,6 +61,9 @@ static ROWS: [SchemaRun<'static>; 26] = [
         err: "crdx: end\n",
         status: 0,
     },
+];
+
+static ITEMS: [SchemaRun<'static>; 9] = [
     SchemaRun {
         name: "a field of the items of a list",
         command: "crdx sample crd.json v1 --pools pools.json --limit 5",
@@ -181,6 +184,9 @@ static ROWS: [SchemaRun<'static>; 26] = [
         err: "crdx: end\n",
         status: 0,
     },
+];
+
+static VALUES_AND_NULLS: [SchemaRun<'static>; 6] = [
     SchemaRun {
         name: "a value of a map",
         command: "crdx sample crd.json v1 --pools pools.json --limit 4",
@@ -253,6 +259,9 @@ static ROWS: [SchemaRun<'static>; 26] = [
         err: "crdx: end\n",
         status: 0,
     },
+];
+
+static NAMED_FIELDS: [SchemaRun<'static>; 4] = [
     SchemaRun {
         name: "a field that a junctor names",
         command: "crdx sample crd.json v1 --pools pools.json --limit 4",
@@ -301,6 +310,9 @@ static ROWS: [SchemaRun<'static>; 26] = [
         err: "crdx: end\n",
         status: 0,
     },
+];
+
+static BEGINNINGS: [SchemaRun<'static>; 3] = [
     SchemaRun {
         name: "past a sample that has the field",
         command: r#"crdx sample crd.json v1 --pools pools.json --limit 4 --after {"spec":{"a":0}}"#,
@@ -335,6 +347,10 @@ static ROWS: [SchemaRun<'static>; 26] = [
 #[test]
 fn present_paths(rt: HostRuntime) -> Result<(), Fail> {
     let mut report = Report::new(rt.alloc());
-    all_schema_runs(&mut report, rt.alloc(), &ROWS);
+    all_schema_runs(&mut report, rt.alloc(), &FIELDS);
+    all_schema_runs(&mut report, rt.alloc(), &ITEMS);
+    all_schema_runs(&mut report, rt.alloc(), &VALUES_AND_NULLS);
+    all_schema_runs(&mut report, rt.alloc(), &NAMED_FIELDS);
+    all_schema_runs(&mut report, rt.alloc(), &BEGINNINGS);
     report.end(&rt)
 }

@@ -21,7 +21,7 @@ const FRACTION: &str = r#"{"spec":{"a":1.5}}"#;
 
 const CUT: &str = r#"{"spec":{"a""#;
 
-static ROWS: [Run<'static>; 20] = [
+static OBJECTS: [Run<'static>; 6] = [
     Run {
         name: "an object in a file",
         command: "crdx validate crd.json v1 object.json",
@@ -76,6 +76,9 @@ static ROWS: [Run<'static>; 20] = [
         err: "crdx: object: read failed\n",
         status: 4,
     },
+];
+
+static DEFINITIONS: [Run<'static>; 7] = [
     Run {
         name: "a definition that cannot be read, judged before the object",
         command: "crdx prune nowhere.json v1 nowhere.json",
@@ -139,6 +142,9 @@ static ROWS: [Run<'static>; 20] = [
         err: BROKEN_LINES,
         status: 1,
     },
+];
+
+static LEAVES_AND_FIELDS: [Run<'static>; 7] = [
     Run {
         name: "an object that is cut, and its leaves",
         command: "crdx leaves crd.json v1 object.json",
@@ -207,7 +213,9 @@ static ROWS: [Run<'static>; 20] = [
 #[test]
 fn inputs(rt: HostRuntime) -> Result<(), Fail> {
     let mut report = Report::new(rt.alloc());
-    all_runs(&mut report, rt.alloc(), &ROWS);
+    all_runs(&mut report, rt.alloc(), &OBJECTS);
+    all_runs(&mut report, rt.alloc(), &DEFINITIONS);
+    all_runs(&mut report, rt.alloc(), &LEAVES_AND_FIELDS);
     report.end(&rt)
 }
 

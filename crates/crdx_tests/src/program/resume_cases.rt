@@ -87,11 +87,10 @@ fn goes_on(
     let option = walk.option;
     let out = beginning(walk.lines, end_of(&walk.ends, lines));
     let left = 10usize.saturating_sub(lines);
-    let mut command = format!(in alloc; "{COMMAND} {left}{option}")?;
-    if let Some(last) = out.lines().last() {
-        command.push_str(" --after ")?;
-        command.push_str(last)?;
-    }
+    let command = match out.lines().last() {
+        Some(last) => format!(in alloc; "{COMMAND} {left}{option} --after {last}")?,
+        None => format!(in alloc; "{COMMAND} {left}{option}")?,
+    };
     let output = run_walk(alloc, command.as_str(), FailingSink::endless(alloc))?;
     let joined = format!(in alloc; "{out}{}", output.out.text())?;
     report.is_text("both outputs", joined.as_str(), walk.lines);

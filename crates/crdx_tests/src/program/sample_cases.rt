@@ -158,7 +158,7 @@ const NEGATIVE_LINES: &str = r#"{}
 {"spec":{"a":5}}
 "#;
 
-static SAMPLES: [Run<'static>; 15] = [
+static COUNTS: [Run<'static>; 7] = [
     Run {
         name: "every sample of four nodes",
         command: "crdx sample crd.json v1 --pools pools.json --limit 4",
@@ -222,6 +222,9 @@ static SAMPLES: [Run<'static>; 15] = [
         err: "crdx: end\n",
         status: 0,
     },
+];
+
+static SCHEMAS: [Run<'static>; 8] = [
     Run {
         name: "repeated and negative integers",
         command: "crdx sample crd.json v1 --pools pools.json --limit 3",
@@ -366,7 +369,8 @@ static RESUMES: [Run<'static>; 7] = [
 #[test]
 fn samples(rt: HostRuntime) -> Result<(), Fail> {
     let mut report = Report::new(rt.alloc());
-    all_runs(&mut report, rt.alloc(), &SAMPLES);
+    all_runs(&mut report, rt.alloc(), &COUNTS);
+    all_runs(&mut report, rt.alloc(), &SCHEMAS);
     report.end(&rt)
 }
 

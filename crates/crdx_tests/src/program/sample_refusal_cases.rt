@@ -8,7 +8,7 @@ const CUT: &str = r#"{"apiVersion":"apiextensions.k8s.io/v1","kind":"CustomRes"#
 
 const NO_DEFINITION: &str = r#"{"kind":"Widget"}"#;
 
-static REFUSALS: [Run<'static>; 14] = [
+static DEFINITIONS: [Run<'static>; 6] = [
     Run {
         name: "a definition that is cut, judged before the pools",
         command: "crdx sample crd.json v1 --pools pools.json",
@@ -63,6 +63,9 @@ static REFUSALS: [Run<'static>; 14] = [
         err: BROKEN_LINES,
         status: 1,
     },
+];
+
+static POOLS: [Run<'static>; 8] = [
     Run {
         name: "a fraction in pools",
         command: "crdx sample crd.json v1 --pools pools.json",
@@ -140,6 +143,7 @@ static REFUSALS: [Run<'static>; 14] = [
 #[test]
 fn refusals(rt: HostRuntime) -> Result<(), Fail> {
     let mut report = Report::new(rt.alloc());
-    all_runs(&mut report, rt.alloc(), &REFUSALS);
+    all_runs(&mut report, rt.alloc(), &DEFINITIONS);
+    all_runs(&mut report, rt.alloc(), &POOLS);
     report.end(&rt)
 }

@@ -1,13 +1,14 @@
 //! Why rules with several conditions are broken: each reason, by the keyword that it is about.
 use crate::support::harness::{SchemaSaid, crd_of, is_said};
 use crate::support::report::Report;
-use schema::Explained;
+use schema::{Explained, Finding, Violation};
 use std::alloc::{AllocError, Global};
+use std::fmt::Write;
 use std::test::Fail;
 
-// What is wanted: a line for each reason of each violation, the rule, the place, the keyword and the reason; or for a violation
-// without reasons the rule and the place.
-static REASONS: [SchemaSaid; 44] = [
+// What is wanted in these tables: a line for each reason of each violation, the rule, the place, the keyword and the reason; or for a
+// violation without reasons the rule and the place.
+static KEYWORDS: [SchemaSaid; 10] = [
     SchemaSaid {
         name: "pattern",
         schema: r#"{"type":"object","properties":{"x":{"type":"string","pattern":"a"}}}"#,
@@ -70,6 +71,9 @@ V17 "/properties/x" properties NotOfOpenPlaces
         wanted: r#"V17 "/properties/x" required UndeclaredField
 "#,
     },
+];
+
+static BESIDE_OTHERS: [SchemaSaid; 8] = [
     SchemaSaid {
         name: "additionalProperties true",
         schema: r#"{"type":"object","properties":{"x":{"type":"object","additionalProperties":true}}}"#,
@@ -124,6 +128,9 @@ V03 "/properties/x/anyOf/0" nullable NotInBranches
         }}}"#,
         wanted: "",
     },
+];
+
+static LISTS: [SchemaSaid; 10] = [
     SchemaSaid {
         name: "keys of an atomic list",
         schema: r#"{"type":"object","properties":{"x":{"type":"array","items":{"type":"string"},"x-kubernetes-list-map-keys":["k"]}}}"#,
@@ -205,6 +212,9 @@ V11 "/properties/x" x-kubernetes-list-map-keys OptionalKey
 V17 "/properties/x" type NoItems
 "#,
     },
+];
+
+static JUNCTORS: [SchemaSaid; 9] = [
     SchemaSaid {
         name: "a junctor at a list",
         schema: r#"{"type":"object","properties":{"x":{"type":"array","items":{"type":"string"},"not":{}}}}"#,
@@ -275,6 +285,9 @@ V16 "/properties/x/anyOf/0/properties/u" required NotInScalarBranches
         wanted: r#"V01 "/properties/x"
 "#,
     },
+];
+
+static ROOTS: [SchemaSaid; 7] = [
     SchemaSaid {
         name: "a root of texts",
         schema: r#"{"type":"string"}"#,
@@ -326,16 +339,27 @@ V17 "" nullable NotAtRoot
     },
 ];
 
-fn push_lines(alloc: Global, lines: &mut String, explained: &Explained) -> Result<(), AllocError> {
-    let rule = explained.violation.rule;
-    let pointer = explained.violation.pointer.as_str();
-    if explained.findings.is_empty() {
-        lines.push_str(format!(in alloc; "{rule} {pointer:?}\n")?.as_str())?;
+fn push_finding(
+    lines: &mut String,
+    violation: &Violation,
+    finding: &Finding,
+) -> Result<(), AllocError> {
+    let Violation { rule, pointer } = violation;
+    let Finding { keyword, reason } = finding;
+    let (pointer, keyword) = (pointer.as_str(), keyword.as_str());
+    writeln!(lines, "{rule} {pointer:?} {keyword} {reason:?}")
+}
+
+fn push_lines(lines: &mut String, explained: &Explained) -> Result<(), AllocError> {
+    let Explained {
+        violation,
+        findings,
+    } = explained;
+    if findings.is_empty() {
+        writeln!(lines, "{} {:?}", violation.rule, violation.pointer.as_str())?;
     }
-    for finding in &explained.findings {
-        let keyword = finding.keyword.as_str();
-        let reason = finding.reason;
-        lines.push_str(format!(in alloc; "{rule} {pointer:?} {keyword} {reason:?}\n")?.as_str())?;
+    for finding in findings {
+        push_finding(lines, violation, finding)?;
     }
     Ok(())
 }
@@ -343,7 +367,7 @@ fn push_lines(alloc: Global, lines: &mut String, explained: &Explained) -> Resul
 fn lines_of(alloc: Global, all: &[Explained]) -> Result<String, AllocError> {
     let mut lines = String::new(alloc);
     for explained in all {
-        push_lines(alloc, &mut lines, explained)?;
+        push_lines(&mut lines, explained)?;
     }
     Ok(lines)
 }
@@ -362,19 +386,37 @@ fn said_with_defaults(alloc: Global, schema: &str) -> Result<String, Fail> {
     Ok(lines_of(alloc, all.as_slice())?)
 }
 
+fn try_reasons(report: &mut Report, alloc: Global, row: &SchemaSaid) -> Result<(), Fail> {
+    is_said(report, "the reasons", said(alloc, row.schema), row.wanted)?;
+    let found = said_with_defaults(alloc, row.schema);
+    is_said(
+        report,
+        "the reasons beside those of defaults",
+        found,
+        row.wanted,
+    )
+}
+
+fn all_reasons(report: &mut Report, alloc: Global, rows: &[SchemaSaid]) {
+    for row in rows {
+        let ended = try_reasons(report, alloc, row);
+        report.row(row.name, ended);
+    }
+}
+
 #[test]
 fn reasons(rt: HostRuntime) -> Result<(), Fail> {
     schema::laws::broken_for_a_reason();
     let mut report = Report::new(rt.alloc());
-    for row in &REASONS {
-        let found = said(rt.alloc(), row.schema);
-        let ended = is_said(&mut report, "the reasons", found, row.wanted);
-        report.row(row.name, ended);
-    }
+    all_reasons(&mut report, rt.alloc(), &KEYWORDS);
+    all_reasons(&mut report, rt.alloc(), &BESIDE_OTHERS);
+    all_reasons(&mut report, rt.alloc(), &LISTS);
+    all_reasons(&mut report, rt.alloc(), &JUNCTORS);
+    all_reasons(&mut report, rt.alloc(), &ROOTS);
     report.end(&rt)
 }
 
-// As in `REASONS`, of defaults that are not valid.
+// As in the tables before, of defaults that are not valid.
 static DEFAULTS: [SchemaSaid; 2] = [
     SchemaSaid {
         name: "a default of another type",
@@ -390,18 +432,13 @@ static DEFAULTS: [SchemaSaid; 2] = [
     },
 ];
 
-fn all_said_with_defaults(report: &mut Report, alloc: Global, rows: &[SchemaSaid]) {
-    for row in rows {
-        let found = said_with_defaults(alloc, row.schema);
-        let ended = is_said(report, "the reasons", found, row.wanted);
+#[test]
+fn reasons_of_defaults(rt: HostRuntime) -> Result<(), Fail> {
+    let mut report = Report::new(rt.alloc());
+    for row in &DEFAULTS {
+        let found = said_with_defaults(rt.alloc(), row.schema);
+        let ended = is_said(&mut report, "the reasons", found, row.wanted);
         report.row(row.name, ended);
     }
-}
-
-#[test]
-fn reasons_beside_defaults(rt: HostRuntime) -> Result<(), Fail> {
-    let mut report = Report::new(rt.alloc());
-    all_said_with_defaults(&mut report, rt.alloc(), &REASONS);
-    all_said_with_defaults(&mut report, rt.alloc(), &DEFAULTS);
     report.end(&rt)
 }

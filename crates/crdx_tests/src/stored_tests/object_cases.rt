@@ -4,6 +4,7 @@ use crate::support::report::Report;
 use jtree::Tree;
 use schema::{Node, RawSchema, Refused, Violation};
 use std::alloc::{AllocError, Global};
+use std::fmt::Write;
 use std::test::Fail;
 use stored::{Fault, accept, complete, faults, prune, strict_faults, violations};
 
@@ -17,7 +18,7 @@ struct Object {
     faults: &'static str,
 }
 
-static OBJECTS: [Object; 12] = [
+static OBJECTS: [Object; 6] = [
     Object {
         name: "a default below an object without one",
         schema: r#"{"type":"object","properties":{
@@ -84,6 +85,9 @@ static OBJECTS: [Object; 12] = [
         completed: r#"{"i":1,"s":"ab"}"#,
         faults: "3 /i\n4 /i\n5 /i\n14 /i\n3 /s\n6 /s\n7 /s\n14 /s\n",
     },
+];
+
+static ITEMS_AND_NAMES: [Object; 6] = [
     Object {
         name: "items of a set that are of no kind that it takes, and that repeat others",
         schema: r#"{"type":"object","properties":{"s":{
@@ -209,16 +213,15 @@ static DEFAULTS: [SchemaSaid; 4] = [
     },
 ];
 
-fn push_fault(alloc: Global, lines: &mut String, fault: &Fault) -> Result<(), AllocError> {
+fn push_fault(lines: &mut String, fault: &Fault) -> Result<(), AllocError> {
     let Fault { path, number } = fault;
-    let line = format!(in alloc; "{number} {path}\n")?;
-    lines.push_str(line.as_str())
+    writeln!(lines, "{number} {path}")
 }
 
 fn fault_lines(alloc: Global, found: &[Fault]) -> Result<String, AllocError> {
     let mut lines = String::new(alloc);
     for fault in found {
-        push_fault(alloc, &mut lines, fault)?;
+        push_fault(&mut lines, fault)?;
     }
     Ok(lines)
 }
@@ -255,13 +258,18 @@ fn try_object(report: &mut Report, alloc: Global, row: &Object) -> Result<(), Fa
     try_tree(report, alloc, schema.root(), &mut tree, row)
 }
 
+fn all_objects(report: &mut Report, alloc: Global, rows: &[Object]) {
+    for row in rows {
+        let ended = try_object(report, alloc, row);
+        report.row(row.name, ended);
+    }
+}
+
 #[test]
 fn objects(rt: HostRuntime) -> Result<(), Fail> {
     let mut report = Report::new(rt.alloc());
-    for row in &OBJECTS {
-        let ended = try_object(&mut report, rt.alloc(), row);
-        report.row(row.name, ended);
-    }
+    all_objects(&mut report, rt.alloc(), &OBJECTS);
+    all_objects(&mut report, rt.alloc(), &ITEMS_AND_NAMES);
     report.end(&rt)
 }
 
@@ -378,21 +386,16 @@ fn strict(rt: HostRuntime) -> Result<(), Fail> {
     report.end(&rt)
 }
 
-fn push_violation(
-    alloc: Global,
-    lines: &mut String,
-    violation: &Violation,
-) -> Result<(), AllocError> {
+fn push_violation(lines: &mut String, violation: &Violation) -> Result<(), AllocError> {
     let Violation { pointer, rule } = violation;
-    let line = format!(in alloc; "{rule} {pointer}\n")?;
-    lines.push_str(line.as_str())
+    writeln!(lines, "{rule} {pointer}")
 }
 
 /// All that is broken: a rule and a pointer a line.
 fn lines_of(alloc: Global, broken: &[Violation]) -> Result<String, AllocError> {
     let mut lines = String::new(alloc);
     for violation in broken {
-        push_violation(alloc, &mut lines, violation)?;
+        push_violation(&mut lines, violation)?;
     }
     Ok(lines)
 }

@@ -16,8 +16,8 @@ struct FieldValues {
     bad: &'static str,
 }
 
-// Good values are valid.
-static VALUES: [FieldValues; 17] = [
+// In this table and the next good values are valid.
+static SCALARS: [FieldValues; 8] = [
     FieldValues {
         name: "lengths in characters, and `not`",
         field: r#"{"type":"string","minLength":2,"not":{"enum":["ab"]}}"#,
@@ -66,6 +66,9 @@ static VALUES: [FieldValues; 17] = [
         good: r#"[2,10,"","1"]"#,
         bad: r#"[1,"12",true,{},[]]"#,
     },
+];
+
+static LISTS_AND_OBJECTS: [FieldValues; 9] = [
     FieldValues {
         name: "a null with an enum",
         field: r#"{"type":"string","nullable":true,"enum":["x","x"]}"#,
@@ -246,17 +249,19 @@ fn try_values(
     try_lists(report, alloc, schema.root(), row, good)
 }
 
+fn all_values(report: &mut Report, alloc: Global, rows: &[FieldValues], good: Good) {
+    for row in rows {
+        let ended = try_values(report, alloc, row, good);
+        report.row(row.name, ended);
+    }
+}
+
 #[test]
 fn values(rt: HostRuntime) -> Result<(), Fail> {
     stored::laws::becomes_one_tree();
     let mut report = Report::new(rt.alloc());
-    for row in &VALUES {
-        let ended = try_values(&mut report, rt.alloc(), row, Good::Valid);
-        report.row(row.name, ended);
-    }
-    for row in &STORED {
-        let ended = try_values(&mut report, rt.alloc(), row, Good::Stored);
-        report.row(row.name, ended);
-    }
+    all_values(&mut report, rt.alloc(), &SCALARS, Good::Valid);
+    all_values(&mut report, rt.alloc(), &LISTS_AND_OBJECTS, Good::Valid);
+    all_values(&mut report, rt.alloc(), &STORED, Good::Stored);
     report.end(&rt)
 }

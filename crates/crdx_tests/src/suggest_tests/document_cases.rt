@@ -321,14 +321,17 @@ fn objects(rt: HostRuntime) -> Result<(), Fail> {
     report.end(&rt)
 }
 
+fn suggested_at_x(alloc: Global, schema: &str) -> Result<Pools, Fail> {
+    let limits = PoolLimits::STANDARD;
+    let document = suggested(alloc, schema, r#"[{"x":2}]"#, ("/x", ""), limits)??;
+    Ok(Pools::read(alloc, &document)?)
+}
+
 fn try_plan(report: &mut Report, alloc: Global) -> Result<(), Fail> {
     let schema = object_with_field(alloc, r#"{"type":"integer","minimum":2}"#)?;
-    let limits = PoolLimits::STANDARD;
-    let document = suggested(alloc, &schema, r#"[{"x":2}]"#, ("/x", ""), limits)??;
-    let schema = schema_of(alloc, &schema)?;
-    let pools = Pools::read(alloc, &document)?;
+    let pools = suggested_at_x(alloc, &schema)?;
     report.is_number("the integers", pools.integers().len() as u64, 4);
-    let plan: Plan<u64> = Plan::new(alloc, schema, pools, 2)?;
+    let plan: Plan<u64> = Plan::new(alloc, schema_of(alloc, &schema)?, pools, 2)?;
     report.is_number("the limit", u64::from(plan.limit()), 2);
     Ok(())
 }

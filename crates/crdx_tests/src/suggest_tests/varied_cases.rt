@@ -4,6 +4,7 @@ use crate::support::suggestions::{has_member, suggested};
 use jtree::Tree;
 use plan::PoolLimits;
 use std::alloc::{AllocError, Global};
+use std::fmt::Write;
 use std::test::Fail;
 use suggest::SuggestFault;
 
@@ -284,16 +285,10 @@ fn faults(rt: HostRuntime) -> Result<(), Fail> {
 }
 
 /// Adds so many members with this value, each after a comma but the first.
-fn push_members(
-    alloc: Global,
-    text: &mut String,
-    count: u32,
-    value: &str,
-) -> Result<(), AllocError> {
+fn push_members(text: &mut String, count: u32, value: &str) -> Result<(), AllocError> {
     for place in 0..count {
         let comma = if place > 0 { "," } else { "" };
-        let member = format!(in alloc; r#"{comma}"f{place}":{value}"#)?;
-        text.push_str(&member)?;
+        write!(text, r#"{comma}"f{place}":{value}"#)?;
     }
     Ok(())
 }
@@ -306,11 +301,10 @@ fn nested_members(
     value: &str,
 ) -> Result<String, AllocError> {
     let mut text = String::from_str(alloc, begin)?;
-    push_members(alloc, &mut text, count, value)?;
+    push_members(&mut text, count, value)?;
     for _level in 0..2u32 {
-        text.push_str(",\"p\":")?;
-        text.push_str(begin)?;
-        push_members(alloc, &mut text, count, value)?;
+        write!(text, r#","p":{begin}"#)?;
+        push_members(&mut text, count, value)?;
     }
     Ok(text)
 }

@@ -83,15 +83,11 @@ pub fn is_answer(report: &mut Report, output: &Output, out: &str, err: &str, sta
 
 /// A CustomResourceDefinition whose one version, `v1`, has this schema.
 pub fn definition(alloc: Global, schema: &str) -> Result<String, AllocError> {
-    let mut document = String::from_str(
-        alloc,
-        r#"{"apiVersion":"apiextensions.k8s.io/v1","kind":"CustomResourceDefinition","spec":{
-            "group":"example.com","names":{"kind":"Widget"},
-            "versions":[{"name":"v1","schema":{"openAPIV3Schema":"#,
-    )?;
-    document.push_str(schema)?;
-    document.push_str("}}]}}")?;
-    Ok(document)
+    format!(in alloc;
+        r#"{{"apiVersion":"apiextensions.k8s.io/v1","kind":"CustomResourceDefinition","spec":{{
+            "group":"example.com","names":{{"kind":"Widget"}},
+            "versions":[{{"name":"v1","schema":{{"openAPIV3Schema":{schema}}}}}]}}}}"#
+    )
 }
 
 /// A run over two documents, and what it writes and answers. The lines of rules, faults and reasons are without their phrases, here

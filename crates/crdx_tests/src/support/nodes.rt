@@ -3,6 +3,7 @@ use schema::{
     Bounds, Field, ListNode, ListType, MapNode, MapType, Node, ObjectNode, ScalarKind, Sort,
 };
 use std::alloc::Global;
+use std::fmt::Write;
 use std::test::Fail;
 
 /// The node: its sort and its parts, without the constraints of scalars.
@@ -14,8 +15,8 @@ pub fn node_text(alloc: Global, node: &Node) -> Result<String, Fail> {
     }
     match &node.sort {
         Sort::Object(object) => push_object(alloc, &mut out, object)?,
-        Sort::Map(map) => push_map(alloc, &mut out, map)?,
-        Sort::List(list) => push_list(alloc, &mut out, list)?,
+        Sort::Map(map) => push_map(&mut out, map)?,
+        Sort::List(list) => push_list(&mut out, list)?,
         Sort::Scalar(_) | Sort::Open => {}
     }
     Ok(out)
@@ -39,31 +40,26 @@ fn sort_keyword(sort: &Sort) -> &str {
 /// A space and a keyword, where it holds.
 pub fn push_flag(out: &mut String, is: bool, keyword: &str) -> Result<(), Fail> {
     if is {
-        out.push_str(" ")?;
-        out.push_str(keyword)?;
+        write!(out, " {keyword}")?;
     }
     Ok(())
 }
 
 /// A space, a name, and what it equals.
 pub fn push_keyword(out: &mut String, name: &str, keyword: &str) -> Result<(), Fail> {
-    out.push_str(" ")?;
-    out.push_str(name)?;
-    out.push_str("=")?;
-    out.push_str(keyword)?;
-    Ok(())
+    Ok(write!(out, " {name}={keyword}")?)
 }
 
-fn push_count(alloc: Global, out: &mut String, name: &str, count: Option<u64>) -> Result<(), Fail> {
+fn push_count(out: &mut String, name: &str, count: Option<u64>) -> Result<(), Fail> {
     match count {
-        Some(count) => push_keyword(out, name, format!(in alloc; "{count}")?.as_str()),
+        Some(count) => Ok(write!(out, " {name}={count}")?),
         None => Ok(()),
     }
 }
 
-fn push_bounds(alloc: Global, out: &mut String, bounds: &Bounds) -> Result<(), Fail> {
-    push_count(alloc, out, "least", bounds.least)?;
-    push_count(alloc, out, "most", bounds.most)
+fn push_bounds(out: &mut String, bounds: &Bounds) -> Result<(), Fail> {
+    push_count(out, "least", bounds.least)?;
+    push_count(out, "most", bounds.most)
 }
 
 fn push_object(alloc: Global, out: &mut String, object: &ObjectNode) -> Result<(), Fail> {
@@ -72,7 +68,7 @@ fn push_object(alloc: Global, out: &mut String, object: &ObjectNode) -> Result<(
     }
     push_flag(out, object.preserves, "preserves")?;
     push_flag(out, object.map_type == MapType::Atomic, "atomic")?;
-    push_bounds(alloc, out, &object.bounds)
+    push_bounds(out, &object.bounds)
 }
 
 fn push_field(alloc: Global, out: &mut String, field: &Field) -> Result<(), Fail> {
@@ -84,20 +80,20 @@ fn push_field(alloc: Global, out: &mut String, field: &Field) -> Result<(), Fail
     }
 }
 
-fn push_map(alloc: Global, out: &mut String, map: &MapNode) -> Result<(), Fail> {
+fn push_map(out: &mut String, map: &MapNode) -> Result<(), Fail> {
     push_keyword(out, "of", sort_keyword(&map.value.node.sort))?;
     push_flag(out, map.map_type == MapType::Atomic, "atomic")?;
-    push_bounds(alloc, out, &map.bounds)
+    push_bounds(out, &map.bounds)
 }
 
-fn push_list(alloc: Global, out: &mut String, list: &ListNode) -> Result<(), Fail> {
+fn push_list(out: &mut String, list: &ListNode) -> Result<(), Fail> {
     push_keyword(out, "of", sort_keyword(&list.item.node.sort))?;
     push_flag(out, list.list_type == ListType::Set, "set")?;
     push_flag(out, list.list_type == ListType::Map, "map")?;
     for key in &list.keys {
         push_keyword(out, "key", key.as_str())?;
     }
-    push_bounds(alloc, out, &list.bounds)
+    push_bounds(out, &list.bounds)
 }
 
 /// The node of the first field of an object.

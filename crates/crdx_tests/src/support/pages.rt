@@ -6,6 +6,7 @@ use crate::support::reference::plain_parts;
 use crdx::walk::{WFault, Walked, walk};
 use jtree::{JFault, Tree};
 use std::alloc::{AllocError, Global};
+use std::fmt::Write;
 use std::test::Fail;
 
 pub fn place_of(alloc: Global, text: Option<&str>) -> Result<Option<Tree>, JFault> {
@@ -17,8 +18,7 @@ pub fn place_of(alloc: Global, text: Option<&str>) -> Result<Option<Tree>, JFaul
 
 fn push_line(alloc: Global, lines: &mut String, item: &Tree) -> Result<(), Fail> {
     let line = item.to_text(alloc)?;
-    lines.push_str(line.as_str())?;
-    Ok(lines.push('\n')?)
+    Ok(writeln!(lines, "{line}")?)
 }
 
 /// The lines of trees.

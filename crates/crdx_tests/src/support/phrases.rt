@@ -1,5 +1,6 @@
 //! The phrases of rules, faults and reasons. The tables of the tests have their codes alone.
 use std::alloc::{AllocError, Global};
+use std::fmt::Write;
 
 struct Phrase {
     code: &'static str,
@@ -194,10 +195,7 @@ fn push_line(lines: &mut String, line: &str) -> Result<(), AllocError> {
         return Ok(());
     };
     match phrase_of(&PHRASES, code) {
-        Some(phrase) => {
-            lines.push_str(" ")?;
-            lines.push_str(phrase)
-        }
+        Some(phrase) => write!(lines, " {phrase}"),
         None => Ok(()),
     }
 }
@@ -206,9 +204,7 @@ fn push_line(lines: &mut String, line: &str) -> Result<(), AllocError> {
 fn push_reason_or_line(lines: &mut String, line: &str) -> Result<(), AllocError> {
     if let Some((keyword, reason)) = line.rsplit_once(": ") {
         if let Some(phrase) = phrase_of(&REASONS, reason) {
-            lines.push_str(keyword)?;
-            lines.push_str(": ")?;
-            return lines.push_str(phrase);
+            return write!(lines, "{keyword}: {phrase}");
         }
     }
     push_line(lines, line)

@@ -4,12 +4,13 @@ use crate::support::given::{Given, made};
 use crate::support::harness::{pools_of, schema_of};
 use crate::support::reference::plain_parts;
 use crate::support::report::Report;
-use cover::{Covered, cover};
+use cover::{Covered, Line, Wanted, cover};
 use explain::{Listing, resolve};
-use jtree::Tree;
+use jtree::{Items, Members, Tree};
 use plan::Pools;
 use schema::Sort;
 use std::alloc::{AllocError, Global};
+use std::fmt::Write;
 use std::test::Fail;
 use stored::Schema;
 
@@ -21,84 +22,89 @@ struct Plain<'a> {
     chosen: Vec<&'a Tree>,
 }
 
-/// The trees to which a step leads from each of these; `None` where it leads nowhere from one of them.
-fn below<'a>(
-    alloc: Global,
-    step: &str,
-    trees: &[&'a Tree],
-) -> Result<Option<Vec<&'a Tree>>, AllocError> {
-    let mut found = Vec::new(alloc);
-    for tree in trees {
-        let before = found.len();
-        match (step, *tree) {
-            ("[]", Tree::List(items)) => {
-                for item in &items.items {
-                    found.push(item)?;
-                }
-            }
-            ("{}", Tree::Object(members)) => {
-                for member in &members.members {
-                    found.push(&member.tree)?;
-                }
-            }
-            (name, Tree::Object(members)) => {
-                if let Some(value) = members.get(name) {
-                    found.push(value)?;
-                }
-            }
-            _ => {}
-        }
-        if found.len() == before {
-            return Ok(None);
-        }
-    }
-    Ok(Some(found))
-}
-
-/// Whether the path of this text, whose names have no `~`, is there in the tree, with the value where one is wanted.
-fn has(alloc: Global, path: &str, value: Option<&Tree>, tree: &Tree) -> Result<bool, AllocError> {
-    let mut here = Vec::new(alloc);
-    here.push(tree)?;
+/// The steps of a path whose names have no `~`.
+fn steps_of(alloc: Global, path: &str) -> Result<Vec<&str>, AllocError> {
+    let mut steps = Vec::new(alloc);
     for step in path.split('/').skip(1) {
-        match below(alloc, step, &here)? {
-            Some(found) => here = found,
-            None => return Ok(false),
-        }
+        steps.push(step)?;
     }
-    match value {
-        Some(value) => Ok(here.iter().all(|tree| **tree == *value)),
-        None => Ok(true),
+    Ok(steps)
+}
+
+/// Whether the steps lead somewhere from the tree and from everything on their way, and everywhere to the value where one is wanted.
+#[cycle(steps)]
+fn has(tree: &Tree, steps: &[&str], value: Option<&Tree>) -> bool {
+    let Some((step, after)) = steps.split_first() else {
+        return match value {
+            Some(value) => *tree == *value,
+            None => true,
+        };
+    };
+    match (*step, tree) {
+        ("[]", Tree::List(items)) => all_items_have(items, after, value),
+        ("{}", Tree::Object(members)) => all_members_have(members, after, value),
+        (name, Tree::Object(members)) => member_has(members, name, after, value),
+        _ => false,
     }
 }
 
-fn first_with<'a>(
-    alloc: Global,
-    path: &str,
-    value: Option<&Tree>,
-    samples: &[&'a Tree],
-) -> Result<Option<&'a Tree>, AllocError> {
+#[cycle(steps)]
+fn all_items_have(items: &Items, steps: &[&str], value: Option<&Tree>) -> bool {
+    for item in &items.items {
+        if !has(item, steps, value) {
+            return false;
+        }
+    }
+    !items.items.is_empty()
+}
+
+#[cycle(steps)]
+fn all_members_have(members: &Members, steps: &[&str], value: Option<&Tree>) -> bool {
+    for member in &members.members {
+        if !has(&member.tree, steps, value) {
+            return false;
+        }
+    }
+    !members.members.is_empty()
+}
+
+#[cycle(steps)]
+fn member_has(members: &Members, name: &str, steps: &[&str], value: Option<&Tree>) -> bool {
+    for member in &members.members {
+        if member.name.as_str() == name {
+            return has(&member.tree, steps, value);
+        }
+    }
+    false
+}
+
+fn first_with<'a>(steps: &[&str], value: Option<&Tree>, samples: &[&'a Tree]) -> Option<&'a Tree> {
     for sample in samples {
-        if has(alloc, path, value, sample)? {
-            return Ok(Some(*sample));
+        if has(sample, steps, value) {
+            return Some(*sample);
         }
     }
-    Ok(None)
+    None
 }
 
-/// The path, the value or `-`, and a text, as a line.
+fn text_or(alloc: Global, tree: Option<&Tree>, other: &str) -> Result<String, Fail> {
+    match tree {
+        Some(tree) => Ok(tree.to_text(alloc)?),
+        None => Ok(String::from_str(alloc, other)?),
+    }
+}
+
+/// The path, the value or `-`, and the sample or that there is none, as a line.
 fn push_line(
     alloc: Global,
     lines: &mut String,
     path: &str,
     value: Option<&Tree>,
-    text: &str,
+    sample: Option<&Tree>,
 ) -> Result<(), Fail> {
-    let value = match value {
-        Some(value) => value.to_text(alloc)?,
-        None => String::from_str(alloc, "-")?,
-    };
-    let line = format!(in alloc; "{path} {value} {text}\n")?;
-    Ok(lines.push_str(line.as_str())?)
+    let value = text_or(alloc, value, "-")?;
+    let sample = text_or(alloc, sample, "is missed")?;
+    Ok(writeln!(lines, "{path} {value} {sample}")?)
 }
 
 fn add<'a>(
@@ -108,16 +114,16 @@ fn add<'a>(
     samples: &[&'a Tree],
     plain: &mut Plain<'a>,
 ) -> Result<(), Fail> {
-    if first_with(alloc, path, value, &plain.chosen)?.is_some() {
+    let steps = steps_of(alloc, path)?;
+    if first_with(&steps, value, &plain.chosen).is_some() {
         return Ok(());
     }
-    match first_with(alloc, path, value, samples)? {
+    match first_with(&steps, value, samples) {
         Some(sample) => {
-            let text = sample.to_text(alloc)?;
-            push_line(alloc, &mut plain.lines, path, value, text.as_str())?;
-            Ok(plain.chosen.push(sample)?)
+            plain.chosen.push(sample)?;
+            push_line(alloc, &mut plain.lines, path, value, Some(sample))
         }
-        None => push_line(alloc, &mut plain.missed, path, value, "is missed"),
+        None => push_line(alloc, &mut plain.missed, path, value, None),
     }
 }
 
@@ -137,6 +143,28 @@ fn values_at(
     }
 }
 
+fn add_with_values<'a>(
+    alloc: Global,
+    path: &str,
+    values: &[Tree],
+    samples: &[&'a Tree],
+    plain: &mut Plain<'a>,
+) -> Result<(), Fail> {
+    add(alloc, path, None, samples, plain)?;
+    for value in values {
+        add(alloc, path, Some(value), samples, plain)?;
+    }
+    Ok(())
+}
+
+fn borrowed(alloc: Global, samples: &[Tree]) -> Result<Vec<&Tree>, AllocError> {
+    let mut all = Vec::new(alloc);
+    for sample in samples {
+        all.push(sample)?;
+    }
+    Ok(all)
+}
+
 /// What a cover with values says, by all samples.
 fn plain_cover(
     alloc: Global,
@@ -144,10 +172,7 @@ fn plain_cover(
     pools: &Pools,
     samples: &[Tree],
 ) -> Result<String, Fail> {
-    let mut all = Vec::new(alloc);
-    for sample in samples {
-        all.push(sample)?;
-    }
+    let all = borrowed(alloc, samples)?;
     let mut plain = Plain {
         lines: String::new(alloc),
         missed: String::new(alloc),
@@ -155,43 +180,21 @@ fn plain_cover(
     };
     for field in Listing::new(alloc, schema)?.fields() {
         let path = field.path.as_str();
-        add(alloc, path, None, &all, &mut plain)?;
-        for value in &values_at(alloc, schema, pools, path)? {
-            add(alloc, path, Some(value), &all, &mut plain)?;
-        }
+        let values = values_at(alloc, schema, pools, path)?;
+        add_with_values(alloc, path, &values, &all, &mut plain)?;
     }
-    let Plain {
-        lines,
-        missed,
-        chosen: _,
-    } = plain;
-    let mut text = lines;
-    text.push_str(missed.as_str())?;
-    Ok(text)
+    Ok(format!(in alloc; "{}{}", plain.lines, plain.missed)?)
 }
 
 /// The same of what `cover` answers.
 fn text_of(alloc: Global, covered: &Covered) -> Result<String, Fail> {
     let mut text = String::new(alloc);
-    for line in &covered.lines {
-        let path = line.wanted.path.as_str();
-        let object = line.tree.to_text(alloc)?;
-        push_line(
-            alloc,
-            &mut text,
-            path,
-            line.wanted.value.as_ref(),
-            object.as_str(),
-        )?;
+    for Line { wanted, tree } in &covered.lines {
+        let Wanted { path, value } = wanted;
+        push_line(alloc, &mut text, path.as_str(), value.as_ref(), Some(tree))?;
     }
-    for wanted in &covered.missed {
-        push_line(
-            alloc,
-            &mut text,
-            wanted.path.as_str(),
-            wanted.value.as_ref(),
-            "is missed",
-        )?;
+    for Wanted { path, value } in &covered.missed {
+        push_line(alloc, &mut text, path.as_str(), value.as_ref(), None)?;
     }
     Ok(text)
 }

@@ -17,6 +17,17 @@ fn words_of<'a>(alloc: Global, line: &'a str) -> Result<Vec<&'a str>, AllocError
     Ok(words)
 }
 
+fn suggested_of(
+    alloc: Global,
+    schema: &str,
+    wanted: &Wanted<'_>,
+    limits: PoolLimits,
+) -> Result<Result<Tree, SuggestFault>, Fail> {
+    let raw = Tree::from_bytes(alloc, schema.as_bytes())?;
+    let accepted = schema_of(alloc, schema)?;
+    Ok(suggested_pools(alloc, &raw, &accepted, wanted, limits))
+}
+
 /// The document for a schema, a list of objects, varied paths and paths that never occur.
 pub fn suggested(
     alloc: Global,
@@ -25,8 +36,6 @@ pub fn suggested(
     paths: (&str, &str),
     limits: PoolLimits,
 ) -> Result<Result<Tree, SuggestFault>, Fail> {
-    let raw = Tree::from_bytes(alloc, schema.as_bytes())?;
-    let accepted = schema_of(alloc, schema)?;
     let objects = Tree::from_bytes(alloc, objects.as_bytes())?;
     let varied = words_of(alloc, paths.0)?;
     let without = words_of(alloc, paths.1)?;
@@ -38,7 +47,7 @@ pub fn suggested(
         varied: varied.as_slice(),
         without: without.as_slice(),
     };
-    Ok(suggested_pools(alloc, &raw, &accepted, &wanted, limits))
+    suggested_of(alloc, schema, &wanted, limits)
 }
 
 /// Notes it unless the document has this member, or none where the text is empty.
