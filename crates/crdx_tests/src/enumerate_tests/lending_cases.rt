@@ -172,15 +172,22 @@ fn said_of_tree(alloc: Global, tree: Option<&Tree>) -> Result<String, Fail> {
     }
 }
 
-fn has_ended(
+fn lends_pages(
     report: &mut Report,
     live: &mut Live<'_, u64>,
+    row: &LentRow,
     copies: &mut Copies,
     meter: &mut Meter,
 ) {
-    for count in [0, 1] {
-        let again = live.lend_page(count, copies, meter);
-        report.is_value("an answer after the end", &again, &Err(EFault::Ended));
+    let first = live.lend_page(row.first, copies, meter);
+    report.is_value("the first answer", &first, &Ok(false));
+    let second = live.lend_page(row.second, copies, meter);
+    report.is_value("the second answer", &second, &row.answer);
+    if live.tree().is_none() {
+        for count in [0, 1] {
+            let again = live.lend_page(count, copies, meter);
+            report.is_value("an answer after the end", &again, &Err(EFault::Ended));
+        }
     }
 }
 
@@ -196,20 +203,10 @@ fn lends(
         room: row.room,
         trees: Vec::new(alloc),
     };
-    let first = live.lend_page(row.first, &mut copies, meter);
-    report.is_value("the first answer", &first, &Ok(false));
-    let second = live.lend_page(row.second, &mut copies, meter);
-    report.is_value("the second answer", &second, &row.answer);
-    if live.tree().is_none() {
-        has_ended(report, live, &mut copies, meter);
-    }
+    lends_pages(report, live, row, &mut copies, meter);
     is_said(report, "taken", texts(alloc, &copies.trees), row.taken)?;
-    is_said(
-        report,
-        "the place",
-        said_of_tree(alloc, live.tree()),
-        row.at,
-    )
+    let place = said_of_tree(alloc, live.tree());
+    is_said(report, "the place", place, row.at)
 }
 
 fn lends_past(

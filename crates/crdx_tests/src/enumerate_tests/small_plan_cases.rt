@@ -30,27 +30,16 @@ fn all_nodes(
     over: Over<'_>,
 ) -> Result<(), AllocError> {
     for node in nodes {
-        one_node(report, alloc, holder, node.name, node.schema, over)?;
+        let name = format!(in alloc; "{} of {}{}", holder.name, node.name, over.name)?;
+        let schema = format!(in alloc; "{}{}{}", holder.head, node.schema, holder.tail)?;
+        let given = Given {
+            schema: schema.as_str(),
+            pools: over.pools,
+            limit: over.limit,
+        };
+        compare_plan(report, alloc, given, name.as_str());
     }
     Ok(())
-}
-
-fn one_node(
-    report: &mut Report,
-    alloc: Global,
-    holder: &Holder,
-    node: &str,
-    schema: &str,
-    over: Over<'_>,
-) -> Result<(), AllocError> {
-    let name = format!(in alloc; "{} of {node}{}", holder.name, over.name)?;
-    let schema = format!(in alloc; "{}{schema}{}", holder.head, holder.tail)?;
-    let given = Given {
-        schema: schema.as_str(),
-        pools: over.pools,
-        limit: over.limit,
-    };
-    compare_plan(report, alloc, given, name.as_str())
 }
 
 fn all_plans(
@@ -215,69 +204,86 @@ fn plans_over_fixed_values(rt: HostRuntime) -> Result<(), Fail> {
     report.end(&rt)
 }
 
-/// The schema of a node that has nodes below it, and the texts of two steps that are asked for below it.
+/// A node that has nodes below it, and the texts of two steps that are asked for below it.
 struct Asked {
-    name: &'static str,
-    schema: &'static str,
+    node: Held,
     one: &'static str,
     other: &'static str,
 }
 
 static ASKED: [Asked; 9] = [
     Asked {
-        name: "objects",
-        schema: r#"{"type":"object","properties":{"a":{"type":"boolean"},"b":{"type":"boolean","nullable":true}}}"#,
+        node: Held {
+            name: "objects",
+            schema: r#"{"type":"object","properties":{"a":{"type":"boolean"},"b":{"type":"boolean","nullable":true}}}"#,
+        },
         one: "/b",
         other: "/a",
     },
     Asked {
-        name: "objects or null",
-        schema: r#"{"type":"object","nullable":true,"properties":{"a":{"type":"boolean"},"b":{"type":"integer"}}}"#,
+        node: Held {
+            name: "objects or null",
+            schema: r#"{"type":"object","nullable":true,"properties":{"a":{"type":"boolean"},"b":{"type":"integer"}}}"#,
+        },
         one: "/a",
         other: "/a",
     },
     Asked {
-        name: "objects with a required field and a default",
-        schema: r#"{"type":"object","nullable":true,"required":["a"],"properties":{"a":{"type":"boolean"},"f":{"type":"integer","default":7}}}"#,
+        node: Held {
+            name: "objects with a required field and a default",
+            schema: r#"{"type":"object","nullable":true,"required":["a"],"properties":{"a":{"type":"boolean"},"f":{"type":"integer","default":7}}}"#,
+        },
         one: "/f",
         other: "/a",
     },
     Asked {
-        name: "objects with at most one of two fields",
-        schema: r#"{"type":"object","maxProperties":1,"properties":{"a":{"type":"boolean"},
+        node: Held {
+            name: "objects with at most one of two fields",
+            schema: r#"{"type":"object","maxProperties":1,"properties":{"a":{"type":"boolean"},
         "b":{"type":"object","nullable":true,"properties":{"c":{"type":"boolean"}}}}}"#,
+        },
         one: "/b",
         other: "/b/c",
     },
     Asked {
-        name: "objects with one of two fields",
-        schema: r#"{"type":"object","nullable":true,"oneOf":[{"required":["a"]},{"required":["b"]}],
+        node: Held {
+            name: "objects with one of two fields",
+            schema: r#"{"type":"object","nullable":true,"oneOf":[{"required":["a"]},{"required":["b"]}],
         "properties":{"a":{"type":"boolean"},"b":{"type":"object"},"c":{"type":"object"}}}"#,
+        },
         one: "/c",
         other: "/b",
     },
     Asked {
-        name: "maps or null",
-        schema: r#"{"type":"object","nullable":true,"additionalProperties":{"type":"boolean","nullable":true}}"#,
+        node: Held {
+            name: "maps or null",
+            schema: r#"{"type":"object","nullable":true,"additionalProperties":{"type":"boolean","nullable":true}}"#,
+        },
         one: "/{}",
         other: "/{}",
     },
     Asked {
-        name: "maps of lists",
-        schema: r#"{"type":"object","maxProperties":1,"additionalProperties":{"type":"array","nullable":true,"items":{"type":"boolean"}}}"#,
+        node: Held {
+            name: "maps of lists",
+            schema: r#"{"type":"object","maxProperties":1,"additionalProperties":{"type":"array","nullable":true,"items":{"type":"boolean"}}}"#,
+        },
         one: "/{}/[]",
         other: "/{}",
     },
     Asked {
-        name: "lists or null",
-        schema: r#"{"type":"array","nullable":true,"items":{"type":"object","nullable":true,"properties":{"a":{"type":"boolean"}}}}"#,
+        node: Held {
+            name: "lists or null",
+            schema: r#"{"type":"array","nullable":true,"items":{"type":"object","nullable":true,"properties":{"a":{"type":"boolean"}}}}"#,
+        },
         one: "/[]",
         other: "/[]/a",
     },
     Asked {
-        name: "map lists",
-        schema: r#"{"type":"array","maxItems":2,"x-kubernetes-list-type":"map","x-kubernetes-list-map-keys":["k"],
+        node: Held {
+            name: "map lists",
+            schema: r#"{"type":"array","maxItems":2,"x-kubernetes-list-type":"map","x-kubernetes-list-map-keys":["k"],
         "items":{"type":"object","required":["k"],"properties":{"k":{"type":"boolean"},"v":{"type":"boolean"}}}}"#,
+        },
         one: "/[]",
         other: "/[]/v",
     },
@@ -308,7 +314,7 @@ fn asked_node(
         limit: 6,
         name: name.as_str(),
     };
-    one_node(report, alloc, holder, row.name, row.schema, over)
+    all_nodes(report, alloc, holder, &[row.node], over)
 }
 
 fn asked_nodes(

@@ -46,9 +46,8 @@ fn pieces(rt: HostRuntime) -> Result<(), Fail> {
     let whole = said(alloc, Tree::from_bytes(alloc, document.as_bytes()))?;
     let mut report = Report::new(alloc);
     for step in STEPS {
-        let name = step_name(alloc, step)?;
         let ended = try_piece(&mut report, alloc, &document, &whole, step);
-        report.row(name.as_str(), ended);
+        report.row_of(step_name(alloc, step), ended);
     }
     let found = said_of(alloc, &mut Feed::new(document.as_bytes()));
     let ended = is_said(&mut report, "what is read", found, &whole);
@@ -69,7 +68,7 @@ fn bytes(rt: HostRuntime) -> Result<(), Fail> {
         let mut source = FailingSource::new(wanted, step, usize::MAX);
         let found = read_bytes(rt.alloc(), &mut source)?;
         report.is_value("the bytes", &found.as_slice(), &wanted);
-        report.row(step_name(rt.alloc(), step)?.as_str(), Ok(()));
+        report.row_of(step_name(rt.alloc(), step), Ok(()));
     }
     report.end(&rt)
 }
@@ -89,9 +88,11 @@ fn failures(rt: HostRuntime) -> Result<(), Fail> {
     let mut report = Report::new(rt.alloc());
     for left in 0..WIDGET.len() + 1 {
         for step in [1, usize::MAX] {
-            let name = format!(in rt.alloc(); "{left} bytes in pieces of {step}")?;
             let ended = try_failure(&mut report, rt.alloc(), step, left);
-            report.row(name.as_str(), ended);
+            report.row_of(
+                format!(in rt.alloc(); "{left} bytes in pieces of {step}"),
+                ended,
+            );
         }
     }
     report.end(&rt)

@@ -96,25 +96,22 @@ fn try_sums<S: SizeSet>(report: &mut Report, alloc: Global, row: &SumsRow) -> Re
     are_sizes(report, alloc, "the members", sums, row.sums)
 }
 
-fn all_sums<S: SizeSet>(
-    report: &mut Report,
-    alloc: Global,
-    rows: &[SumsRow],
-) -> Result<(), AllocError> {
+fn all_sums<S: SizeSet>(report: &mut Report, alloc: Global, rows: &[SumsRow]) {
     for row in rows {
-        let name = format!(in alloc; "{}, over {} bits", row.name, S::BITS)?;
         let ended = try_sums::<S>(report, alloc, row);
-        report.row(name.as_str(), ended);
+        report.row_of(
+            format!(in alloc; "{}, over {} bits", row.name, S::BITS),
+            ended,
+        );
     }
-    Ok(())
 }
 
 #[test]
 fn sums(rt: HostRuntime) -> Result<(), Fail> {
     let mut report = Report::new(rt.alloc());
-    all_sums::<u64>(&mut report, rt.alloc(), &SUMS)?;
-    all_sums::<u128>(&mut report, rt.alloc(), &SUMS)?;
-    all_sums::<u128>(&mut report, rt.alloc(), &WIDE_SUMS)?;
+    all_sums::<u64>(&mut report, rt.alloc(), &SUMS);
+    all_sums::<u128>(&mut report, rt.alloc(), &SUMS);
+    all_sums::<u128>(&mut report, rt.alloc(), &WIDE_SUMS);
     report.end(&rt)
 }
 
@@ -210,24 +207,21 @@ fn try_next<S: SizeSet>(report: &mut Report, row: &Next) -> Result<(), Fail> {
     Ok(())
 }
 
-fn all_next<S: SizeSet>(
-    report: &mut Report,
-    alloc: Global,
-    rows: &[Next],
-) -> Result<(), AllocError> {
+fn all_next<S: SizeSet>(report: &mut Report, alloc: Global, rows: &[Next]) {
     for row in rows {
-        let name = format!(in alloc; "{}, over {} bits", row.name, S::BITS)?;
         let ended = try_next::<S>(report, row);
-        report.row(name.as_str(), ended);
+        report.row_of(
+            format!(in alloc; "{}, over {} bits", row.name, S::BITS),
+            ended,
+        );
     }
-    Ok(())
 }
 
 #[test]
 fn next_members(rt: HostRuntime) -> Result<(), Fail> {
     let mut report = Report::new(rt.alloc());
-    all_next::<u64>(&mut report, rt.alloc(), &NEXT)?;
-    all_next::<u128>(&mut report, rt.alloc(), &NEXT)?;
-    all_next::<u128>(&mut report, rt.alloc(), &WIDE_NEXT)?;
+    all_next::<u64>(&mut report, rt.alloc(), &NEXT);
+    all_next::<u128>(&mut report, rt.alloc(), &NEXT);
+    all_next::<u128>(&mut report, rt.alloc(), &WIDE_NEXT);
     report.end(&rt)
 }

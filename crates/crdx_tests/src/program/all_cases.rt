@@ -156,9 +156,9 @@ fn full_sinks(rt: HostRuntime) -> Result<(), Fail> {
     let mut report = Report::new(rt.alloc());
     let lines = large_lines(rt.alloc())?;
     for index in [0, 1, 127, 128, 129, 10_000, 12_166] {
-        let name = format!(in rt.alloc(); "a sink that is full after {index} lines")?;
         let ended = try_full(&mut report, rt.alloc(), lines.as_str(), index);
-        report.row(name.as_str(), ended);
+        let name = format!(in rt.alloc(); "a sink that is full after {index} lines");
+        report.row_of(name, ended);
     }
     report.end(&rt)
 }

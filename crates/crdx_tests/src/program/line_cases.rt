@@ -406,9 +406,9 @@ fn try_cut(report: &mut Report, alloc: Global, left: usize) -> Result<(), Fail> 
 fn cut_inputs(rt: HostRuntime) -> Result<(), Fail> {
     let mut report = Report::new(rt.alloc());
     for left in 0..=THREE.len() {
-        let name = format!(in rt.alloc(); "lines of which {left} bytes are read")?;
         let ended = try_cut(&mut report, rt.alloc(), left);
-        report.row(name.as_str(), ended);
+        let name = format!(in rt.alloc(); "lines of which {left} bytes are read");
+        report.row_of(name, ended);
     }
     report.end(&rt)
 }

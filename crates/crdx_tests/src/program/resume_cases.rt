@@ -78,19 +78,27 @@ fn stops(
 }
 
 /// The walk past the last of so many whole lines, or the same walk again where there is none, writes the others.
+fn command_after(
+    alloc: Global,
+    out: &str,
+    left: usize,
+    option: &str,
+) -> Result<String, AllocError> {
+    match out.lines().last() {
+        Some(last) => format!(in alloc; "{COMMAND} {left}{option} --after {last}"),
+        None => format!(in alloc; "{COMMAND} {left}{option}"),
+    }
+}
+
 fn goes_on(
     report: &mut Report,
     alloc: Global,
     walk: &TenLines,
     lines: usize,
 ) -> Result<(), AllocError> {
-    let option = walk.option;
     let out = beginning(walk.lines, end_of(&walk.ends, lines));
     let left = 10usize.saturating_sub(lines);
-    let command = match out.lines().last() {
-        Some(last) => format!(in alloc; "{COMMAND} {left}{option} --after {last}")?,
-        None => format!(in alloc; "{COMMAND} {left}{option}")?,
-    };
+    let command = command_after(alloc, out, left, walk.option)?;
     let output = run_walk(alloc, command.as_str(), FailingSink::endless(alloc))?;
     let joined = format!(in alloc; "{out}{}", output.out.text())?;
     report.is_text("both outputs", joined.as_str(), walk.lines);

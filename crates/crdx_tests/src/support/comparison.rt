@@ -383,7 +383,7 @@ fn try_made(
     plan: &Plan<u64>,
     given: Given<'_>,
     meter: &mut Meter,
-) -> Result<(), Fail> {
+) -> Result<Vec<Tree>, Fail> {
     let schema = schema_of(alloc, given.schema)?;
     let pools = pools_of(alloc, given.pools)?;
     let of = Compared {
@@ -394,28 +394,23 @@ fn try_made(
     let root = schema.root();
     try_stored(report, of, root)?;
     let samples = plain_parts(alloc, root, "", &pools, u64::from(given.limit))?;
-    try_cover(report, alloc, given, &samples)?;
     try_samples(report, of, &samples, meter)?;
-    try_nodes(report, of, plan.root(), root, "", &samples, meter)
+    try_nodes(report, of, plan.root(), root, "", &samples, meter)?;
+    Ok(samples)
 }
 
 /// What the plan of a schema, pools and a node limit says of its nodes, against the plain reference.
 fn try_plan(report: &mut Report, alloc: Global, given: Given<'_>) -> Result<(), Fail> {
     let mut plan = made(alloc, given)?;
     let mut meter = plan.meter();
-    try_made(report, alloc, &plan, given, &mut meter)
+    let samples = try_made(report, alloc, &plan, given, &mut meter)?;
+    drop(plan);
+    try_cover(report, alloc, given, &samples)
 }
 
 /// A row for a plan, which is named by what it is of and by its limit.
-pub fn compare_plan(
-    report: &mut Report,
-    alloc: Global,
-    given: Given<'_>,
-    name: &str,
-) -> Result<(), AllocError> {
+pub fn compare_plan(report: &mut Report, alloc: Global, given: Given<'_>, name: &str) {
     let limit = given.limit;
-    let name = format!(in alloc; "{name}, of at most {limit} nodes")?;
     let ended = try_plan(report, alloc, given);
-    report.row(name.as_str(), ended);
-    Ok(())
+    report.row_of(format!(in alloc; "{name}, of at most {limit} nodes"), ended);
 }

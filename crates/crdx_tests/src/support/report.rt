@@ -104,6 +104,15 @@ impl Report {
         self.is_full |= !is_kept;
     }
 
+    /// As `row`, with a name that is made for it.
+    pub fn row_of(&mut self, name: Result<String, AllocError>, ended: Result<(), Fail>) {
+        self.is_full |= name.is_err();
+        match name {
+            Ok(name) => self.row(name.as_str(), ended),
+            Err(AllocError) => self.row("a row", ended),
+        }
+    }
+
     fn keep_row(&mut self, name: &str) -> Result<(), AllocError> {
         if self.differences.is_empty() {
             return Ok(());

@@ -89,6 +89,7 @@ pub static HOLDERS_OF_SCALARS: [Holder; 5] = [
 ];
 
 /// A node, by its schema.
+#[derive(Clone, Copy)]
 pub struct Held {
     pub name: &'static str,
     pub schema: &'static str,
