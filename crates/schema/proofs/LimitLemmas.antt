@@ -1,6 +1,8 @@
 -- The first event at which a limit is passed is the first place in path order that passes one.
 use Rattle.std.proofs.Common.{◌≡◌, ◌≢◌, ◌⊎◌, ◌<◌, ◌≤◌, ℕ, suc, ◌+◌, List, [], ◌∷◌, ◌++◌, length, true, false, Some, None, refl, sym, ap, ◌∙◌, subst, inl, inr, arith, append_assoc}
-use Rattle.std.specs.Prelude.{nat_lt, nat_le}
+use Rattle.std.specs.Prelude.{Option, nat_lt, nat_le, codes}
+use Rattle.std.specs.Str.{bytes_eq}
+use Rattle.std.proofs.lemmas.Option.{same_Some}
 use Rattle.std.specs.Cmp.{IsTotalOrder}
 use Rattle.std.specs.Ordering.{ordering_reverse}
 use Rattle.std.proofs.lemmas.Cmp.{nat_list_cmp_total, nat_cmp_total, lists_total, tied_itself}
@@ -8,13 +10,14 @@ use Rattle.std.proofs.lemmas.Bool.Decides.{nat_tests}
 use Rattle.std.specs.declared.cmp.Ordering.TheVariants.{Less, Equal}
 use Rattle.jtree.specs.Data.{Data}
 use Rattle.jtree.specs.Path.{Step, name, index, Path}
-use Rattle.jtree.specs.PathOrder.{step_cmp, path_cmp}
+use Rattle.jtree.specs.PathOrder.{step_cmp, path_cmp, IsFirst}
 use Rattle.jtree.specs.Internal.Lookups.{bool_cases}
 use Rattle.schema.specs.Document.Places.{Place, place_path, IsPlace}
-use Rattle.schema.specs.Document.Limits.{size, most, IsTooLong, ComeBefore, PassesLimit, too_many_places, too_deep, too_long, IsWithinLimits, IsLimitFault}
+use Rattle.schema.specs.Document.Limits.{size, most, limited_by, IsTooLong, ComeBefore, ArePlaces, PassesBy, PassesLimit, too_many_places, too_deep, too_long, IsWithinLimits}
+use Rattle.schema.specs.declared.limits.Limited.{Limited}
+use Rattle.schema.specs.declared.limits.Limited.TheVariants.{Places, Steps, Properties, Required, MapKeys, Choices}
 use Rattle.schema.specs.declared.limits.Limits.{Limits}
-use Rattle.schema.specs.Internal.Events.{Event, entered, counted, event_path, IsIn, Ascend, IsCounted, AreEventsOf, limit_break}
-use Rattle.schema.proofs.FormFirst.{IsFound}
+use Rattle.schema.specs.Internal.Events.{Event, entered, counted, event_path, IsIn, Ascend, IsCounted, AreEventsOf, Passing, of_all_places, passing, limit_break, subschemas_of}
 use Rattle.jtree.specs.Internal.Rising.{Among, Rising, contained, contains, rising, all_pairs}
 
 -- ---- path order is total
@@ -165,6 +168,39 @@ come_before raw done rest p s are = record {
   ];
 }
 
+-- all places of a schema are among its events
+all_places : (raw : Data) (events : List Event) → AreEventsOf raw events → ArePlaces raw (places_of events)
+all_places raw events are = record {
+  each = λ p. (
+    λ c. let r = recorded events p (contained (places_of events) p c) in (r.0, (are.subschemas p r.0).1 r.1),
+    λ is. contains (places_of events) p (of_event events p is.0 ((are.subschemas p is.0).0 is.1)),
+  );
+  ascending = all_pairs Before (places_of events) (rising_places events are.ascending);
+}
+
+same_count : (events : List Event) → length (places_of events) ≡ length (subschemas_of events)
+same_count [] = refl
+same_count (entered p s ∷ events) = ap suc (same_count events)
+same_count (counted p k l n ∷ events) = same_count events
+
+-- no keyword limits the number of places
+limits_entries : (k : List ℕ) (l : Limited) (all n : ℕ) → limited_by k ≡ Some l → of_all_places l all n ≡ n
+limits_entries k l all n h =
+    let same : (m : Limited) → of_all_places m all n ≡ n → Some m ≡ Some l → of_all_places l all n ≡ n = λ m own e. subst (λ x. of_all_places x all n ≡ n) (same_Some m l e) own in
+    elim (bool_cases (bytes_eq k (codes "properties"))) [
+      | inl a ↦ same Properties refl (rw a at h)
+      | inr a ↦ elim (bool_cases (bytes_eq k (codes "required"))) [
+        | inl b ↦ same Required refl (rw (a, b) at h)
+        | inr b ↦ elim (bool_cases (bytes_eq k (codes "x-kubernetes-list-map-keys"))) [
+          | inl c ↦ same MapKeys refl (rw (a, b, c) at h)
+          | inr c ↦ elim (bool_cases (bytes_eq k (codes "enum"))) [
+            | inl e ↦ same Choices refl (rw (a, b, c, e) at h)
+            | inr e ↦ let none = rw (a, b, c, e) at h in cc
+          ]
+        ]
+      ]
+    ]
+
 here_entered : (raw : Data) (done rest : List Event) (p : Place) (s : Data) → AreEventsOf raw (done ++ (entered p s ∷ rest)) → IsPlace raw p
 here_entered raw done rest p s are = (s, (are.subschemas p s).1 (in_right (entered p s) done (entered p s ∷ rest) (inl refl)))
 
@@ -194,15 +230,18 @@ module _ (limits : Limits) where
     at : event_path event ≡ path
     fault : Fault raw event
 
-  fault_of : (raw : Data) (events : List Event) (path : Path) → AreEventsOf raw events → PassesLimit limits raw path → Fails raw events path
-  fault_of raw events path are (too_many_places r at before is come count) =
+  fault_by : (raw : Data) (events : List Event) (path : Path) (l : Limited) (found : ℕ) → AreEventsOf raw events → PassesBy limits raw path l found → Fails raw events path
+  fault_by raw events path l found are (too_many_places r at before all is come count every) =
       record { event = entered at is.0; within = (are.subschemas at is.0).0 is.1; at = refl; fault = inr (before, come, count) }
-  fault_of raw events path are (too_deep r at is deep) =
+  fault_by raw events path l found are (too_deep r at is deep) =
       record { event = entered at is.0; within = (are.subschemas at is.0).0 is.1; at = refl; fault = inl deep }
-  fault_of raw events path are (too_long r at keyword h) =
+  fault_by raw events path l found are (too_long r at keyword h) =
       let n = size h.value in
       let is : IsCounted raw at keyword h.limited n = record { schema = h.schema; is = h.is; value = h.value; is_there = h.is_there; limit = h.limit; count = refl } in
       record { event = counted at keyword h.limited n; within = (are.keywords at keyword h.limited n).0 is; at = refl; fault = h.past }
+
+  fault_of : (raw : Data) (events : List Event) (path : Path) → AreEventsOf raw events → PassesLimit limits raw path → Fails raw events path
+  fault_of raw events path are h = fault_by raw events path h.limited h.found are h.by
 
   none_earlier : (raw : Data) (done rest : List Event) (m : Event) → AreEventsOf raw (done ++ (m ∷ rest)) → ((n : Event) → IsIn n done → Fault raw n → ⊥)
       → (e : Path) → PassesLimit limits raw e → path_cmp e (event_path m) ≢ Less
@@ -227,12 +266,21 @@ module _ (limits : Limits) where
     | inr b ↦ elim b [ inl e ↦ none (subst (Fault raw) e fault) | inr past ↦ past ]
   ]
 
-  walk : (raw : Data) (rest done : List Event) (n : ℕ) → AreEventsOf raw (done ++ rest) → n ≡ length (places_of done) → n ≤ limits.places
-      → ((m : Event) → IsIn m done → Fault raw m → ⊥) → IsFound (PassesLimit limits raw) (limit_break limits n rest)
-  walk raw [] done n are count few clean = λ path h.
+  -- where a limit is passed first, and which one, by all places; or there is none
+  abbrev pub IsFoundPassing : Data → ℕ → Option Passing → Type 0
+  IsFoundPassing raw all None = (path : Path) → PassesLimit limits raw path → ⊥
+  IsFoundPassing raw all (Some p) = IsFirst (PassesLimit limits raw) p.path × PassesBy limits raw p.path p.limited (of_all_places p.limited all p.found)
+
+  found_passing : (raw : Data) (all : ℕ) (path : Path) (l : Limited) (n m : ℕ) → of_all_places l all n ≡ m → PassesBy limits raw path l m
+      → ((e : Path) → PassesLimit limits raw e → path_cmp e path ≢ Less) → IsFoundPassing raw all (passing path l n)
+  found_passing raw all path l n m e by earlier = (record { here = record { limited = l; found = m; by = by }; none_before = earlier }, subst (PassesBy limits raw path l) (sym e) by)
+
+  walk : (raw : Data) (rest done : List Event) (n : ℕ) (all : List Place) → ArePlaces raw all → AreEventsOf raw (done ++ rest) → n ≡ length (places_of done) → n ≤ limits.places
+      → ((m : Event) → IsIn m done → Fault raw m → ⊥) → IsFoundPassing raw (length all) (limit_break limits n rest)
+  walk raw [] done n all every are count few clean = λ path h.
       let f = fault_of raw (done ++ []) path are h in
       elim (in_parts f.event done [] f.within) [ inl a ↦ clean f.event a f.fault | inr b ↦ b ]
-  walk raw (counted p k l m ∷ rest) done n are count few clean = elim (bool_cases (nat_lt (most limits l) m)) [
+  walk raw (counted p k l m ∷ rest) done n all every are count few clean = elim (bool_cases (nat_lt (most limits l) m)) [
     | inl past ↦
         let here = (are.keywords p k l m).1 (in_right (counted p k l m) done (counted p k l m ∷ rest) (inl refl)) in
         let long : IsTooLong limits raw p k = record {
@@ -244,48 +292,48 @@ module _ (limits : Limits) where
           limit = here.limit;
           past = subst (λ x. most limits l < x) (sym here.count) (lt_true (most limits l) m past);
         } in
-        let first : limit_break limits n (counted p k l m ∷ rest) ≡ Some (place_path p ++ (name k ∷ [])) = rw past refl in
-        subst (IsFound (PassesLimit limits raw)) (sym first) (record { here = too_long raw p k long; none_before = none_earlier raw done rest (counted p k l m) are clean })
+        let first : limit_break limits n (counted p k l m ∷ rest) ≡ passing (place_path p ++ (name k ∷ [])) l m = rw past refl in
+        subst (IsFoundPassing raw (length all)) (sym first)
+        (found_passing raw (length all) (place_path p ++ (name k ∷ [])) l m (size here.value) (limits_entries k l (length all) m here.limit ∙ sym here.count) (too_long raw p k long)
+        (none_earlier raw done rest (counted p k l m) are clean))
     | inr within ↦
         let first : limit_break limits n (counted p k l m ∷ rest) ≡ limit_break limits n rest = rw within refl in
         let moved : AreEventsOf raw ((done ++ (counted p k l m ∷ [])) ++ rest) = subst (AreEventsOf raw) (sym (append_assoc done (counted p k l m ∷ []) rest)) are in
         let same = more_places done (counted p k l m) in
         let few_enough = lt_false (most limits l) m within in
-        subst (IsFound (PassesLimit limits raw)) (sym first) (walk raw rest (done ++ (counted p k l m ∷ [])) n moved (omega (arith, same)) few
+        subst (IsFoundPassing raw (length all)) (sym first) (walk raw rest (done ++ (counted p k l m ∷ [])) n all every moved (omega (arith, same)) few
         (clean_more raw done (counted p k l m) (λ past. omega arith) clean))
   ]
-  walk raw (entered p s ∷ rest) done n are count few clean = elim (bool_cases (nat_le limits.places n)) [
+  walk raw (entered p s ∷ rest) done n all every are count few clean = elim (bool_cases (nat_le limits.places n)) [
     | inl full ↦
         let past : limits.places ≤ n = le_true limits.places n full in
-        let first : limit_break limits n (entered p s ∷ rest) ≡ Some (place_path p) = rw full refl in
+        let first : limit_break limits n (entered p s ∷ rest) ≡ passing (place_path p) Places n = rw full refl in
         let exact : length (places_of done) ≡ limits.places = omega arith in
-        subst (IsFound (PassesLimit limits raw)) (sym first) (record {
-          here = too_many_places raw p (places_of done) (here_entered raw done rest p s are) (come_before raw done rest p s are) exact;
-          none_before = none_earlier raw done rest (entered p s) are clean;
-        })
+        let by = too_many_places raw p (places_of done) all (here_entered raw done rest p s are) (come_before raw done rest p s are) exact every in
+        subst (IsFoundPassing raw (length all)) (sym first) (found_passing raw (length all) (place_path p) Places n (length all) refl by (none_earlier raw done rest (entered p s) are clean))
     | inr room ↦
         let less : n < limits.places = le_false limits.places n room in
         elim (bool_cases (nat_lt limits.steps (length p))) [
           | inl deep ↦
-              let first : limit_break limits n (entered p s ∷ rest) ≡ Some (place_path p) = rw (room, deep) refl in
-              subst (IsFound (PassesLimit limits raw)) (sym first) (record {
-                here = too_deep raw p (here_entered raw done rest p s are) (lt_true limits.steps (length p) deep);
-                none_before = none_earlier raw done rest (entered p s) are clean;
-              })
+              let first : limit_break limits n (entered p s ∷ rest) ≡ passing (place_path p) Steps (length p) = rw (room, deep) refl in
+              let by = too_deep raw p (here_entered raw done rest p s are) (lt_true limits.steps (length p) deep) in
+              subst (IsFoundPassing raw (length all)) (sym first)
+              (found_passing raw (length all) (place_path p) Steps (length p) (length p) refl by (none_earlier raw done rest (entered p s) are clean))
           | inr short ↦
               let first : limit_break limits n (entered p s ∷ rest) ≡ limit_break limits (suc n) rest = rw (room, short) refl in
               let moved : AreEventsOf raw ((done ++ (entered p s ∷ [])) ++ rest) = subst (AreEventsOf raw) (sym (append_assoc done (entered p s ∷ []) rest)) are in
               let more = more_places done (entered p s) in
-              subst (IsFound (PassesLimit limits raw)) (sym first) (walk raw rest (done ++ (entered p s ∷ [])) (suc n) moved (omega (arith, more)) (omega arith)
+              subst (IsFoundPassing raw (length all)) (sym first) (walk raw rest (done ++ (entered p s ∷ [])) (suc n) all every moved (omega (arith, more)) (omega arith)
               (clean_more raw done (entered p s) (no_fault raw done rest p s are (omega arith) (lt_false limits.steps (length p) short)) clean))
         ]
   ]
 
-  pub found : (raw : Data) (events : List Event) → AreEventsOf raw events → IsFound (PassesLimit limits raw) (limit_break limits 0 events)
-  found raw events are = walk raw events [] 0 are refl (omega arith) (λ m e f. e)
+  found : (raw : Data) (events : List Event) → AreEventsOf raw events → IsFoundPassing raw (length (subschemas_of events)) (limit_break limits 0 events)
+  found raw events are = subst (λ all. IsFoundPassing raw all (limit_break limits 0 events)) (same_count events)
+      (walk raw events [] 0 (places_of events) (all_places raw events are) are refl (omega arith) (λ m e f. e))
 
   pub within : (raw : Data) (events : List Event) → AreEventsOf raw events → limit_break limits 0 events ≡ None → IsWithinLimits limits raw
-  within raw events are none = subst (IsFound (PassesLimit limits raw)) none (found raw events are)
+  within raw events are none = subst (IsFoundPassing raw (length (subschemas_of events))) none (found raw events are)
 
-  pub first_past : (raw : Data) (events : List Event) (path : Path) → AreEventsOf raw events → limit_break limits 0 events ≡ Some path → IsLimitFault limits raw path
-  first_past raw events path are some = subst (IsFound (PassesLimit limits raw)) some (found raw events are)
+  pub first_past : (raw : Data) (events : List Event) (p : Passing) → AreEventsOf raw events → limit_break limits 0 events ≡ Some p → IsFoundPassing raw (length (subschemas_of events)) (Some p)
+  first_past raw events p are some = subst (IsFoundPassing raw (length (subschemas_of events))) some (found raw events are)

@@ -1,15 +1,16 @@
 -- How a list of places grows along the events of a schema.
-use Rattle.std.proofs.Common.{◌≡◌, ◌+◌, ℕ, suc, List, [], ◌∷◌, ◌++◌, length, Option, Some, None, refl, sym, ap, ◌∙◌, inl, inr, arith}
+use Rattle.std.proofs.Common.{◌≡◌, ◌+◌, ℕ, suc, List, [], ◌∷◌, ◌++◌, length, Option, Some, None, refl, sym, ap, ◌∙◌, subst, inl, inr, arith}
 use Rattle.std.specs.Prelude.{map, nat_lt, nat_le}
 use Rattle.std.proofs.lemmas.List.{append-nil, append_assoc, length-append, length-map, map-append}
-use Rattle.jtree.specs.Data.{Data}
-use Rattle.jtree.specs.Path.{Path}
+use Rattle.std.proofs.lemmas.Option.{same_Some}
+use Rattle.jtree.specs.Data.{Data, object, Members}
+use Rattle.jtree.specs.Pointer.{pointer}
 use Rattle.jtree.specs.Internal.Lookups.{bool_cases}
 use Rattle.schema.specs.Document.Places.{Place}
-use Rattle.schema.specs.Document.Limits.{most, limited_by, size}
+use Rattle.schema.specs.Document.Limits.{most, limited_by, size, PassesBy}
 use Rattle.schema.specs.declared.limits.Limited.{Limited}
 use Rattle.schema.specs.declared.limits.Limits.{Limits}
-use Rattle.schema.specs.Internal.Events.{Event, entered, counted, subschemas_of, limit_break, count_event, keyword_event, AreEventsOf}
+use Rattle.schema.specs.Internal.Events.{Event, entered, counted, subschemas_of, schema_events, Passing, of_all, limit_break, count_event, keyword_event, AreEventsOf}
 use Rattle.schema.specs.Internal.Faults.{IsLimitRefusal, IsLimitFaultOf}
 use Rattle.schema.proofs.LimitLemmas.{first_past}
 use Rattle.schema.specs.Internal.PlaceView.{subschema_of}
@@ -57,22 +58,22 @@ module _ (limits : Limits) where
   ]
 
   -- the first limit that is passed stays the first, whatever comes after it
-  pub limit_stays : (n : ℕ) (xs ys : List Event) (path : Path) → limit_break limits n xs ≡ Some path → limit_break limits n (xs ++ ys) ≡ Some path
-  limit_stays n [] ys path h = cc
-  limit_stays n (counted p k l m ∷ xs) ys path h = elim (bool_cases (nat_lt (most limits l) m)) [
+  pub limit_stays : (n : ℕ) (xs ys : List Event) (first : Passing) → limit_break limits n xs ≡ Some first → limit_break limits n (xs ++ ys) ≡ Some first
+  limit_stays n [] ys first h = cc
+  limit_stays n (counted p k l m ∷ xs) ys first h = elim (bool_cases (nat_lt (most limits l) m)) [
     | inl t ↦ let here = rw t at h in rw t here
-    | inr within ↦ let rest : limit_break limits n xs ≡ Some path = rw within at h in rw within (limit_stays n xs ys path rest)
+    | inr within ↦ let rest : limit_break limits n xs ≡ Some first = rw within at h in rw within (limit_stays n xs ys first rest)
   ]
-  limit_stays n (entered p s ∷ xs) ys path h = elim (bool_cases (nat_le limits.places n)) [
+  limit_stays n (entered p s ∷ xs) ys first h = elim (bool_cases (nat_le limits.places n)) [
     | inl t ↦ let here = rw t at h in rw t here
     | inr few ↦ elim (bool_cases (nat_lt limits.steps (length p))) [
       | inl t ↦ let here = rw (few, t) at h in rw (few, t) here
-      | inr short ↦ let rest : limit_break limits (suc n) xs ≡ Some path = rw (few, short) at h in rw (few, short) (limit_stays (suc n) xs ys path rest)
+      | inr short ↦ let rest : limit_break limits (suc n) xs ≡ Some first = rw (few, short) at h in rw (few, short) (limit_stays (suc n) xs ys first rest)
     ]
   ]
 
   pub refusal_stays : (n : ℕ) (xs ys : List Event) (e : Unlisted) → IsLimitRefusal (limit_break limits n xs) e → IsLimitRefusal (limit_break limits n (xs ++ ys)) e
-  refusal_stays n xs ys (Passed x) h = (h.0, h.1, limit_stays n xs ys h.0 h.2)
+  refusal_stays n xs ys (Passed x) h = (h.0, h.1, h.2, limit_stays n xs ys h.0 h.3)
   refusal_stays n xs ys NoMemory h = h
 
   -- the list has grown by the places among the events
@@ -105,7 +106,16 @@ module _ (limits : Limits) where
     limit = sym limit ∙ ap (limit_break limits (length new)) nothing;
   }
 
-  -- the fault of a whole schema
-  pub refusal_names : (raw : Data) (events : List Event) → AreEventsOf raw events → (e : Unlisted) → IsLimitRefusal (limit_break limits 0 events) e → IsLimitFaultOf limits raw e
-  refusal_names raw events are (Passed x) h = (h.0, h.1, first_past limits raw events h.0 are h.2)
-  refusal_names raw events are NoMemory h = h
+  -- the fault of a whole schema, with all its places counted
+  pub refusal_names : (ms : Members) → AreEventsOf (object ms) (schema_events [] ms) → (p : Passing) (e : Unlisted) → limit_break limits 0 (schema_events [] ms) ≡ Some p
+      → IsLimitRefusal (Some (of_all ms p)) e → IsLimitFaultOf limits (object ms) e
+  refusal_names ms are p (Passed x) some h =
+      let first = first_past limits (object ms) (schema_events [] ms) p are some in
+      let same : of_all ms p ≡ h.0 = same_Some (of_all ms p) h.0 h.3 in (
+        p.path,
+        h.1 ∙ ap (λ q. pointer q.path) (sym same),
+        first.0,
+        subst (λ n. PassesBy limits (object ms) p.path x.limited n) (sym (h.2.1 ∙ ap (λ q. q.found) (sym same)))
+            (subst (λ l. PassesBy limits (object ms) p.path l (of_all ms p).found) (sym (h.2.0 ∙ ap (λ q. q.limited) (sym same))) first.1),
+      )
+  refusal_names ms are p NoMemory some h = tt

@@ -1,21 +1,23 @@
 //! Reads a CustomResourceDefinition (apiextensions.k8s.io/v1).
 ghost use Rattle.std.specs.Prelude.{◌≡◌, ◌≢◌, ◌↔◌, ℕ, List, [], None, Some, option_map, codes, OnOk, IfOk, IfErr, IfSome, IsTrue};
-ghost use Rattle.jtree.specs.Data.{Data, Items as ItemsData, text as text_of};
+ghost use Rattle.jtree.specs.Data.{Data, Items as ItemsData, list as list_of};
 ghost use Rattle.jtree.specs.View.{data_of};
 ghost use Rattle.schema.specs.Document.Crd.{IsRead, IsSchemaOf, HasHeader, IsHead};
-ghost use Rattle.schema.specs.Internal.Faults.{IsDefinitionFault};
+ghost use Rattle.schema.specs.Internal.Faults.{IsUnfound};
+ghost use Rattle.schema.specs.Document.Refusal.{IsWrongPart, IsGiven};
 ghost use Rattle.schema.specs.Document.Forms.{HasForms};
 ghost use Rattle.schema.specs.Document.Limits.{standard, IsWithinLimits};
 ghost use Rattle.schema.specs.Document.ReadFault.{IsReadFault, IsSchemaFault};
 ghost use Rattle.jtree.specs.Path.{under2, under3};
 
 use crate::fault::SFault;
-use crate::forms::{Form, check_form};
+use crate::forms::check_schema_forms;
 use crate::laws;
 use crate::limits::Limits;
 use crate::listing::list_places;
 use crate::raw::RawSchema;
 use crate::reading::copy_tree;
+use crate::refusal::Part;
 use crate::versions::select;
 use jtree::{Items, Text, Tree};
 use std::alloc::Global;
@@ -85,7 +87,7 @@ pub fn read_crd_within(
 {
     let definition = match find_definition(alloc, document, version) {
         Ok(definition) => definition,
-        Err(fault) => return Err(fault),
+        Err(unfound) => return Err(unfound.into()),
     };
     match check_schema(alloc, definition.schema, limits) {
         Ok(()) => {}
@@ -99,26 +101,51 @@ pub fn read_crd_within(
     })
 }
 
+/// Why there is no definition with this version and its schema.
+#[derive(Drop)]
+pub(crate) enum Unfound<'a> {
+    /// The first part that is not as it has to be.
+    WrongPart(Part),
+    /// These are the versions, and none has the name.
+    NoVersion(&'a Items),
+    NoMemory,
+}
+
+impl From<Unfound<'_>> for SFault {
+    ghost use Rattle.std.specs.Prelude.{◌≡◌};
+    ghost use Rattle.schema.specs.Internal.Faults.{finding_fault};
+
+    ghost from_gives = { λ unfound e. e ≡ finding_fault unfound };
+
+    fn from(unfound: Unfound<'_>) -> SFault {
+        match unfound {
+            Unfound::WrongPart(_) => SFault::NotACrd,
+            Unfound::NoVersion(_) => SFault::NoSuchVersion,
+            Unfound::NoMemory => SFault::NoMemory,
+        }
+    }
+}
+
 pub(crate) fn find_definition<'a>(
     alloc: Global,
     document: &'a Tree,
     version: &str,
-) -> Result<Definition<'a>, SFault>
+) -> Result<Definition<'a>, Unfound<'a>>
     ensures ok { IfOk result (λ f. IsRead (data_of document.now) version.now f.group.now f.kind.now (data_of f.schema.now)) }
-    ensures err { IfErr result (IsDefinitionFault (data_of document.now) version.now) }
+    ensures err { IfErr result (IsUnfound (data_of document.now) version.now) }
 {
-    let Some(head) = head_of(document) else {
-        return Err(SFault::NotACrd);
+    let head = match head_of(document) {
+        Ok(head) => head,
+        Err(part) => return Err(Unfound::WrongPart(part)),
     };
     let selected = match select(alloc, head.versions, version) {
-        Ok(selected) => selected,
-        Err(fault) => return Err(fault),
-    };
-    let Some(selected) = selected else {
-        return Err(SFault::NoSuchVersion);
+        Ok(Some(selected)) => selected,
+        Ok(None) => return Err(Unfound::NoVersion(head.versions)),
+        Err(SFault::NotACrd) => return Err(Unfound::WrongPart(Part::Versions)),
+        Err(_) => return Err(Unfound::NoMemory),
     };
     let Some(schema) = schema_of(selected) else {
-        return Err(SFault::NotACrd);
+        return Err(Unfound::WrongPart(Part::Schema));
     };
     Ok(Definition {
         group: head.group,
@@ -134,9 +161,9 @@ fn check_schema(alloc: Global, schema: &Tree, limits: Limits) -> Result<(), SFau
     ensures err { IfErr result (IsSchemaFault limits (data_of schema.now)) }
 {
     schema.reveal_invariant();
-    match check_form(alloc, Form::Object, schema) {
+    match check_schema_forms(alloc, schema) {
         Ok(()) => {}
-        Err(fault) => return Err(fault),
+        Err(misformed) => return Err(misformed.into()),
     }
     match schema {
         Tree::Object(members) => match list_places(alloc, limits, members) {
@@ -147,30 +174,31 @@ fn check_schema(alloc: Global, schema: &Tree, limits: Limits) -> Result<(), SFau
     }
 }
 
-pub(crate) fn head_of(document: &Tree) -> Option<Head<'_>>
-    ensures some { IfSome result (λ h. IsHead (data_of document.now) h.group.now h.kind.now h.versions.now) }
-    ensures none { result ≡ None → (group kind : List ℕ) (versions : ItemsData) → IsHead (data_of document.now) group kind versions → ⊥ }
+/// The parts that come before the versions are looked at, or the first that is not as it has to be.
+fn head_of(document: &Tree) -> Result<Head<'_>, Part>
+    ensures ok { IfOk result (λ h. IsHead (data_of document.now) h.group.now h.kind.now h.versions.now) }
+    ensures err { IfErr result (λ part. (version : List ℕ) → IsWrongPart (data_of document.now) version part) }
 {
     if !has_header(document) {
-        return None;
+        return Err(Part::Header);
     }
     let Some(group) = given_text(part_below(document, "spec", "group")) else {
-        return None;
+        return Err(Part::Group);
     };
     let Some(kind) = given_text(kind_part(document)) else {
-        return None;
+        return Err(Part::Kind);
     };
-    let Some(Tree::List(versions)) = part_below(document, "spec", "versions") else {
-        return None;
+    let Some(versions) = list_in(part_below(document, "spec", "versions")) else {
+        return Err(Part::Versions);
     };
-    Some(Head {
+    Ok(Head {
         group,
         kind,
         versions,
     })
 }
 
-pub(crate) fn has_header(document: &Tree) -> bool
+fn has_header(document: &Tree) -> bool
     ensures { IsTrue result ↔ HasHeader (data_of document.now) }
 {
     document.has_text("apiVersion", "apiextensions.k8s.io/v1")
@@ -178,7 +206,7 @@ pub(crate) fn has_header(document: &Tree) -> bool
 }
 
 /// What is under a name below another.
-pub(crate) fn part_below<'a>(tree: &'a Tree, outer: &str, inner: &str) -> Option<&'a Tree>
+fn part_below<'a>(tree: &'a Tree, outer: &str, inner: &str) -> Option<&'a Tree>
     ensures { option_map (λ t. data_of t.now) result ≡ under2 (data_of tree.now) outer.now inner.now }
 {
     match tree.get(outer) {
@@ -188,7 +216,7 @@ pub(crate) fn part_below<'a>(tree: &'a Tree, outer: &str, inner: &str) -> Option
 }
 
 /// What is at `spec.names.kind`.
-pub(crate) fn kind_part(document: &Tree) -> Option<&Tree>
+fn kind_part(document: &Tree) -> Option<&Tree>
     ensures { option_map (λ t. data_of t.now) result ≡ under3 (data_of document.now) (codes "spec") (codes "names") (codes "kind") }
 {
     match part_below(document, "spec", "names") {
@@ -197,11 +225,20 @@ pub(crate) fn kind_part(document: &Tree) -> Option<&Tree>
     }
 }
 
+fn list_in(part: Option<&Tree>) -> Option<&Items>
+    ensures some { IfSome result (λ ds. option_map (λ t. data_of t.now) part.entry ≡ Some (list_of ds.now)) }
+    ensures none { result ≡ None → (ds : ItemsData) → option_map (λ t. data_of t.now) part.entry ≡ Some (list_of ds) → ⊥ }
+{
+    match part {
+        Some(Tree::List(items)) => Some(items),
+        _ => None,
+    }
+}
+
 /// A text that is not empty.
-pub(crate) fn given_text(part: Option<&Tree>) -> Option<&str>
-    ensures some { IfSome result (λ s. option_map (λ t. data_of t.now) part.entry ≡ Some (text_of s.now)) }
-    ensures given { IfSome result (λ s. s.now ≢ []) }
-    ensures none { result ≡ None → (s : List ℕ) → option_map (λ t. data_of t.now) part.entry ≡ Some (text_of s) → s ≢ [] → ⊥ }
+fn given_text(part: Option<&Tree>) -> Option<&str>
+    ensures some { IfSome result (λ s. IsGiven (option_map (λ t. data_of t.now) part.entry) s.now) }
+    ensures none { result ≡ None → (s : List ℕ) → IsGiven (option_map (λ t. data_of t.now) part.entry) s → ⊥ }
 {
     match part {
         Some(Tree::Text(text)) => {

@@ -1,12 +1,14 @@
 //! The form of each keyword's value, and the first value in path order that has not its form.
-ghost use Rattle.std.specs.Prelude.{◌≡◌, ◌++◌, ℕ, Option, None, OnOk, IfOk, IfErr, string_bytes};
-ghost use Rattle.jtree.specs.Path.{Path, name as name_step, index as index_step};
+ghost use Rattle.std.specs.Prelude.{◌≡◌, ◌++◌, ℕ, Option, Some, None, OnOk, IfOk, IfErr, string_bytes};
+ghost use Rattle.jtree.specs.Data.{Data, list, object};
+ghost use Rattle.jtree.specs.Path.{Path, name as name_step, index as index_step, part_by};
 ghost use Rattle.jtree.specs.Pointer.{name_token, index_token};
 ghost use Rattle.jtree.specs.View.{data_of};
 ghost use Rattle.schema.specs.Document.Texts.{is_among};
-ghost use Rattle.schema.specs.Document.Forms.{text_keywords, truth_value_keywords, count_keywords, form_of as form_of_keyword, form_below, has_form as has_form_of, is_some_list as is_some_list_of, is_count as is_count_of};
-ghost use Rattle.schema.specs.Internal.Faults.{IsBreakFault};
-ghost use Rattle.schema.specs.Internal.FormBreak.{form_view, first_break, items_break, members_break, below};
+ghost use Rattle.schema.specs.Document.Forms.{Form as FormData, HasForms, text_keywords, truth_value_keywords, count_keywords, form_of as form_of_keyword, form_below, has_form as has_form_of, is_some_list as is_some_list_of, is_count as is_count_of};
+ghost use Rattle.schema.specs.Document.Refusal.{form_view};
+ghost use Rattle.schema.specs.Internal.Faults.{IsFirstBreak, IsMisformed};
+ghost use Rattle.schema.specs.Internal.FormBreak.{first_break, items_break, members_break, below};
 
 use crate::fault::SFault;
 use crate::keywords::is_one_of;
@@ -172,14 +174,46 @@ fn is_count(tree: &Tree) -> bool
     }
 }
 
-/// Answers `KeywordForm` with the pointer, counted from the value, of the first part in path order that has not its form.
+/// Why a value has not its form.
+#[derive(Drop)]
+pub(crate) enum Misformed<'a> {
+    /// The pointer, counted from the value, of the first part in path order that has not its form, and what is there.
+    Broken(String, BrokenForm<'a>),
+    NoMemory,
+}
+
+impl From<Misformed<'_>> for SFault {
+    ghost use Rattle.std.specs.Prelude.{◌≡◌};
+    ghost use Rattle.schema.specs.Internal.Faults.{form_fault};
+
+    ghost from_gives = { λ misformed e. e ≡ form_fault misformed };
+
+    fn from(misformed: Misformed<'_>) -> SFault {
+        match misformed {
+            Misformed::Broken(pointer, _) => SFault::KeywordForm(pointer),
+            Misformed::NoMemory => SFault::NoMemory,
+        }
+    }
+}
+
+/// Whether each keyword of a schema has its form.
+pub(crate) fn check_schema_forms<'a>(alloc: Global, schema: &'a Tree) -> Result<(), Misformed<'a>>
+    ensures ok { OnOk result (HasForms (data_of schema.now)) }
+    ensures err { IfErr result (IsMisformed (data_of schema.now)) }
+{
+    schema.reveal_invariant();
+    check_form(alloc, Form::Object, schema)
+}
+
+/// Whether each part of a value has its form, where the value has to have this one.
 #[cycle(forms)]
-pub(crate) fn check_form(alloc: Global, form: Form, tree: &Tree) -> Result<(), SFault>
+fn check_form<'a>(alloc: Global, form: Form, tree: &'a Tree) -> Result<(), Misformed<'a>>
     ensures ok { OnOk result (first_break (form_view form) (data_of tree.now) ≡ None) }
-    ensures err { IfErr result (IsBreakFault (first_break (form_view form) (data_of tree.now))) }
+    ensures err { IfErr result (IsFirstBreak (form_view form) (data_of tree.now) (first_break (form_view form) (data_of tree.now))) }
 {
     if !has_form(form, tree) {
-        return Err(SFault::KeywordForm(String::new(alloc)));
+        let found = BrokenForm { form, found: tree };
+        return Err(Misformed::Broken(String::new(alloc), found));
     }
     match tree {
         Tree::List(items) => check_items(alloc, form, items),
@@ -189,57 +223,60 @@ pub(crate) fn check_form(alloc: Global, form: Form, tree: &Tree) -> Result<(), S
 }
 
 #[cycle(forms)]
-fn check_items(alloc: Global, form: Form, items: &Items) -> Result<(), SFault>
+fn check_items<'a>(alloc: Global, form: Form, items: &'a Items) -> Result<(), Misformed<'a>>
     ensures ok { OnOk result (items_break (form_view form) 0 items.now ≡ None) }
-    ensures err { IfErr result (IsBreakFault (items_break (form_view form) 0 items.now)) }
+    ensures err { IfErr result (IsFirstBreak (form_view form) (list items.now) (items_break (form_view form) 0 items.now)) }
 {
     let item_form = form_of_items(form);
     for (i, item) in items.items.iter().enumerate() {
         match check_form(alloc, item_form, item) {
             Ok(()) => {}
-            Err(fault) => return Err(below_index(alloc, i, fault)),
+            Err(misformed) => return Err(below_index(alloc, i, misformed)),
         }
     }
     Ok(())
 }
 
 #[cycle(forms)]
-fn check_members(alloc: Global, form: Form, members: &Members) -> Result<(), SFault>
+fn check_members<'a>(alloc: Global, form: Form, members: &'a Members) -> Result<(), Misformed<'a>>
     ensures ok { OnOk result (members_break (form_view form) members.now ≡ None) }
-    ensures err { IfErr result (IsBreakFault (members_break (form_view form) members.now)) }
+    ensures err { IfErr result (IsFirstBreak (form_view form) (object members.now) (members_break (form_view form) members.now)) }
 {
+    members.reveal_invariant();
     for member in &members.members {
         let name = member.name.as_str();
         match check_form(alloc, form_of_member(form, name), &member.tree) {
             Ok(()) => {}
-            Err(fault) => return Err(below_name(alloc, name, fault)),
+            Err(misformed) => return Err(below_name(alloc, name, misformed)),
         }
     }
     Ok(())
 }
 
-/// The fault with its pointer counted from an object, where it was counted from a member.
-fn below_name(alloc: Global, name: &str, fault: SFault) -> SFault
-    ensures { (o : Option Path) → IsBreakFault o fault → IsBreakFault (below (name_step name.now) o) result }
+/// The same with its pointer counted from an object, where it was counted from a member.
+fn below_name<'a>(alloc: Global, name: &str, misformed: Misformed<'a>) -> Misformed<'a>
+    ensures { (f : FormData) (d e : Data) (o : Option Path) → part_by d (name_step name.now) ≡ Some e → IsFirstBreak (form_below f (name_step name.now)) e o misformed.entry → IsFirstBreak f d (below (name_step name.now) o) result }
 {
-    match fault {
-        SFault::KeywordForm(pointer) => match name_and(alloc, name, pointer.as_str()) {
-            Ok(pointer) => SFault::KeywordForm(pointer),
-            Err(_) => SFault::NoMemory,
+    match misformed {
+        Misformed::Broken(pointer, broken) => match name_and(alloc, name, pointer.as_str()) {
+            Ok(pointer) => Misformed::Broken(pointer, broken),
+            Err(_) => Misformed::NoMemory,
         },
-        other => other,
+        Misformed::NoMemory => Misformed::NoMemory,
     }
 }
 
-fn below_index(alloc: Global, index: usize, fault: SFault) -> SFault
-    ensures { (o : Option Path) → IsBreakFault o fault → IsBreakFault (below (index_step index) o) result }
+fn below_index<'a>(alloc: Global, index: usize, misformed: Misformed<'a>) -> Misformed<'a>
+    ensures { (f : FormData) (d e : Data) (o : Option Path) → part_by d (index_step index) ≡ Some e → IsFirstBreak (form_below f (index_step index)) e o misformed.entry → IsFirstBreak f d (below (index_step index) o) result }
 {
-    match fault {
-        SFault::KeywordForm(pointer) => match index_and(alloc, index as u64, pointer.as_str()) {
-            Ok(pointer) => SFault::KeywordForm(pointer),
-            Err(_) => SFault::NoMemory,
-        },
-        other => other,
+    match misformed {
+        Misformed::Broken(pointer, broken) => {
+            match index_and(alloc, index as u64, pointer.as_str()) {
+                Ok(pointer) => Misformed::Broken(pointer, broken),
+                Err(_) => Misformed::NoMemory,
+            }
+        }
+        Misformed::NoMemory => Misformed::NoMemory,
     }
 }
 
@@ -259,38 +296,4 @@ fn index_and(alloc: Global, index: u64, pointer: &str) -> Result<String, AllocEr
     push_index(&mut joined, index)?;
     joined.push_str(pointer)?;
     Ok(joined)
-}
-
-/// The first part in path order that has not its form.
-#[cycle(broken)]
-pub(crate) fn broken_form<'a>(form: Form, tree: &'a Tree) -> Option<BrokenForm<'a>> {
-    if !has_form(form, tree) {
-        return Some(BrokenForm { form, found: tree });
-    }
-    match tree {
-        Tree::List(items) => broken_item(form_of_items(form), items),
-        Tree::Object(members) => broken_member(form, members),
-        _ => None,
-    }
-}
-
-#[cycle(broken)]
-fn broken_item<'a>(form: Form, items: &'a Items) -> Option<BrokenForm<'a>> {
-    for item in &items.items {
-        if let Some(broken) = broken_form(form, item) {
-            return Some(broken);
-        }
-    }
-    None
-}
-
-#[cycle(broken)]
-fn broken_member<'a>(form: Form, members: &'a Members) -> Option<BrokenForm<'a>> {
-    for member in &members.members {
-        let form = form_of_member(form, member.name.as_str());
-        if let Some(broken) = broken_form(form, &member.tree) {
-            return Some(broken);
-        }
-    }
-    None
 }

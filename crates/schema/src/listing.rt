@@ -4,7 +4,8 @@ ghost use Rattle.jtree.specs.Data.{Data, object, list, item, Items as ItemsData}
 ghost use Rattle.jtree.specs.Path.{member_at};
 ghost use Rattle.jtree.specs.View.{data_of};
 ghost use Rattle.schema.specs.Document.Limits.{size as size_of, IsWithinLimits, limited_by as limited_by_keyword};
-ghost use Rattle.schema.specs.Internal.Events.{Event, entered, part_of as part_of_keyword, keyword_event, part_events, member_events, item_events, schema_events, subschemas_of, limit_break, branch as branch_of, properties as properties_part, branches};
+ghost use Rattle.schema.specs.Internal.Events.{Event, entered, part_of as part_of_keyword, keyword_event, part_events, member_events, item_events, schema_events, subschemas_of, Passing, of_all, limit_break, branch as branch_of, properties as properties_part, branches};
+ghost use Rattle.schema.specs.declared.listing.Unlisted.TheVariants.{Passed};
 ghost use Rattle.schema.specs.Internal.Faults.{IsLimitRefusal, IsLimitFaultOf};
 ghost use Rattle.schema.specs.Document.Places.{Place, only_object, schema_by};
 ghost use Rattle.schema.specs.Rules.Broken.{pattern, holder, typed, HasAnyPattern, HasAllPattern};
@@ -295,18 +296,21 @@ fn check_place(
     ensures ok { OnOk result ((s : Data) (events : List Event) → limit_break limits count (entered (place_of place.now) s ∷ events) ≡ limit_break limits (suc count) events) }
     ensures err { IfErr result (λ e. (s : Data) (events : List Event) → IsLimitRefusal (limit_break limits count (entered (place_of place.now) s ∷ events)) e) }
 {
-    let (limited, found) = if count >= limits.places {
-        (Limited::Places, count.saturating_add(1))
-    } else if place.len() > limits.steps {
-        (Limited::Steps, place.len())
-    } else {
-        return Ok(());
-    };
-    Err(Unlisted::Passed(Excess {
-        pointer: pointer_of(alloc, place)?,
-        limited,
-        found,
-    }))
+    if count >= limits.places {
+        return Err(Unlisted::Passed(Excess {
+            pointer: pointer_of(alloc, place)?,
+            limited: Limited::Places,
+            found: count,
+        }));
+    }
+    if place.len() > limits.steps {
+        return Err(Unlisted::Passed(Excess {
+            pointer: pointer_of(alloc, place)?,
+            limited: Limited::Steps,
+            found: place.len(),
+        }));
+    }
+    Ok(())
 }
 
 /// Refuses a keyword whose value has too many members or entries.
@@ -345,6 +349,24 @@ pub(crate) fn list_places<'a>(
     ensures err { IfErr result (IsLimitFaultOf limits (object schema.now)) }
 {
     schema.reveal_invariant();
+    match list_within(alloc, limits, schema) {
+        Ok(subschemas) => Ok(subschemas),
+        Err(Unlisted::Passed(excess)) => Err(with_all_places(alloc, schema, excess)),
+        Err(Unlisted::NoMemory) => Err(Unlisted::NoMemory),
+    }
+}
+
+/// The same, with the number of the places so far where there are too many.
+fn list_within<'a>(
+    alloc: Global,
+    limits: Limits,
+    schema: &'a Members,
+) -> Result<Vec<Subschema<'a>>, Unlisted>
+    ensures subschemas { IfOk result (λ v. AreSubschemas schema.now v.items) }
+    ensures ok { OnOk result (limit_break limits 0 (schema_events [] schema.now) ≡ None) }
+    ensures err { IfErr result (IsLimitRefusal (limit_break limits 0 (schema_events [] schema.now))) }
+{
+    schema.reveal_invariant();
     let mut subschemas = Vec::new(alloc);
     list_schema(
         alloc,
@@ -356,6 +378,39 @@ pub(crate) fn list_places<'a>(
     )?;
     Ok(subschemas)
 }
+
+/// The excess with the number of all places, where there are too many.
+fn with_all_places(alloc: Global, schema: &Members, excess: Excess) -> Unlisted
+    ensures { (p : Passing) → IsLimitRefusal (Some p) (Passed excess) → IsLimitRefusal (Some (of_all schema.now p)) result }
+{
+    let Excess {
+        pointer,
+        limited,
+        found,
+    } = excess;
+    let found = match limited {
+        Limited::Places => match list_within(alloc, UNLIMITED, schema) {
+            Ok(places) => places.len(),
+            Err(_) => return Unlisted::NoMemory,
+        },
+        _ => found,
+    };
+    Unlisted::Passed(Excess {
+        pointer,
+        limited,
+        found,
+    })
+}
+
+/// Limits that no document passes.
+const UNLIMITED: Limits = Limits {
+    places: usize::MAX,
+    steps: usize::MAX,
+    properties: usize::MAX,
+    required: usize::MAX,
+    map_keys: usize::MAX,
+    choices: usize::MAX,
+};
 
 /// Lists a place and those below it, after the places that are listed already.
 #[cycle(listing)]

@@ -1,6 +1,6 @@
 -- The limits of a schema (this project's own): the most places, branches of junctors among them; the most steps of a place; the
 -- most members of `properties`; the most entries of `required`, `x-kubernetes-list-map-keys` and `enum`. Entries count as written.
-use Rattle.std.specs.Prelude.{◌≡◌, ◌<◌, ℕ, suc, List, [], ◌∷◌, ◌++◌, length, Option, Some, None, if◌then◌else◌, codes, AllPairs, Contains}
+use Rattle.std.specs.Prelude.{◌≡◌, ◌<◌, ◌↔◌, ℕ, suc, List, [], ◌∷◌, ◌++◌, length, Option, Some, None, if◌then◌else◌, codes, AllPairs, Contains}
 use Rattle.std.specs.Str.{bytes_eq}
 use Rattle.std.specs.declared.cmp.Ordering.TheVariants.{Less}
 use Rattle.jtree.specs.Data.{Data, Items, no_items, item, Members, no_members, member}
@@ -67,12 +67,23 @@ pub record ComeBefore (raw : Data) (at : Place) (places : List Place) : Type 0 w
   pub ascending : AllPairs (λ p q. path_cmp (place_path p) (place_path q) ≡ Less) places
   pub all : (p : Place) → IsPlace raw p → path_cmp (place_path p) (place_path at) ≡ Less → Contains places p
 
--- what a limit is passed at, by its path
-pub data PassesLimit (limits : Limits) : Data → Path → Type 0 where
+-- all places of a schema, in path order
+pub record ArePlaces (raw : Data) (places : List Place) : Type 0 where
+  pub each : (p : Place) → Contains places p ↔ IsPlace raw p
+  pub ascending : AllPairs (λ p q. path_cmp (place_path p) (place_path q) ≡ Less) places
+
+-- what a limit is passed at, by its path; what there is too much of there, and how many there are
+pub data PassesBy (limits : Limits) : Data → Path → Limited → ℕ → Type 0 where
   -- the first place after as many as there may be
-  too_many_places : (raw : Data) (at : Place) (before : List Place) → IsPlace raw at → ComeBefore raw at before → length before ≡ limits.places → PassesLimit limits raw (place_path at)
-  too_deep : (raw : Data) (at : Place) → IsPlace raw at → limits.steps < length at → PassesLimit limits raw (place_path at)
-  too_long : (raw : Data) (at : Place) (keyword : List ℕ) → IsTooLong limits raw at keyword → PassesLimit limits raw (place_path at ++ (name keyword ∷ []))
+  too_many_places : (raw : Data) (at : Place) (before all : List Place) → IsPlace raw at → ComeBefore raw at before → length before ≡ limits.places → ArePlaces raw all
+      → PassesBy limits raw (place_path at) Places (length all)
+  too_deep : (raw : Data) (at : Place) → IsPlace raw at → limits.steps < length at → PassesBy limits raw (place_path at) Steps (length at)
+  too_long : (raw : Data) (at : Place) (keyword : List ℕ) (h : IsTooLong limits raw at keyword) → PassesBy limits raw (place_path at ++ (name keyword ∷ [])) h.limited (size h.value)
+
+pub record PassesLimit (limits : Limits) (raw : Data) (path : Path) : Type 0 where
+  pub limited : Limited
+  pub found : ℕ
+  pub by : PassesBy limits raw path limited found
 
 abbrev pub IsWithinLimits : Limits → Data → Type 0
 IsWithinLimits limits raw = (path : Path) → PassesLimit limits raw path → ⊥

@@ -8,6 +8,7 @@ use Rattle.jtree.specs.PathOrder.{path_cmp}
 use Rattle.schema.specs.Document.Places.{Step, property, map_value, items, all_of, any_of, one_of, negation, Place, place_path, schema_at}
 use Rattle.schema.specs.Document.Limits.{most, limited_by, size}
 use Rattle.schema.specs.declared.limits.Limited.{Limited}
+use Rattle.schema.specs.declared.limits.Limited.TheVariants.{Places, Steps}
 use Rattle.schema.specs.declared.limits.Limits.{Limits}
 
 pub data Event : Type 0 where
@@ -105,17 +106,35 @@ pub record AreEventsOf (raw : Data) (events : List Event) : Type 0 where
   pub subschemas : (p : Place) (s : Data) → (schema_at raw p ≡ Some s) ↔ IsIn (entered p s) events
   pub keywords : (p : Place) (k : List ℕ) (l : Limited) (n : ℕ) → IsCounted raw p k l n ↔ IsIn (counted p k l n) events
 
--- the first path at which a limit is passed, after so many places
-abbrev pub limit_break : Limits → ℕ → List Event → Option Path
+-- where a limit is passed, and which one; how many steps, members or entries there are, or how many places come before
+pub record Passing : Type 0 where
+  pub path : Path
+  pub limited : Limited
+  pub found : ℕ
+
+-- of places, how many there are in all
+abbrev pub of_all_places : Limited → ℕ → ℕ → ℕ
+of_all_places Places total n = total
+of_all_places _ total n = n
+
+abbrev pub passing : Path → Limited → ℕ → Option Passing
+passing path l n = Some (record { path = path; limited = l; found = n })
+
+-- where a limit is passed first, after so many places
+abbrev pub limit_break : Limits → ℕ → List Event → Option Passing
 limit_break limits n [] = None
 limit_break limits n (entered p s ∷ events) =
-    if nat_le limits.places n then Some (place_path p) else
-    if nat_lt limits.steps (length p) then Some (place_path p) else limit_break limits (suc n) events
+    if nat_le limits.places n then passing (place_path p) Places n else
+    if nat_lt limits.steps (length p) then passing (place_path p) Steps (length p) else limit_break limits (suc n) events
 limit_break limits n (counted p k l m ∷ events) =
-    if nat_lt (most limits l) m then Some (place_path p ++ (name k ∷ [])) else limit_break limits n events
+    if nat_lt (most limits l) m then passing (place_path p ++ (name k ∷ [])) l m else limit_break limits n events
 
 -- the places among the events
 abbrev pub subschemas_of : List Event → List Event
 subschemas_of [] = []
 subschemas_of (entered p s ∷ events) = entered p s ∷ subschemas_of events
 subschemas_of (counted p k l n ∷ events) = subschemas_of events
+
+-- the same with all places of the schema counted
+abbrev pub of_all : Members → Passing → Passing
+of_all ms p = record { path = p.path; limited = p.limited; found = of_all_places p.limited (length (subschemas_of (schema_events [] ms))) p.found }

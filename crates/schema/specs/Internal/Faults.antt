@@ -3,8 +3,16 @@ use Rattle.std.specs.Prelude.{◌≡◌, ℕ, List, Option, Some, string_bytes}
 use Rattle.jtree.specs.Data.{Data, Items}
 use Rattle.jtree.specs.Path.{Path}
 use Rattle.jtree.specs.Pointer.{pointer}
-use Rattle.schema.specs.Document.Crd.{AreVersions, IsNoCrd, LacksVersion}
-use Rattle.schema.specs.Document.Limits.{IsLimitFault}
+use Rattle.schema.specs.Document.Crd.{AreVersions}
+use Rattle.schema.specs.Document.Forms.{Form, object, IsFormFault}
+use Rattle.schema.specs.Document.Refusal.{IsWrongPart, AreOthers, HasBreak, IsExcess}
+use Rattle.schema.specs.Internal.Events.{Passing}
+use Rattle.schema.specs.declared.definition.Unfound.{Unfound}
+use Rattle.schema.specs.declared.definition.Unfound.TheVariants.{WrongPart, NoVersion}
+use Rattle.schema.specs.declared.definition.Unfound.TheVariants as finding
+use Rattle.schema.specs.declared.forms.Misformed.{Misformed}
+use Rattle.schema.specs.declared.forms.Misformed.TheVariants.{Broken}
+use Rattle.schema.specs.declared.forms.Misformed.TheVariants as forms
 use Rattle.schema.specs.declared.limits.Limits.{Limits}
 use Rattle.schema.specs.declared.fault.SFault.{SFault}
 use Rattle.schema.specs.declared.listing.Unlisted.{Unlisted}
@@ -18,27 +26,39 @@ IsVersionsFault versions NotACrd = AreVersions versions → ⊥
 IsVersionsFault versions NoMemory = Unit {0}
 IsVersionsFault _ _ = ⊥
 
--- the document is no definition with this version
-abbrev pub IsDefinitionFault : Data → List ℕ → SFault → Type 0
-IsDefinitionFault d version NotACrd = IsNoCrd d version
-IsDefinitionFault d version NoSuchVersion = LacksVersion d version
-IsDefinitionFault d version NoMemory = Unit {0}
-IsDefinitionFault _ _ _ = ⊥
+-- the part that is wrong, the versions of which none has the name, or that an allocation failed
+abbrev pub IsUnfound : Data → List ℕ → Unfound → Type 0
+IsUnfound d version (WrongPart part) = IsWrongPart d version part
+IsUnfound d version (NoVersion versions) = AreOthers d version versions.now
+IsUnfound d version finding.NoMemory = Unit {0}
 
--- this is the path of the first value that has not its form
-abbrev pub IsBreakFault : Option Path → SFault → Type 0
-IsBreakFault o (KeywordForm p) = (path : Path) × (string_bytes p ≡ pointer path) × (o ≡ Some path)
-IsBreakFault o NoMemory = Unit {0}
-IsBreakFault _ _ = ⊥
+abbrev pub finding_fault : Unfound → SFault
+finding_fault (WrongPart part) = NotACrd
+finding_fault (NoVersion versions) = NoSuchVersion
+finding_fault finding.NoMemory = NoMemory
 
--- this is the first path at which a limit is passed
-abbrev pub IsLimitRefusal : Option Path → Unlisted → Type 0
-IsLimitRefusal o (Passed x) = (path : Path) × (string_bytes x.pointer ≡ pointer path) × (o ≡ Some path)
+-- the first value that has not its form, of a value that has to have one
+abbrev pub IsFirstBreak : Form → Data → Option Path → Misformed → Type 0
+IsFirstBreak f d o (Broken p broken) = (path : Path) × (string_bytes p ≡ pointer path) × (o ≡ Some path) × HasBreak f d path broken
+IsFirstBreak f d o forms.NoMemory = Unit {0}
+
+-- the first value of the schema that has not its form
+abbrev pub IsMisformed : Data → Misformed → Type 0
+IsMisformed raw (Broken p broken) = (path : Path) × (string_bytes p ≡ pointer path) × IsFormFault raw path × HasBreak object raw path broken
+IsMisformed raw forms.NoMemory = Unit {0}
+
+abbrev pub form_fault : Misformed → SFault
+form_fault (Broken p broken) = KeywordForm p
+form_fault forms.NoMemory = NoMemory
+
+-- where a limit is passed first
+abbrev pub IsLimitRefusal : Option Passing → Unlisted → Type 0
+IsLimitRefusal o (Passed x) = (p : Passing) × (string_bytes x.pointer ≡ pointer p.path) × ((x.limited ≡ p.limited) × (x.found ≡ p.found)) × (o ≡ Some p)
 IsLimitRefusal o listing.NoMemory = Unit {0}
 
 -- a limit of the schema is passed
 abbrev pub IsLimitFaultOf : Limits → Data → Unlisted → Type 0
-IsLimitFaultOf limits raw (Passed x) = (path : Path) × (string_bytes x.pointer ≡ pointer path) × IsLimitFault limits raw path
+IsLimitFaultOf limits raw (Passed x) = IsExcess limits raw x
 IsLimitFaultOf limits raw listing.NoMemory = Unit {0}
 
 abbrev pub listing_fault : Unlisted → SFault

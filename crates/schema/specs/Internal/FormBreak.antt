@@ -3,23 +3,7 @@ use Rattle.std.specs.Prelude.{ℕ, suc, [], ◌∷◌, Option, Some, None, optio
 use Rattle.jtree.specs.Data.{Data, Items, no_items, item, Members, no_members, member}
 use Rattle.jtree.specs.Data as tree
 use Rattle.jtree.specs.Path.{Step, name, index, Path}
-use Rattle.schema.specs.Document.Forms.{Form, any_tree, text, truth_value, object_of_objects, truth_value_or_object, object, some_objects, texts, list, integer, count, form_below, has_form}
-use Rattle.schema.specs.declared.forms.Form.{Form as CodeForm}
-use Rattle.schema.specs.declared.forms.Form.TheVariants as code
-
--- what a form of the code stands for
-abbrev pub form_view : CodeForm → Form
-form_view code.AnyTree = any_tree
-form_view code.Text = text
-form_view code.TruthValue = truth_value
-form_view code.ObjectOfObjects = object_of_objects
-form_view code.TruthValueOrObject = truth_value_or_object
-form_view code.Object = object
-form_view code.SomeObjects = some_objects
-form_view code.Texts = texts
-form_view code.List = list
-form_view code.Integer = integer
-form_view code.Count = count
+use Rattle.schema.specs.Document.Forms.{Form, form_below, has_form}
 
 abbrev pub below : Step → Option Path → Option Path
 below s o = option_map (λ path. s ∷ path) o

@@ -1,8 +1,15 @@
 use Rattle.std.proofs.Common.{sym, subst}
 use Rattle.jtree.specs.View.{data_of}
 use Rattle.schema.specs.Document.Forms.{HasForms}
-use Rattle.schema.proofs.SchemaFaults.{read_fault}
+use Rattle.schema.specs.Document.Limits.{IsWithinLimits}
+use Rattle.schema.specs.Document.ReadFault.{IsReadFault}
+use Rattle.schema.proofs.SchemaFaults.{unfound_fault, read_fault}
 use Rattle.schema.proofs.definition.read_crd_within.Goals as goal
+
+pub returns-in-Err-clause-err : goal.returns-in-Err-clause-err
+returns-in-Err-clause-err c =
+    let d = data_of c.args.document.now in
+    subst (IsReadFault c.args.limits d c.args.version.now) (sym c.into.ensures) (unfound_fault c.args.limits d c.args.version.now c.in-Err.unfound c.in-Err.ensures.err)
 
 pub returns-in-Err-check_schema-clause-err : goal.returns-in-Err-check_schema-clause-err
 returns-in-Err-check_schema-clause-err c =
@@ -11,6 +18,12 @@ returns-in-Err-check_schema-clause-err c =
 
 pub new-requires-clause-forms : goal.new-requires-clause-forms
 new-requires-clause-forms c = subst (λ t. HasForms (data_of t)) (sym c.in_ok-copy_tree.ensures) c.in-Ok-check_schema.ensures.forms
+
+pub new-requires-clause-within : goal.new-requires-clause-within
+new-requires-clause-within c = subst (λ t. IsWithinLimits c.args.limits (data_of t)) (sym c.in_ok-copy_tree.ensures) c.in-Ok-check_schema.ensures.within
+
+pub returns-clause-within : goal.returns-clause-within
+returns-clause-within c = subst (IsWithinLimits c.args.limits) (sym c.new.ensures) (subst (λ t. IsWithinLimits c.args.limits (data_of t)) (sym c.in_ok-copy_tree.ensures) c.in-Ok-check_schema.ensures.within)
 
 pub returns-clause-forms : goal.returns-clause-forms
 returns-clause-forms c = subst HasForms (sym c.new.ensures) (subst (λ t. HasForms (data_of t)) (sym c.in_ok-copy_tree.ensures) c.in-Ok-check_schema.ensures.forms)

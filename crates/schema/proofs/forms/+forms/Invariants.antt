@@ -1,6 +1,7 @@
 use Rattle.std.proofs.Common.{◌≡◌, drop}
 use Rattle.jtree.specs.View.{items_of, members_of}
-use Rattle.schema.specs.Internal.FormBreak.{form_view, items_break, members_break}
+use Rattle.schema.specs.Document.Refusal.{form_view}
+use Rattle.schema.specs.Internal.FormBreak.{items_break, members_break}
 use Rattle.schema.proofs.forms.+forms.Given as goal
 
 -- what is left has the first break of the whole

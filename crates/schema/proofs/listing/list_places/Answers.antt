@@ -1,37 +1,22 @@
-use Rattle.std.proofs.Common.{[], length, ap, sym, ◌∙◌, subst}
-use Rattle.std.specs.Prelude.{◌++◌, map, All}
-use Rattle.std.proofs.lemmas.List.Elements.{All-nil}
-use Rattle.std.proofs.lemmas.Result.{err_from_is_err_and}
+use Rattle.std.proofs.Common.{[], subst}
 use Rattle.jtree.specs.Data.{object}
-use Rattle.schema.specs.Internal.PlaceView.{subschema_of}
-use Rattle.schema.specs.Internal.Subschemas.{IsSubschema}
-use Rattle.schema.specs.Internal.Events.{schema_events, subschemas_of, limit_break}
+use Rattle.schema.specs.Internal.Events.{schema_events, limit_break}
 use Rattle.schema.specs.Internal.Faults.{IsLimitRefusal}
+use Rattle.schema.specs.declared.listing.Unlisted.TheVariants.{Passed}
 use Rattle.schema.proofs.EventLemmas.{schema_events_are}
 use Rattle.schema.proofs.LimitLemmas.{within}
 use Rattle.schema.proofs.ListingLemmas.{refusal_names}
 use Rattle.schema.proofs.listing.list_places.Goals as goal
 
-pub returns-clause-within : goal.returns-clause-within
-returns-clause-within c =
+pub returns-in-Ok-clause-within : goal.returns-in-Ok-clause-within
+returns-in-Ok-clause-within c =
     let ms = c.args.schema.now in
-    let events = schema_events [] ms in
-    within c.args.limits (object ms) events (schema_events_are ms c.reveal_invariant.ensures) (ap (λ vs. limit_break c.args.limits (length vs) events) (sym c.new-subschemas.ensures.items) ∙ c.in_ok-list_schema.ensures.ok)
+    within c.args.limits (object ms) (schema_events [] ms) (schema_events_are ms c.reveal_invariant.ensures) c.in-Ok.ensures.ok
 
-pub returns-in_err-list_schema-clause-err : goal.returns-in_err-list_schema-clause-err
-returns-in_err-list_schema-clause-err c =
+pub returns-in-Err-Passed-clause-err : goal.returns-in-Err-Passed-clause-err
+returns-in-Err-Passed-clause-err c =
     let ms = c.args.schema.now in
-    let events = schema_events [] ms in
-    let e = c.in_err-list_schema.field-0.0 in
-    let p = err_from_is_err_and c.from_residual.result c.from_residual.ensures.1 in
-    rw (p.1, p.2) (refusal_names c.args.limits (object ms) events (schema_events_are ms c.reveal_invariant.ensures) e
-    (subst (λ vs. IsLimitRefusal (limit_break c.args.limits (length vs) events) e) c.new-subschemas.ensures.items c.in_err-list_schema.ensures.err))
-
-pub returns-clause-subschemas : goal.returns-clause-subschemas
-returns-clause-subschemas c =
-    let ms = c.args.schema.now in
-    let none = c.new-subschemas.ensures.items in
-    record {
-      each = c.in_ok-list_schema.ensures.contexts (object ms) c.root_context.ensures (subst (All (IsSubschema (object ms))) (sym none) (All-nil (IsSubschema (object ms))));
-      whole = c.in_ok-list_schema.ensures.subschemas ∙ ap (λ vs. map subschema_of vs ++ subschemas_of (schema_events [] ms)) none;
-    }
+    let o = limit_break c.args.limits 0 (schema_events [] ms) in
+    let refused = subst (IsLimitRefusal o) c.in-Err-Passed.field-0-is c.in-Err-Passed.ensures.err in
+    let p = refused.0 in
+    refusal_names c.args.limits ms (schema_events_are ms c.reveal_invariant.ensures) p c.with_all_places.result refused.3 (c.with_all_places.ensures p (subst (λ q. IsLimitRefusal q (Passed c.in-Err-Passed.excess)) refused.3 refused))
