@@ -2,10 +2,11 @@
 use Rattle.std.proofs.Common.{◌≡◌, ◌≢◌, ℕ, ◌<◌, ◌≤◌, List, [], ◌∷◌, ◌++◌, length, Bool, true, false, drop, drop_of_length-le, Option, Some, None, refl, sym, ap, ◌∙◌, subst, inl, inr, arith, append_assoc, append-nil, ne_eqb, length-append}
 use Rattle.std.specs.Prelude.{◌==◌, if◌then◌else◌, All, Result, Ok, Err, IfErr}
 use Rattle.std.specs.Io.KnownBytes.{Consumes, IsAtEnd, prepend_known}
+use Rattle.std.proofs.KnownBytes.{Consumes-trans}
 use Rattle.std.proofs.lemmas.Bool.Decides.{eqb_tells}
 use Rattle.std.proofs.lemmas.List.Elements.{All-append, All-cons, All-head, All-tail, All-nil}
 use Rattle.jtree.specs.Internal.LineParts.{left, TakesPart}
-use Rattle.jtree.specs.Lines.{newline, IsFirstLine, AreLines, TakesLine, HasLongLine}
+use Rattle.jtree.specs.Lines.{newline, IsFirstLine, AreLines, TakesLine, TakesLongLine}
 use Rattle.jtree.specs.Reads.{most_bytes}
 
 abbrev pub NoNewline : List ℕ → Type 0
@@ -98,15 +99,6 @@ same_lines bytes (line ∷ lines) (other ∷ others) a b =
     let more = same_lines a.0 lines others a.2 (subst (λ r. AreLines r others) rest b.2) in
     λ i. (sym one.0 ∙ two.0) i ∷ more i
 
--- what begins with more bytes than a document has, and no newline among them
-long_line : (front more : List ℕ) → NoNewline front → most_bytes < length front → (line : List ℕ) × (rest : List ℕ) × IsFirstLine (front ++ more) line rest × (most_bytes < length line)
-long_line [] more none long = absurd (omega arith)
-long_line (b ∷ front) [] none long =
-    (b ∷ front, [], record { some = λ e. cc; one = none; split = inr (append-nil (b ∷ front), refl) }, long)
-long_line (b ∷ front) (c ∷ more) none long =
-    let next = first_line c more in
-    ((b ∷ front) ++ next.0, next.1, onto_front (b ∷ front) (c ∷ more) next.0 next.1 none next.2, omega (arith, long, length-append (b ∷ front) next.0))
-
 -- ---- of the bytes still to come, where they are known
 
 -- bytes of the piece were taken
@@ -136,13 +128,14 @@ nothing_taken None (Some y) at piece line c gone end none = (tt, ap (λ l. l ++ 
 nothing_taken (Some x) None at piece line c gone end none = absurd c
 nothing_taken (Some x) (Some y) at piece line c gone end none = let rest = ap (λ l. l ++ y) gone ∙ end in (c ∙ (ap (λ l. l ++ (drop at piece ++ y)) none ∙ rest), rest)
 
--- too many bytes came before a newline
-pub long_taken : (a b : Option (List ℕ)) (line : List ℕ) → Consumes a b line → NoNewline line → most_bytes < length line → HasLongLine a
-long_taken None b line c none long = tt
-long_taken (Some x) None line c none long = absurd c
-long_taken (Some x) (Some y) line c none long =
-    let l = long_line line y none long in
-    (l.0, l.1, subst (λ bs. IsFirstLine bs l.0 l.1) (sym c) l.2, l.3)
+-- all bytes are taken, and no newline is among them
+end_taken : (a b : Option (List ℕ)) (at : ℕ) (piece line : List ℕ) → Consumes a (left at piece b) line → drop at piece ≡ [] → IsAtEnd b → line ≢ [] → NoNewline line → TakesLine a (left at piece b) line
+end_taken None b at piece line c gone end some none = tt
+end_taken (Some x) None at piece line c gone end some none = absurd c
+end_taken (Some x) (Some y) at piece line c gone end some none =
+    let rest = ap (λ l. l ++ y) gone ∙ end in
+    let whole : x ≡ line = c ∙ (ap (λ l. line ++ l) rest ∙ append-nil line) in
+    record { some = λ e. some (sym whole ∙ e); one = none; split = inr (whole, rest) }
 
 -- a newline is taken with the bytes before it
 pub newline_taken : (a b : Option (List ℕ)) (line part left rest : List ℕ) → left ≡ part ++ newline ∷ rest → Consumes a (prepend_known left b) line → Consumes a (prepend_known rest b) (line ++ (part ++ newline ∷ []))
@@ -178,9 +171,44 @@ module _ (a b now : Option (List ℕ)) (same : now ≡ b) where
   met_taken true ahead rest line line_now e c p = (line ++ (p.part ++ newline ∷ []), rw same (newline_taken a b line p.part ahead rest p.adds c))
   met_taken false ahead rest line line_now e c p = cc
 
-pub met_long : (a b : Option (List ℕ)) (met : Bool) (ahead rest line line_now : List ℕ) → met ≡ true → Consumes a (prepend_known ahead b) line → NoNewline line → TakesPart met ahead rest line line_now
-    → most_bytes < length line_now → HasLongLine a
-met_long a b true ahead rest line line_now e c none p long =
-    long_taken a (prepend_known (newline ∷ rest) b) (line ++ p.part) (part_taken a b line p.part (newline ∷ rest) (subst (λ l. Consumes a (prepend_known l b) line) p.adds c))
-    (All-append (λ b. b ≢ newline) line p.part none p.one) (omega (arith, long, ap length p.line_is))
-met_long a b false ahead rest line line_now e c none p long = cc
+-- ---- a line that is too long
+
+long_some : (line : List ℕ) → most_bytes < length line → line ≢ []
+long_some [] long e = omega (arith, long)
+long_some (b ∷ line) long e = cc
+
+-- up to the end
+pub long_to_end : (a b : Option (List ℕ)) (at : ℕ) (piece line : List ℕ) → Consumes a (left at piece b) line → drop at piece ≡ [] → IsAtEnd b → NoNewline line → most_bytes < length line → TakesLongLine a (left at piece b)
+long_to_end a b at piece line c gone end none long = (line, end_taken a b at piece line c gone end (long_some line long) none, long)
+
+-- up to the next newline
+pub long_to_newline : (a b now : Option (List ℕ)) → now ≡ b → (met : Bool) (ahead rest line line_now : List ℕ) → met ≡ true → Consumes a (prepend_known ahead b) line → NoNewline line → TakesPart met ahead rest line line_now
+    → most_bytes < length line_now → TakesLongLine a (prepend_known rest now)
+long_to_newline a b now same met ahead rest line line_now e c none p long = (line_now, met_line a b now same met ahead rest line line_now e c none p, long)
+
+-- so many bytes of the line are taken that no newline was among
+abbrev pub HasSkipped : Option (List ℕ) → Option (List ℕ) → Type 0
+HasSkipped a b = (skipped : List ℕ) × (NoNewline skipped × Consumes a b skipped)
+
+-- a part without a newline is one of them
+pub skipped_more : (a b now : Option (List ℕ)) → now ≡ b → (met : Bool) (ahead rest before after : List ℕ) → met ≡ false → HasSkipped a (prepend_known ahead b) → TakesPart met ahead rest before after
+    → HasSkipped a (prepend_known rest now)
+skipped_more a b now same true ahead rest before after e h p = cc
+skipped_more a b now same false ahead rest before after e h p =
+    let whole : ahead ≡ p.part ++ rest = p.adds.0 ∙ (sym (append-nil p.part) ∙ ap (λ r. p.part ++ r) (sym p.adds.1)) in (
+      h.0 ++ p.part,
+      (All-append (λ b. b ≢ newline) h.0 p.part h.1.0 p.one, rw same (part_taken a b h.0 p.part rest (subst (λ l. Consumes a (prepend_known l b) h.0) whole h.1.1))),
+    )
+
+-- what was taken of the line before is too long already
+module _ (old a b : Option (List ℕ)) (front : List ℕ) (before : Consumes old a front) (none : NoNewline front) (long : most_bytes < length front) where
+  pub skipped_to_end : (at : ℕ) (piece : List ℕ) → HasSkipped a (left at piece b) → drop at piece ≡ [] → IsAtEnd b → TakesLongLine old (left at piece b)
+  skipped_to_end at piece h gone end =
+      long_to_end old b at piece (front ++ h.0) (Consumes-trans old a (left at piece b) front h.0 before h.1.1) gone end (All-append (λ b. b ≢ newline) front h.0 none h.1.0)
+      (omega (arith, long, length-append front h.0))
+
+  pub skipped_to_newline : (now : Option (List ℕ)) → now ≡ b → (met : Bool) (ahead rest part_before part_now : List ℕ) → met ≡ true → HasSkipped a (prepend_known ahead b) → TakesPart met ahead rest part_before part_now
+      → TakesLongLine old (prepend_known rest now)
+  skipped_to_newline now same met ahead rest part_before part_now e h p =
+      long_to_newline old b now same met ahead rest (front ++ h.0) ((front ++ h.0) ++ p.part) e (Consumes-trans old a (prepend_known ahead b) front h.0 before h.1.1) (All-append (λ b. b ≢ newline) front h.0 none h.1.0)
+      (record { part = p.part; line_is = refl; one = p.one; adds = p.adds }) (omega (arith, long, length-append front h.0, length-append (front ++ h.0) p.part))

@@ -25,7 +25,6 @@ TakesLine None new line = Unit {0}
 TakesLine (Some bytes) None line = ⊥
 TakesLine (Some bytes) (Some rest) line = IsFirstLine bytes line rest
 
--- the first line is longer than a document
-abbrev pub HasLongLine : Option (List ℕ) → Type 0
-HasLongLine None = Unit {0}
-HasLongLine (Some bytes) = (line : List ℕ) × (rest : List ℕ) × IsFirstLine bytes line rest × (most_bytes < length line)
+-- and it is longer than a document
+abbrev pub TakesLongLine : Option (List ℕ) → Option (List ℕ) → Type 0
+TakesLongLine old new = (line : List ℕ) × TakesLine old new line × (most_bytes < length line)

@@ -1,9 +1,9 @@
 //! Documents one line each (JSON Lines).
 
-ghost use Rattle.std.specs.Prelude.{◌≡◌, ◌≢◌, ◌≤◌, ◌<◌, ◌⊎◌, ℕ, List, [], length, drop, true, false, Option, Err, IfOk, IfErr, OnOk};
+ghost use Rattle.std.specs.Prelude.{◌≡◌, ◌≢◌, ◌≤◌, ◌<◌, ◌⊎◌, ℕ, List, [], length, drop, true, false, Option, Err, IfOk, IfErr, OnOk, All};
 ghost use Rattle.std.specs.Io.KnownBytes.{Consumes, IsAtEnd, Keeps};
 ghost use Rattle.jtree.specs.Failures.{HasFailed};
-ghost use Rattle.jtree.specs.Lines.{AreLines, TakesLine, HasLongLine};
+ghost use Rattle.jtree.specs.Lines.{AreLines, TakesLine, TakesLongLine, newline};
 ghost use Rattle.jtree.specs.Internal.LineParts.{left, TakesPart};
 ghost use Rattle.jtree.specs.Reads.{most_bytes};
 ghost use Rattle.jtree.specs.declared.fault.JFault.TheVariants.{NoMemory, TooLong, ReadFailed};
@@ -23,13 +23,13 @@ pub trait LineSource {
 
     /// Makes `line` the next line, without the newline at its end, which the last line may lack, and answers whether there is one.
     ///
-    /// `TooLong` exactly where the next line has more than `MOST_BYTES` bytes, `ReadFailed` exactly where the source fails, and
-    /// `NoMemory` where an allocation fails. After an error a beginning of the bytes is taken, and lost.
+    /// `TooLong` exactly where the next line has more than `MOST_BYTES` bytes; that line is taken, and lost. `ReadFailed` exactly where
+    /// the source fails, and `NoMemory` where an allocation fails; a beginning of the bytes is taken then, and lost.
     fn next_line(&mut self, line: &mut Vec<u8>) -> Result<bool, JFault>
         ensures line { IfOk result (λ more. more ≡ true → TakesLine (remaining self.old) (remaining self.new) line.new.items) }
         ensures end { IfOk result (λ more. more ≡ false → IsAtEnd (remaining self.old) × IsAtEnd (remaining self.new)) }
         ensures short { OnOk result (length line.new.items ≤ most_bytes) }
-        ensures too_long { result ≡ Err TooLong → HasLongLine (remaining self.old) }
+        ensures too_long { result ≡ Err TooLong → TakesLongLine (remaining self.old) (remaining self.new) }
         ensures taken { (taken : List ℕ) × Consumes (remaining self.old) (remaining self.new) taken }
         ensures failed { result ≡ Err ReadFailed → HasFailed (failures self.old) (failures self.new) }
         ensures unfailed { result ≢ Err ReadFailed → failures self.new ≡ failures self.old }
@@ -103,6 +103,27 @@ impl<T: Source> LineFeed<T> {
             }
         }
     }
+
+    /// Takes what is left of a line that is too long, with its newline. It gives up as out of memory after 2^64 - 1 pieces.
+    fn skip_line(&mut self, line: &mut Vec<u8>) -> Result<(), JFault>
+        ensures skipped { OnOk result ((old : Option (List ℕ)) (front : List ℕ) → Consumes old (left self.old.at self.old.piece.items (T.remaining self.old.source)) front → All (λ b. b ≢ newline) front → most_bytes < length front
+            → TakesLongLine old (left self.new.at self.new.piece.items (T.remaining self.new.source))) }
+        ensures taken { (taken : List ℕ) × Consumes (left self.old.at self.old.piece.items (T.remaining self.old.source)) (left self.new.at self.new.piece.items (T.remaining self.new.source)) taken }
+        ensures failed { result ≡ Err ReadFailed → HasFailed (T.failures self.old.source) (T.failures self.new.source) }
+        ensures unfailed { result ≢ Err ReadFailed → T.failures self.new.source ≡ T.failures self.old.source }
+        ensures err { IfErr result (λ e. (e ≡ ReadFailed) ⊎ (e ≡ NoMemory)) }
+    {
+        for _piece in 0..u64::MAX {
+            line.clear();
+            if !self.read_ahead()? {
+                return Ok(());
+            }
+            if self.take_part(line)? {
+                return Ok(());
+            }
+        }
+        Err(JFault::NoMemory)
+    }
 }
 
 impl<T: Source> LineSource for LineFeed<T> {
@@ -124,6 +145,7 @@ impl<T: Source> LineSource for LineFeed<T> {
                 };
             }
         }
+        self.skip_line(line)?;
         Err(JFault::TooLong)
     }
 }

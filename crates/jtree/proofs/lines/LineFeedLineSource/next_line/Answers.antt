@@ -2,7 +2,7 @@ use Rattle.std.proofs.Common.{◌≡◌, ℕ, List, [], ◌∷◌, ◌++◌, len
 use Rattle.std.specs.Prelude.{◌==◌}
 use Rattle.std.proofs.lemmas.Bool.Decides.{nat_tests}
 use Rattle.std.proofs.KnownBytes.{Consumes-trans, Consumes-kept}
-use Rattle.jtree.proofs.LineLemmas.{nothing_taken, met_line, met_taken, met_long, long_taken}
+use Rattle.jtree.proofs.LineLemmas.{nothing_taken, met_line, met_taken, long_to_newline}
 use Rattle.jtree.proofs.lines.LineFeedLineSource.next_line.Goals as goal
 
 empty : (line : List ℕ) (n : ℕ) → n ≡ length line → not (n == 0) ≡ false → line ≡ []
@@ -24,11 +24,14 @@ pub returns-then-len-le-MOST_BYTES-clause-taken : goal.returns-then-len-le-MOST_
 returns-then-len-le-MOST_BYTES-clause-taken g c = met_taken _ (g.T.Source.remaining c.read_ahead.new.self.source) (g.T.Source.remaining c.take_part.new.self.source) (ap g.T.Source.remaining c.in_ok-take_part.ensures.same.0) c.in_ok-take_part.field-0 _ _ c.line.line.items _ c.if-branch.true (Consumes-kept _ _ _ c.line.line.items c.line.invariant.taken c.in_ok-read_ahead.ensures.same) c.in_ok-take_part.ensures.part
 
 pub returns-else-len-le-MOST_BYTES-clause-too_long : goal.returns-else-len-le-MOST_BYTES-clause-too_long
-returns-else-len-le-MOST_BYTES-clause-too_long g c = λ e. met_long _ (g.T.Source.remaining c.read_ahead.new.self.source) c.in_ok-take_part.field-0 _ _ c.line.line.items _ c.if-branch.true (Consumes-kept _ _ _ c.line.line.items c.line.invariant.taken c.in_ok-read_ahead.ensures.same) c.line.invariant.one c.in_ok-take_part.ensures.part
+returns-else-len-le-MOST_BYTES-clause-too_long g c = λ e. long_to_newline _ (g.T.Source.remaining c.read_ahead.new.self.source) (g.T.Source.remaining c.take_part.new.self.source) (ap g.T.Source.remaining c.in_ok-take_part.ensures.same.0) c.in_ok-take_part.field-0 _ _ c.line.line.items _ c.if-branch.true (Consumes-kept _ _ _ c.line.line.items c.line.invariant.taken c.in_ok-read_ahead.ensures.same) c.line.invariant.one c.in_ok-take_part.ensures.part
     (omega (arith, c.if-len-le-MOST_BYTES.false, c.len-then-branch.ensures))
 
 pub returns-else-len-le-MOST_BYTES-clause-taken : goal.returns-else-len-le-MOST_BYTES-clause-taken
 returns-else-len-le-MOST_BYTES-clause-taken g c = met_taken _ (g.T.Source.remaining c.read_ahead.new.self.source) (g.T.Source.remaining c.take_part.new.self.source) (ap g.T.Source.remaining c.in_ok-take_part.ensures.same.0) c.in_ok-take_part.field-0 _ _ c.line.line.items _ c.if-branch.true (Consumes-kept _ _ _ c.line.line.items c.line.invariant.taken c.in_ok-read_ahead.ensures.same) c.in_ok-take_part.ensures.part
 
-pub returns-clause-too_long : goal.returns-clause-too_long
-returns-clause-too_long g c = λ e. long_taken _ _ c.line.line.items c.line.invariant.taken c.line.invariant.one (omega (arith, c.line-test.false, c.len.ensures))
+pub returns-in_err-skip_line-clause-taken : goal.returns-in_err-skip_line-clause-taken
+returns-in_err-skip_line-clause-taken g c = let lost = c.in_err-skip_line.ensures.taken in (c.line.line.items ++ lost.0, Consumes-trans _ _ _ c.line.line.items lost.0 c.line.invariant.taken lost.1)
+
+pub returns-clause-taken : goal.returns-clause-taken
+returns-clause-taken g c = let lost = c.in_ok-skip_line.ensures.taken in (c.line.line.items ++ lost.0, Consumes-trans _ _ _ c.line.line.items lost.0 c.line.invariant.taken lost.1)
