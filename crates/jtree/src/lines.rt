@@ -23,7 +23,7 @@ pub trait LineSource {
 
     /// Makes `line` the next line, without the newline at its end, which the last line may lack, and answers whether there is one.
     ///
-    /// `TooLong` exactly where the next line has more than `MOST_BYTES` bytes; that line is taken, and lost. `ReadFailed` exactly where
+    /// `TooLong` exactly where the next line has more than `MOST_BYTES` bytes; that line is taken, and `line` is a beginning of it. `ReadFailed` exactly where
     /// the source fails, and `NoMemory` where an allocation fails; a beginning of the bytes is taken then, and lost.
     fn next_line(&mut self, line: &mut Vec<u8>) -> Result<bool, JFault>
         ensures line { IfOk result (λ more. more ≡ true → TakesLine (remaining self.old) (remaining self.new) line.new.items) }
@@ -105,7 +105,7 @@ impl<T: Source> LineFeed<T> {
     }
 
     /// Takes what is left of a line that is too long, with its newline. It gives up as out of memory after 2^64 - 1 pieces.
-    fn skip_line(&mut self, line: &mut Vec<u8>) -> Result<(), JFault>
+    fn skip_line(&mut self) -> Result<(), JFault>
         ensures skipped { OnOk result ((old : Option (List ℕ)) (front : List ℕ) → Consumes old (left self.old.at self.old.piece.items (T.remaining self.old.source)) front → All (λ b. b ≢ newline) front → most_bytes < length front
             → TakesLongLine old (left self.new.at self.new.piece.items (T.remaining self.new.source))) }
         ensures taken { (taken : List ℕ) × Consumes (left self.old.at self.old.piece.items (T.remaining self.old.source)) (left self.new.at self.new.piece.items (T.remaining self.new.source)) taken }
@@ -113,12 +113,13 @@ impl<T: Source> LineFeed<T> {
         ensures unfailed { result ≢ Err ReadFailed → T.failures self.new.source ≡ T.failures self.old.source }
         ensures err { IfErr result (λ e. (e ≡ ReadFailed) ⊎ (e ≡ NoMemory)) }
     {
+        let mut part = Vec::new(*self.piece.allocator());
         for _piece in 0..u64::MAX {
-            line.clear();
+            part.clear();
             if !self.read_ahead()? {
                 return Ok(());
             }
-            if self.take_part(line)? {
+            if self.take_part(&mut part)? {
                 return Ok(());
             }
         }
@@ -145,7 +146,7 @@ impl<T: Source> LineSource for LineFeed<T> {
                 };
             }
         }
-        self.skip_line(line)?;
+        self.skip_line()?;
         Err(JFault::TooLong)
     }
 }
