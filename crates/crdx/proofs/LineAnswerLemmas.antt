@@ -6,23 +6,19 @@ use Rattle.std.proofs.lemmas.List.{length-replicate}
 use Rattle.std.specs.Io.KnownBytes.{Appends, Keeps}
 use Rattle.std.proofs.KnownBytes.{Appends-nil, Appends-trans, Appends-kept, Keeps-refl}
 use Rattle.std.proofs.Math.Seq.{take-append-add}
-use Rattle.jtree.specs.declared.fault.JFault.TheVariants as f
 use Rattle.schema.specs.Nodes.Node.{Node}
 use Rattle.crdx.specs.Program.LineAnswers.{IsLineAnswer, AreLineAnswers, AreAnswered, AreOut, AreCut}
-use Rattle.crdx.specs.Internal.LineProgress.{IsAnsweredSoFar, AddsAnswer, IsLineCause, IsLinesCause, cause_of_line}
+use Rattle.crdx.specs.Internal.LineProgress.{IsAnsweredSoFar, IsNextAnswer, IsUnreadCause, IsCutCause, IsLinesCause}
 use Rattle.crdx.specs.Internal.Cause.{IsObjectsCause}
 use Rattle.crdx.specs.Internal.ExitStatus.{status}
-use Rattle.crdx.specs.Program.InputFault.{IsLineFault, failures_after_read}
 use Rattle.crdx.specs.Program.Requested.{IsRequestedRoot}
-use Rattle.crdx.specs.Program.RunResult.{Effects, IsRunResult, IsLinesResult, lines_of, read_failed, on_lines, all_answered, line_refused, line_unread, line_unwritten, lines_left}
+use Rattle.crdx.specs.Program.RunResult.{Effects, IsRunResult, IsLinesResult, lines_of, read_failed, on_lines, all_answered, line_unread, line_unwritten, lines_left}
 use Rattle.crdx.specs.declared.arguments.request.ObjectArguments.{ObjectArguments}
 use Rattle.crdx.specs.declared.arguments.request.Request.TheVariants.{ObjectLines}
-use Rattle.crdx.specs.declared.inputs.InFault.{InFault}
-use Rattle.crdx.specs.declared.inputs.InFault.TheVariants.{Failed, Document}
-use Rattle.crdx.proofs.RunLemmas.{failed_once, result_of_nothing, result_of_input}
+use Rattle.crdx.proofs.RunLemmas.{result_of_nothing, result_of_input}
 use Rattle.crdx.specs.declared.arguments.request.ObjectCommand.{ObjectCommand}
 use Rattle.crdx.specs.declared.running.causes.Cause.{Cause}
-use Rattle.crdx.specs.declared.running.causes.Cause.TheVariants.{Line, Write, NoMemory, Read}
+use Rattle.crdx.specs.declared.running.causes.Cause.TheVariants.{Write, NoMemory, Read}
 
 module _ (N : Node) (command : ObjectCommand) where
   -- one line more
@@ -66,56 +62,44 @@ module _ (N : Node) (command : ObjectCommand) where
         out = Appends-kept old new later s.text s.out keeps;
       }
 
-      -- why the line after them was not read
-      pub unread_cause : (some : (rest : List (List ℕ)) × now rest) (number unread read unfailed failed : ℕ) (fault : InFault) → failed ≡ unfailed → read ≡ failures_after_read {T = Bool} unread (Err fault)
-          → IsLineFault now fault → IsLinesCause first N command unread read old new unfailed failed (cause_of_line number fault)
-      unread_cause some number unread read unfailed failed Failed same counts why = (failed_once unread read counts, same, inr (some.0, out_so_far some.0 new some.1 (Keeps-refl new)))
-      unread_cause some number unread read unfailed failed (Document f.NoMemory) same counts why = (same, inr (some.0, out_so_far some.0 new some.1 (Keeps-refl new)))
-      unread_cause some number unread read unfailed failed (Document f.TooLong) same counts (line, rest, come, long) =
-          ((λ e. cc, λ e. cc), same, (line, rest, long, out_so_far (line ∷ rest) new come (Keeps-refl new)))
-      unread_cause some number unread read unfailed failed (Document f.NotAnInteger) same counts why = absurd why
-      unread_cause some number unread read unfailed failed (Document f.NotJson) same counts why = absurd why
-      unread_cause some number unread read unfailed failed (Document f.ReadFailed) same counts why = absurd why
+      -- why there is no answer after them
+      pub unread_cause : (some : (rest : List (List ℕ)) × now rest) (unread read unfailed failed : ℕ) (cause : Cause) → failed ≡ unfailed → IsUnreadCause unread read cause
+          → IsLinesCause first N command unread read old new unfailed failed cause
+      unread_cause some unread read unfailed failed (Read i) same why = (why, same, inr (some.0, out_so_far some.0 new some.1 (Keeps-refl new)))
+      unread_cause some unread read unfailed failed NoMemory same why = (same, inr (some.0, out_so_far some.0 new some.1 (Keeps-refl new)))
+      unread_cause some unread read unfailed failed _ same why = absurd why
 
-      module _ (line : List ℕ) (next : List (List ℕ) → Type 0) (takes : (rest : List (List ℕ)) → next rest → now (line ∷ rest)) where
-        after_line : (rest : List (List ℕ)) → next rest → first ((s.lines ++ line ∷ []) ++ rest)
-        after_line rest come = subst first (sym (append_assoc s.lines (line ∷ []) rest)) (s.after (line ∷ rest) (takes rest come))
-
-        answer_there : (here : ℕ) (t : List ℕ) → IsLineAnswer N command (count + 1) line here t → AreLineAnswers N command 1 (s.lines ++ line ∷ []) (max status here) (s.text ++ t)
-        answer_there here t is =
+      module _ (next : List (List ℕ) → Type 0) (here : ℕ) (t : List ℕ) (a : IsNextAnswer now next N command (count + 1) here t) where
+        answered_there : (rest : List (List ℕ)) → next rest → AreAnswered first N command (s.lines ++ a.line ∷ []) rest (max status here) (s.text ++ t)
+        answered_there rest come =
             let number : count + 1 ≡ 1 + length s.lines = omega (arith, s.counted) in
-            answers_more 1 s.lines status s.text line here t s.answers (subst (λ n. IsLineAnswer N command n line here t) number is)
+            record {
+              there = subst first (sym (append_assoc s.lines (a.line ∷ []) rest)) (s.after (a.line ∷ rest) (a.takes rest come));
+              answers = answers_more 1 s.lines status s.text a.line here t s.answers (subst (λ n. IsLineAnswer N command n a.line here t) number a.answer);
+            }
 
-        pub answered_more : (here : ℕ) (later : Option (List ℕ)) → AddsAnswer N command (count + 1) line here new later → IsAnsweredSoFar first next N command (count + 1) (max status here) old later
-        answered_more here later (t, is, out) = record {
-          lines = s.lines ++ line ∷ [];
+        pub answered_more : (later : Option (List ℕ)) → Appends new later t → (some : (rest : List (List ℕ)) × next rest) → IsAnsweredSoFar first next N command (count + 1) (max status here) old later
+        answered_more later out some = record {
+          lines = s.lines ++ a.line ∷ [];
           text = s.text ++ t;
-          after = after_line;
-          answers = answer_there here t is;
-          counted = omega (arith, s.counted, length-append s.lines (line ∷ []));
+          after = λ rest come. (answered_there rest come).there;
+          answers = (answered_there some.0 some.1).answers;
+          counted = omega (arith, s.counted, length-append s.lines (a.line ∷ []));
           out = Appends-trans old new later s.text t s.out out;
         }
 
-        -- a beginning of the answer to the line is out
-        pub cut_in_answer : (rest : List (List ℕ)) (here bytes : ℕ) (t : List ℕ) (later : Option (List ℕ)) → next rest → IsLineAnswer N command (count + 1) line here t → Appends new later (take bytes t)
-            → AreCut first N command rest old later
-        cut_in_answer rest here bytes t later come is out = record {
-          lines = s.lines ++ line ∷ [];
+        -- a beginning of the answer is out
+        pub cut_cause : (some : (rest : List (List ℕ)) × next rest) (unread read unfailed failed : ℕ) (later : Option (List ℕ)) (cause : Cause) → IsCutCause t new later unfailed failed cause
+            → IsLinesCause first N command unread read old later unfailed failed cause
+        cut_cause some unread read unfailed failed later (Write n) (has, (bytes, out)) = (has, (some.0, record {
+          lines = s.lines ++ a.line ∷ [];
           status = max status here;
           text = s.text ++ t;
-          answered = record { there = after_line rest come; answers = answer_there here t is };
+          answered = answered_there some.0 some.1;
           bytes = length s.text + bytes;
           out = subst (Appends old later) (sym (take-append-add s.text t bytes)) (Appends-trans old new later s.text (take bytes t) s.out out);
-        }
-
-        -- why the line was not answered, or not all of its answer is out
-        pub lines_cause : (some : (rest : List (List ℕ)) × next rest) (unread read unfailed failed : ℕ) (later : Option (List ℕ)) (cause : Cause) → IsLineCause N command (count + 1) line new later unfailed failed cause
-            → IsLinesCause first N command unread read old later unfailed failed cause
-        lines_cause some unread read unfailed failed later (Write n) (has, (here, t, bytes, is, out)) = (has, (some.0, cut_in_answer some.0 here bytes t later some.1 is out))
-        lines_cause some unread read unfailed failed later (Line n fault) (why, keeps, same) =
-            (why.0, same, (line, some.0, why.1, out_so_far (line ∷ some.0) later (takes some.0 some.1) keeps))
-        lines_cause some unread read unfailed failed later NoMemory (why, keeps, same) = (same, inr (line ∷ some.0, out_so_far (line ∷ some.0) later (takes some.0 some.1) keeps))
-        lines_cause some unread read unfailed failed later _ why = absurd why.0
+        }))
+        cut_cause some unread read unfailed failed later _ why = absurd why
 
 -- the lines at hand later were at hand before
 module _ (N : Node) (command : ObjectCommand) (later before : List (List ℕ) → Type 0) (among : (lines : List (List ℕ)) → later lines → before lines) where
@@ -145,7 +129,6 @@ module _ (N : Node) (command : ObjectCommand) (later before : List (List ℕ) �
       → IsLinesCause before N command unread read old new unfailed failed cause
   cause_before unread read old new unfailed failed (Read i) (has, same, inl keeps) = (has, same, inl keeps)
   cause_before unread read old new unfailed failed (Read i) (has, same, inr (rest, out)) = (has, same, inr (rest, out_before rest old new out))
-  cause_before unread read old new unfailed failed (Line n fault) (why, same, (line, rest, bad, out)) = (why, same, (line, rest, bad, out_before (line ∷ rest) old new out))
   cause_before unread read old new unfailed failed (Write n) (has, (rest, cut)) = (has, (rest, cut_before rest old new cut))
   cause_before unread read old new unfailed failed NoMemory (same, inl keeps) = (same, inl keeps)
   cause_before unread read old new unfailed failed NoMemory (same, inr (rest, out)) = (same, inr (rest, out_before rest old new out))
@@ -168,8 +151,6 @@ module _ (run : Effects) (arguments : ObjectArguments) where
     result_of_lines_cause (Read i) code (has, same, inl keeps) (inl four) = rw four (read_failed has (record { kept = keeps; unfailed = same }))
     result_of_lines_cause (Read i) code (has, same, inr (rest, out)) (inl four) = rw four (on_these 4 (line_unread rest has out same))
     result_of_lines_cause (Read i) code (has, same, out) (inr five) = no_more code same out five
-    result_of_lines_cause (Line n fault) code (why, same, (line, rest, bad, out)) (inl three) = rw three (on_these 3 (line_refused line rest fault why bad out same))
-    result_of_lines_cause (Line n fault) code (why, same, (line, rest, bad, out)) (inr five) = no_more code same (inr (line ∷ rest, out)) five
     result_of_lines_cause (Write n) code (has, (rest, cut)) is = on_these code (line_unwritten rest code is has cut)
     result_of_lines_cause NoMemory code (same, out) (inl five) = no_more code same out five
     result_of_lines_cause NoMemory code (same, out) (inr five) = no_more code same out five

@@ -64,14 +64,6 @@ read_more [] (e ∷ ds) line d are is = absurd are
 read_more (l ∷ lines) [] line d are is = absurd are
 read_more (l ∷ lines) (e ∷ ds) line d are is = (are.0, read_more lines ds line d are.1 is)
 
--- why bytes are no document, where memory did not run out
-pub of_bytes : (bytes : List ℕ) (fault : JFault) → fault ≢ f.NoMemory → IsNoDocument bytes fault → IsOfBytes fault
-of_bytes bytes f.NotAnInteger some is = (some, λ e. cc)
-of_bytes bytes f.NoMemory some is = absurd (some refl)
-of_bytes bytes f.NotJson some is = (some, λ e. cc)
-of_bytes bytes f.TooLong some is = (some, λ e. cc)
-of_bytes bytes f.ReadFailed some is = absurd is
-
 -- ---- a document on each line
 
 module _ (first now : List (List ℕ) → Type 0) (count : ℕ) (old new : List Tree) (s : AddsSoFar first now count old new) where
@@ -79,26 +71,26 @@ module _ (first now : List (List ℕ) → Type 0) (count : ℕ) (old new : List 
   all_added end = record { lines = s.lines; are = subst first (append-nil s.lines) (s.after [] end); documents = s.documents; read = s.read; added = s.added }
 
   -- why the line after them was not read
-  pub later_unread : (unread read : ℕ) (fault : InFault) → read ≡ failures_after_read {T = Bool} unread (Err fault) → IsLineFault now fault
+  pub later_unread : (later : List (List ℕ) → Type 0) (some : (lines : List (List ℕ)) × later lines) (unread read : ℕ) (fault : InFault) → read ≡ failures_after_read {T = Bool} unread (Err fault) → IsLineFault now later fault
       → IsLaterCause first unread read (cause_of_line (count + 1) fault)
-  later_unread unread read Failed counts why = failed_once unread read counts
-  later_unread unread read (Document f.NoMemory) counts why = tt
-  later_unread unread read (Document f.TooLong) counts (line, rest, come, long) = (
+  later_unread later some unread read Failed counts why = failed_once unread read counts
+  later_unread later some unread read (Document f.NoMemory) counts why = tt
+  later_unread later some unread read (Document f.TooLong) counts h = (
     (λ e. cc, λ e. cc),
     record {
       before = s.lines;
       documents = s.documents;
-      line = line;
-      after = rest;
-      are = s.after (line ∷ rest) come;
+      line = h.line;
+      after = some.0;
+      are = s.after (h.line ∷ some.0) (h.takes some.0 some.1);
       read = s.read;
       number_is = omega (arith, s.counted);
-      no_document = long;
+      no_document = h.long;
     },
   )
-  later_unread unread read (Document f.NotAnInteger) counts why = absurd why
-  later_unread unread read (Document f.NotJson) counts why = absurd why
-  later_unread unread read (Document f.ReadFailed) counts why = absurd why
+  later_unread later some unread read (Document f.NotAnInteger) counts why = absurd why
+  later_unread later some unread read (Document f.NotJson) counts why = absurd why
+  later_unread later some unread read (Document f.ReadFailed) counts why = absurd why
 
   module _ (line : List ℕ) (next : List (List ℕ) → Type 0) (takes : (rest : List (List ℕ)) → next rest → now (line ∷ rest)) where
     pub added_line : (d : Data) (later : List Tree) → Reads line d → AreAdded (d ∷ []) new later → AddsSoFar first next (count + 1) old later
@@ -149,15 +141,15 @@ module _ (before now : List (List ℕ) → Type 0) (first text : List ℕ) (s : 
   text_refused unread read cause.NoMemory end is = tt
   text_refused unread read _ end is = absurd is
 
-  pub text_unread : (unread read : ℕ) (fault : InFault) → read ≡ failures_after_read {T = Bool} unread (Err fault) → IsLineFault now fault → IsTextCause before first unread read (cause_of_text fault)
-  text_unread unread read Failed counts why = failed_once unread read counts
-  text_unread unread read (Document f.NoMemory) counts why = tt
-  text_unread unread read (Document f.TooLong) counts (line, rest, come, long) =
-      let longer = text_has first s.lines line rest in
-      ((λ e. cc, λ e. cc), s.lines ++ line ∷ rest, s.after (line ∷ rest) come, omega (arith, long, longer))
-  text_unread unread read (Document f.NotAnInteger) counts why = absurd why
-  text_unread unread read (Document f.NotJson) counts why = absurd why
-  text_unread unread read (Document f.ReadFailed) counts why = absurd why
+  pub text_unread : (later : List (List ℕ) → Type 0) (some : (lines : List (List ℕ)) × later lines) (unread read : ℕ) (fault : InFault) → read ≡ failures_after_read {T = Bool} unread (Err fault) → IsLineFault now later fault → IsTextCause before first unread read (cause_of_text fault)
+  text_unread later some unread read Failed counts why = failed_once unread read counts
+  text_unread later some unread read (Document f.NoMemory) counts why = tt
+  text_unread later some unread read (Document f.TooLong) counts h =
+      let longer = text_has first s.lines h.line some.0 in
+      ((λ e. cc, λ e. cc), s.lines ++ h.line ∷ some.0, s.after (h.line ∷ some.0) (h.takes some.0 some.1), omega (arith, h.long, longer))
+  text_unread later some unread read (Document f.NotAnInteger) counts why = absurd why
+  text_unread later some unread read (Document f.NotJson) counts why = absurd why
+  text_unread later some unread read (Document f.ReadFailed) counts why = absurd why
 
   -- what was read is too long already
   pub text_too_long : (unread read : ℕ) (some : (rest : List (List ℕ)) × now rest) → most_bytes < length text → IsTextCause before first unread read (cause.Document input.Object f.TooLong)
@@ -231,16 +223,16 @@ module _ (coming : List (List ℕ) → Type 0) where
   nothing_refused unread read _ end is = absurd is
 
   -- why the first line was not read
-  pub first_unread : (unread read : ℕ) (fault : InFault) → read ≡ failures_after_read {T = Bool} unread (Err fault) → IsLineFault coming fault
+  pub first_unread : (later : List (List ℕ) → Type 0) (some : (lines : List (List ℕ)) × later lines) (unread read : ℕ) (fault : InFault) → read ≡ failures_after_read {T = Bool} unread (Err fault) → IsLineFault coming later fault
       → IsObjectInputCause (HasComing coming) unread read (cause_of_text fault)
-  first_unread unread read Failed counts why = failed_once unread read counts
-  first_unread unread read (Document f.NoMemory) counts why = tt
-  first_unread unread read (Document f.TooLong) counts (line, rest, come, long) =
-      let within = first_within line rest in
-      ((λ e. cc, λ e. cc), (line ∷ rest, come, ((f.TooLong, (λ e. cc, λ e. cc), long), omega (arith, long, within))))
-  first_unread unread read (Document f.NotAnInteger) counts why = absurd why
-  first_unread unread read (Document f.NotJson) counts why = absurd why
-  first_unread unread read (Document f.ReadFailed) counts why = absurd why
+  first_unread later some unread read Failed counts why = failed_once unread read counts
+  first_unread later some unread read (Document f.NoMemory) counts why = tt
+  first_unread later some unread read (Document f.TooLong) counts h =
+      let within = first_within h.line some.0 in
+      ((λ e. cc, λ e. cc), (h.line ∷ some.0, h.takes some.0 some.1, ((f.TooLong, (λ e. cc, λ e. cc), h.long), omega (arith, h.long, within))))
+  first_unread later some unread read (Document f.NotAnInteger) counts why = absurd why
+  first_unread later some unread read (Document f.NotJson) counts why = absurd why
+  first_unread later some unread read (Document f.ReadFailed) counts why = absurd why
 
 -- why an input has no documents, of lines that were at hand before
 pub input_cause_as : (Has Also : (List (List ℕ) → Type 0) → Type 0) → ((Is : List (List ℕ) → Type 0) → Has Is → Also Is) → (unread read : ℕ) (why : Cause) → IsObjectInputCause Has unread read why

@@ -81,12 +81,12 @@ pub trait Inputs {
     /// Makes `line` the next line of the input that was opened last, without the newline at its end, which the last line may lack,
     /// and answers whether there is one.
     ///
-    /// `Failed` where the read fails, `Document(TooLong)` where the line has more than `MOST_BYTES` bytes, and `Document(NoMemory)`
-    /// where an allocation fails.
+    /// `Failed` where the read fails, `Document(TooLong)` where the line has more than `MOST_BYTES` bytes, which is taken then, and of
+    /// which `line` is a beginning, and `Document(NoMemory)` where an allocation fails.
     fn next_line(&mut self, line: &mut Vec<u8>) -> Result<bool, InFault>
         ensures line { IfOk result (λ more. more ≡ true → (ls : List (List ℕ)) → coming self.new ls → coming self.old (line.new.items ∷ ls)) }
         ensures end { IfOk result (λ more. more ≡ false → coming self.old []) }
-        ensures refused { IfErr result (IsLineFault (coming self.old)) }
+        ensures refused { IfErr result (IsLineFault (coming self.old) (coming self.new)) }
         ensures lines { AreLinesAmong (lines self.new) (lines self.old) }
         ensures counts { failures self.new ≡ failures_after_read (failures self.old) result };
 

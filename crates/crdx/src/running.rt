@@ -77,7 +77,7 @@ pub fn run<I: Inputs, W: Sink, E: Sink>(
         }
         Request::ObjectLines(arguments) => {
             let mut explanation = Explanation::new(arguments.common.why);
-            let answered = judge_lines(alloc, &arguments, inputs, &mut explanation, out);
+            let answered = judge_lines(alloc, &arguments, inputs, &mut explanation, out, err);
             finish_lines(alloc, &answered, &explanation, err)
         }
         Request::SuggestPools(arguments) => {

@@ -23,35 +23,34 @@ pub record IsAnsweredSoFar (first now : List (List ℕ) → Type 0) (N : Node) (
   pub counted : count ≡ length lines
   pub out : Appends old new text
 
--- the line of this number is answered with this status, and the text of its answer is out
-abbrev pub AddsAnswer : Node → ObjectCommand → ℕ → List ℕ → ℕ → Option (List ℕ) → Option (List ℕ) → Type 0
-AddsAnswer N command number line status old new = (text : List ℕ) × IsLineAnswer N command number line status text × Appends old new text
+-- the line that comes next is answered with this status and this text
+pub record IsNextAnswer (now later : List (List ℕ) → Type 0) (N : Node) (command : ObjectCommand) (number status : ℕ) (text : List ℕ) : Type 0 where
+  pub line : List ℕ
+  pub takes : (rest : List (List ℕ)) → later rest → now (line ∷ rest)
+  pub answer : IsLineAnswer N command number line status text
 
--- a line is no document, or memory ran out
-abbrev pub IsReadingCause : List ℕ → Cause → Type 0
-IsReadingCause line (Line number fault) = IsOfBytes fault × IsNoDocument line fault
-IsReadingCause line NoMemory = Unit {0}
-IsReadingCause line _ = ⊥
+-- why there is no next answer: a read failed, or memory ran out
+abbrev pub IsUnreadCause : ℕ → ℕ → Cause → Type 0
+IsUnreadCause unread read (Read i) = HasFailed unread read
+IsUnreadCause unread read NoMemory = Unit {0}
+IsUnreadCause unread read _ = ⊥
+
+-- why a text is not all out: a beginning of it is, since the write failed
+abbrev pub IsCutCause : List ℕ → Option (List ℕ) → Option (List ℕ) → ℕ → ℕ → Cause → Type 0
+IsCutCause text old new unfailed failed (Write n) = HasFailed unfailed failed × ((bytes : ℕ) × Appends old new (take bytes text))
+IsCutCause text old new unfailed failed _ = ⊥
+
+-- why not all lines are answered: nothing is out where none was read, else the answers to the lines before, or a beginning of them
+abbrev pub IsLinesCause : (List (List ℕ) → Type 0) → Node → ObjectCommand → ℕ → ℕ → Option (List ℕ) → Option (List ℕ) → ℕ → ℕ → Cause → Type 0
+IsLinesCause at_hand N command unread read old new unfailed failed (Read i) = HasFailed unread read × (failed ≡ unfailed)
+    × (Keeps old new ⊎ ((rest : List (List ℕ)) × AreOut at_hand N command rest old new))
+IsLinesCause at_hand N command unread read old new unfailed failed (Write n) = HasFailed unfailed failed × ((rest : List (List ℕ)) × AreCut at_hand N command rest old new)
+IsLinesCause at_hand N command unread read old new unfailed failed NoMemory = (failed ≡ unfailed)
+    × (Keeps old new ⊎ ((rest : List (List ℕ)) × AreOut at_hand N command rest old new))
+IsLinesCause at_hand N command unread read old new unfailed failed _ = ⊥
 
 -- what becomes of a fault of the input at the line of this number
 abbrev pub cause_of_line : ℕ → InFault → Cause
 cause_of_line number Failed = Read input.Object
 cause_of_line number (Document f.NoMemory) = NoMemory
 cause_of_line number (Document fault) = Line number fault
-
--- why the answer to a line of this number is not all out: a beginning of it is, where the write failed, or nothing
-abbrev pub IsLineCause : Node → ObjectCommand → ℕ → List ℕ → Option (List ℕ) → Option (List ℕ) → ℕ → ℕ → Cause → Type 0
-IsLineCause N command number line old new unfailed failed (Write n) = HasFailed unfailed failed
-    × ((status : ℕ) × (text : List ℕ) × (bytes : ℕ) × IsLineAnswer N command number line status text × Appends old new (take bytes text))
-IsLineCause N command number line old new unfailed failed cause = IsReadingCause line cause × Keeps old new × (failed ≡ unfailed)
-
--- why not all lines are answered: nothing is out where none was read, else the answers to the lines before, or a beginning of them
-abbrev pub IsLinesCause : (List (List ℕ) → Type 0) → Node → ObjectCommand → ℕ → ℕ → Option (List ℕ) → Option (List ℕ) → ℕ → ℕ → Cause → Type 0
-IsLinesCause at_hand N command unread read old new unfailed failed (Read i) = HasFailed unread read × (failed ≡ unfailed)
-    × (Keeps old new ⊎ ((rest : List (List ℕ)) × AreOut at_hand N command rest old new))
-IsLinesCause at_hand N command unread read old new unfailed failed (Line n fault) = IsOfBytes fault × (failed ≡ unfailed)
-    × ((line : List ℕ) × (rest : List (List ℕ)) × IsNoDocument line fault × AreOut at_hand N command (line ∷ rest) old new)
-IsLinesCause at_hand N command unread read old new unfailed failed (Write n) = HasFailed unfailed failed × ((rest : List (List ℕ)) × AreCut at_hand N command rest old new)
-IsLinesCause at_hand N command unread read old new unfailed failed NoMemory = (failed ≡ unfailed)
-    × (Keeps old new ⊎ ((rest : List (List ℕ)) × AreOut at_hand N command rest old new))
-IsLinesCause at_hand N command unread read old new unfailed failed _ = ⊥

@@ -43,12 +43,18 @@ IsOpenFault Failed = Unit {0}
 IsOpenFault (Document NoMemory) = Unit {0}
 IsOpenFault (Document _) = ⊥
 
+-- the line that comes first is longer than a document, and it is taken
+pub record TakesLongLine (coming later : List (List ℕ) → Type 0) : Type 0 where
+  pub line : List ℕ
+  pub long : most_bytes < length line
+  pub takes : (lines : List (List ℕ)) → later lines → coming (line ∷ lines)
+
 -- why no line was read of those that are coming: the read failed, memory ran out, or the line is longer than a document
-abbrev pub IsLineFault : (List (List ℕ) → Type 0) → InFault → Type 0
-IsLineFault coming Failed = Unit {0}
-IsLineFault coming (Document NoMemory) = Unit {0}
-IsLineFault coming (Document TooLong) = (line : List ℕ) × (lines : List (List ℕ)) × coming (line ∷ lines) × (most_bytes < length line)
-IsLineFault coming (Document _) = ⊥
+abbrev pub IsLineFault : (List (List ℕ) → Type 0) → (List (List ℕ) → Type 0) → InFault → Type 0
+IsLineFault coming later Failed = Unit {0}
+IsLineFault coming later (Document NoMemory) = Unit {0}
+IsLineFault coming later (Document TooLong) = TakesLongLine coming later
+IsLineFault coming later (Document _) = ⊥
 
 -- a document that could not be opened or read is one failure
 abbrev pub failures_after_read : {T : Type 0} → ℕ → Result T InFault → ℕ

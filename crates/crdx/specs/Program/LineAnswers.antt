@@ -4,8 +4,11 @@ use Rattle.std.specs.Prelude.{◌≡◌, ◌==◌, ◌+◌, ℕ, List, [], ◌�
 use Rattle.std.specs.Io.KnownBytes.{Appends}
 use Rattle.jtree.specs.Data.{Data}
 use Rattle.jtree.specs.Lines.{newline}
-use Rattle.jtree.specs.Reads.{Reads}
+use Rattle.jtree.specs.Reads.{Reads, IsNoDocument}
+use Rattle.jtree.specs.declared.fault.JFault.{JFault}
+use Rattle.jtree.specs.declared.fault.JFault.TheVariants.{NotAnInteger, NoMemory, NotJson, TooLong, ReadFailed}
 use Rattle.schema.specs.Nodes.Node.{Node}
+use Rattle.crdx.specs.Program.InputFault.{IsOfBytes}
 use Rattle.crdx.specs.Program.ObjectAnswer.{IsObjectAnswer}
 use Rattle.crdx.specs.declared.arguments.request.ObjectCommand.{ObjectCommand}
 use Rattle.crdx.specs.declared.arguments.request.ObjectCommand.TheVariants.{Validate, Prune, Default, Leaves}
@@ -29,13 +32,24 @@ printed_at number Prune status text = text
 printed_at number Default status text = text
 printed_at number Leaves status text = numbered number (if status == 0 then text else codes "L1\n")
 
--- the status and the text that come of a line of this number
-pub record IsLineAnswer (N : Node) (command : ObjectCommand) (number : ℕ) (bytes : List ℕ) (status : ℕ) (text : List ℕ) : Type 0 where
-  pub document : Data
-  pub reads : Reads bytes document
-  pub alone : List ℕ
-  pub is : IsObjectAnswer N document command status alone
-  pub printed : text ≡ printed_at number command status alone
+abbrev pub document_code : JFault → List ℕ
+document_code NotAnInteger = codes "J1"
+document_code NoMemory = codes "J2"
+document_code NotJson = codes "J3"
+document_code TooLong = codes "J4"
+document_code ReadFailed = codes "J5"
+
+-- what is printed of a line of this number that is no document: of `validate` and `leaves` the code behind the number; among the documents
+-- that `prune` and `default` print there is nothing
+abbrev pub code_at : ℕ → ObjectCommand → JFault → List ℕ
+code_at number (Validate strict) fault = numbered number (document_code fault ++ codes "\n")
+code_at number Leaves fault = numbered number (document_code fault ++ codes "\n")
+code_at number _ fault = []
+
+-- the status and the text that come of a line of this number: those of the document on it, or 3, where it is none
+pub data IsLineAnswer (N : Node) (command : ObjectCommand) (number : ℕ) (bytes : List ℕ) : ℕ → List ℕ → Type 0 where
+  document : (d : Data) (status : ℕ) (alone text : List ℕ) → Reads bytes d → IsObjectAnswer N d command status alone → text ≡ printed_at number command status alone → IsLineAnswer N command number bytes status text
+  no_document : (fault : JFault) (text : List ℕ) → IsOfBytes fault → IsNoDocument bytes fault → text ≡ code_at number command fault → IsLineAnswer N command number bytes 3 text
 
 -- those of lines from this number on: the greatest status, 0 where there is no line, and the texts one after the other
 abbrev pub AreLineAnswers : Node → ObjectCommand → ℕ → List (List ℕ) → ℕ → List ℕ → Type 0

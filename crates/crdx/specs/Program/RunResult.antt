@@ -12,11 +12,8 @@ use Rattle.stored.specs.Schemas.Accepted.{IsBroken}
 use Rattle.crdx.specs.Output.Line.{line, lines}
 use Rattle.crdx.specs.Output.PartialOutput.{IsCutBetweenLines, IsCutByFailure}
 use Rattle.jtree.specs.Failures.{HasFailed}
-use Rattle.jtree.specs.Reads.{IsNoDocument}
-use Rattle.jtree.specs.declared.fault.JFault.{JFault}
 use Rattle.crdx.specs.Program.Documents.{Documents, Lines, file_name}
 use Rattle.crdx.specs.Program.FieldAnswer.{IsFieldAnswer}
-use Rattle.crdx.specs.Program.InputFault.{IsOfBytes}
 use Rattle.crdx.specs.Program.LineAnswers.{AreAnswered, AreOut, AreCut}
 use Rattle.crdx.specs.Program.ObjectAnswer.{IsObjectAnswer}
 use Rattle.crdx.specs.Program.Objects.{AreObjects, AreRefused}
@@ -137,13 +134,11 @@ abbrev pub lines_of : Effects → ObjectArguments → List (List ℕ) → Type 0
 lines_of run arguments = run.lines (file_name arguments.object)
 
 -- The exit status of a run on lines, at the node of their bodies: that of the answers to all lines; or the answers to the first ones
--- are out, and 3 the next line is no document, 4 a read failed, 5 out of memory, or 2^64 - 1 lines, as far as they are counted; or a
--- beginning of them is, since a write failed.
+-- are out, and 4 a read failed, 5 out of memory, or 2^64 - 1 lines, as far as they are counted; or a beginning of them is, since a write
+-- failed.
 pub data IsLinesResult (run : Effects) (N : Node) (arguments : ObjectArguments) : ℕ → Type 0 where
   all_answered : (lines : List (List ℕ)) (status : ℕ) (text : List ℕ) → AreAnswered (lines_of run arguments) N arguments.command lines [] status text
       → Appends run.output_before run.output text → run.failed_writes ≡ run.failed_writes_before → IsLinesResult run N arguments status
-  line_refused : (line : List ℕ) (rest : List (List ℕ)) (fault : JFault) → IsOfBytes fault → IsNoDocument line fault
-      → AreOut (lines_of run arguments) N arguments.command (line ∷ rest) run.output_before run.output → run.failed_writes ≡ run.failed_writes_before → IsLinesResult run N arguments 3
   line_unread : (rest : List (List ℕ)) → HasFailed run.failed_reads_before run.failed_reads
       → AreOut (lines_of run arguments) N arguments.command rest run.output_before run.output → run.failed_writes ≡ run.failed_writes_before → IsLinesResult run N arguments 4
   line_unwritten : (rest : List (List ℕ)) (status : ℕ) → (status ≡ 4) ⊎ (status ≡ 5) → HasFailed run.failed_writes_before run.failed_writes

@@ -1,16 +1,18 @@
 //! What `validate`, `prune`, `default` and `leaves` answer of the objects on the lines of an input.
-ghost use Rattle.std.specs.Prelude.{◌≡◌, ◌==◌, ◌+◌, ◌<◌, ◌-◌, ◌^◌, ℕ, List, [], ◌∷◌, ◌++◌, take, max, true, IfOk, IfErr, OnOk, OnErr, string_bytes};
+ghost use Rattle.std.specs.Prelude.{◌≡◌, ◌==◌, ◌+◌, ◌<◌, ◌-◌, ◌^◌, ℕ, List, [], ◌∷◌, ◌++◌, take, max, true, None, IfOk, IfErr, OnOk, OnErr, IfSome, string_bytes, codes};
 ghost use Rattle.std.specs.Io.KnownBytes.{Appends};
 ghost use Rattle.jtree.specs.Failures.{HasFailed};
 ghost use Rattle.schema.specs.Nodes.Node.{Node as NodeData};
 ghost use Rattle.schema.specs.Nodes.View.{node_of};
 ghost use Rattle.crdx.specs.Internal.Cause.{IsObjectsCause};
-ghost use Rattle.crdx.specs.Internal.LineProgress.{AddsAnswer, IsReadingCause, IsLineCause, IsLinesCause, cause_of_line};
+ghost use Rattle.crdx.specs.Internal.LineProgress.{IsNextAnswer, IsUnreadCause, IsCutCause, IsLinesCause, cause_of_line};
 ghost use Rattle.crdx.specs.Program.Documents.{file_name};
-ghost use Rattle.crdx.specs.Program.LineAnswers.{with_front, numbered, printed_at, IsLineAnswer, AreAnswered};
+ghost use Rattle.crdx.specs.Program.InputFault.{IsOfBytes};
+ghost use Rattle.crdx.specs.Program.LineAnswers.{with_front, numbered, printed_at, document_code, code_at, IsLineAnswer, AreAnswered};
 ghost use Rattle.crdx.specs.Program.Requested.{IsRequestedRoot};
 ghost use Rattle.jtree.specs.Lines.{newline};
-ghost use Rattle.crdx.specs.declared.running.causes.Cause.TheVariants.{NoMemory};
+ghost use Rattle.jtree.specs.Reads.{Reads, IsNoDocument};
+ghost use Rattle.jtree.specs.View.{data_of};
 
 use crate::arguments::{ObjectArguments, ObjectCommand};
 use crate::inputs::{InFault, Inputs};
@@ -19,11 +21,22 @@ use crate::running::causes::{Cause, Input};
 use crate::running::documents::accepted_schema;
 use crate::running::explanation::Explanation;
 use crate::running::objects::answer_of;
-use crate::running::reporting::newlines;
+use crate::running::reporting::{newlines, say};
 use crate::sink::{Sink, put_all};
 use jtree::{JFault, Tree};
 use schema::Node;
 use std::alloc::{AllocError, Global};
+
+/// What is asked about each line.
+#[derive(Clone, Copy, Drop)]
+struct Asked<'a> {
+    alloc: Global,
+    command: ObjectCommand,
+    /// The node of the bodies of the objects.
+    node: &'a Node,
+    /// Whether the reason is said where a line is no document.
+    why: bool,
+}
 
 /// What comes of a line: the exit status, and the text for standard output.
 #[derive(Drop)]
@@ -44,14 +57,16 @@ struct SoFar {
 }
 
 /// What is asked about the object on each line of an input, one after the other. Each answer is written, and flushed, before the next
-/// line is read. It answers the exit status. Inputs are judged in the order CustomResourceDefinition, its schema, lines, and the first
-/// refusal ends the run. Where there are 2^64 - 1 lines, it gives up after them as where memory runs out.
-pub(crate) fn judge_lines<I: Inputs, W: Sink>(
+/// line is read. It answers the exit status, the greatest of the lines. Inputs are judged in the order CustomResourceDefinition, its
+/// schema, lines. A line that is no document is answered with its code; what is said of it besides goes to `err`. Where there are
+/// 2^64 - 1 lines, it gives up after them as where memory runs out.
+pub(crate) fn judge_lines<I: Inputs, W: Sink, E: Sink>(
     alloc: Global,
     arguments: &ObjectArguments<'_>,
     inputs: &mut I,
     explanation: &mut Explanation,
     out: &mut W,
+    err: &mut E,
 ) -> Result<u8, Cause>
     ensures answered { IfOk result (λ status. (N : NodeData) × IsRequestedRoot (I.has inputs.old) arguments.now.common N × (lines : List (List ℕ)) × (text : List ℕ)
         × AreAnswered (I.lines inputs.old (file_name arguments.now.object)) N arguments.now.command lines [] status text × Appends (W.taken out.old) (W.taken out.new) text) }
@@ -68,75 +83,204 @@ pub(crate) fn judge_lines<I: Inputs, W: Sink>(
     }) arguments.now) }
 {
     let accepted = accepted_schema(alloc, &arguments.common, inputs, explanation)?;
-    let root = accepted.schema.root();
-    let answered = judge_lines_at(alloc, arguments, root, inputs, explanation, out);
+    let asked = Asked {
+        alloc,
+        command: arguments.command,
+        node: accepted.schema.root(),
+        why: arguments.common.why,
+    };
+    let answered = judge_lines_of(&asked, arguments.object, inputs, out, err);
     drop(accepted);
     answered
 }
 
-/// The same, at the node of the bodies of the objects.
-fn judge_lines_at<I: Inputs, W: Sink>(
-    alloc: Global,
-    arguments: &ObjectArguments<'_>,
-    node: &Node,
+/// The same of the lines of the input of this name.
+fn judge_lines_of<I: Inputs, W: Sink, E: Sink>(
+    asked: &Asked<'_>,
+    name: Option<&str>,
     inputs: &mut I,
-    explanation: &mut Explanation,
     out: &mut W,
+    err: &mut E,
 ) -> Result<u8, Cause>
     ensures answered { IfOk result (λ status. (lines : List (List ℕ)) × (text : List ℕ)
-        × AreAnswered (I.lines inputs.old (file_name arguments.now.object)) (node_of node.now) arguments.now.command lines [] status text × Appends (W.taken out.old) (W.taken out.new) text) }
+        × AreAnswered (I.lines inputs.old (file_name name.entry)) (node_of asked.now.node.now) asked.now.command lines [] status text × Appends (W.taken out.old) (W.taken out.new) text) }
     ensures unfailed { OnOk result (W.failures out.new ≡ W.failures out.old) }
-    ensures cause { IfErr result (IsLinesCause (I.lines inputs.old (file_name arguments.now.object)) (node_of node.now) arguments.now.command
+    ensures cause { IfErr result (IsLinesCause (I.lines inputs.old (file_name name.entry)) (node_of asked.now.node.now) asked.now.command
         (I.failures inputs.old) (I.failures inputs.new) (W.taken out.old) (W.taken out.new) (W.failures out.old) (W.failures out.new)) }
 {
-    match inputs.open_lines(arguments.object) {
-        Ok(()) => answer_lines(alloc, arguments.command, node, inputs, explanation, out),
+    match inputs.open_lines(name) {
+        Ok(()) => answer_lines(asked, inputs, out, err),
         Err(InFault::Failed) => Err(Cause::Read(Input::Object)),
         Err(_) => Err(Cause::NoMemory),
     }
 }
 
 /// The answers to the lines of the input that was opened.
-fn answer_lines<I: Inputs, W: Sink>(
-    alloc: Global,
-    command: ObjectCommand,
-    node: &Node,
+fn answer_lines<I: Inputs, W: Sink, E: Sink>(
+    asked: &Asked<'_>,
     inputs: &mut I,
-    explanation: &mut Explanation,
     out: &mut W,
+    err: &mut E,
 ) -> Result<u8, Cause>
     ensures answered { IfOk result (λ status. (lines : List (List ℕ)) × (text : List ℕ)
-        × AreAnswered (I.coming inputs.old) (node_of node.now) command lines [] status text × Appends (W.taken out.old) (W.taken out.new) text) }
+        × AreAnswered (I.coming inputs.old) (node_of asked.now.node.now) asked.now.command lines [] status text × Appends (W.taken out.old) (W.taken out.new) text) }
     ensures unfailed { OnOk result (W.failures out.new ≡ W.failures out.old) }
-    ensures cause { IfErr result (IsLinesCause (I.coming inputs.old) (node_of node.now) command
+    ensures cause { IfErr result (IsLinesCause (I.coming inputs.old) (node_of asked.now.node.now) asked.now.command
         (I.failures inputs.old) (I.failures inputs.new) (W.taken out.old) (W.taken out.new) (W.failures out.old) (W.failures out.new)) }
 {
-    let mut line = Vec::new(alloc);
+    let mut line = Vec::new(asked.alloc);
     let mut so_far = SoFar {
         lines: 0,
         status: 0,
         written: 0,
     };
     'lines: while so_far.lines < u64::MAX {
-        match inputs.next_line(&mut line) {
-            Ok(true) => {}
-            Ok(false) => return Ok(so_far.status),
-            Err(fault) => return Err(unread_line(alloc, so_far.lines, fault, &line, explanation)),
-        }
-        so_far = match answer_line(
-            alloc,
-            command,
-            node,
-            so_far,
-            line.as_slice(),
-            explanation,
-            out,
-        ) {
+        let answer = match next_answer(asked, so_far.lines + 1, inputs, &mut line, err) {
+            Ok(Some(answer)) => answer,
+            Ok(None) => return Ok(so_far.status),
+            Err(cause) => return Err(cause),
+        };
+        so_far = match write_answer(so_far, &answer, out) {
             Ok(so_far) => so_far,
             Err(cause) => return Err(cause),
         };
     }
     Err(Cause::NoMemory)
+}
+
+/// The answer to the next line, which has this number, where there is one.
+fn next_answer<I: Inputs, E: Sink>(
+    asked: &Asked<'_>,
+    number: u64,
+    inputs: &mut I,
+    line: &mut Vec<u8>,
+    err: &mut E,
+) -> Result<Option<LineAnswer>, Cause>
+    ensures some { IfOk result (λ o. IfSome o (λ a. IsNextAnswer (I.coming inputs.old) (I.coming inputs.new) (node_of asked.now.node.now) asked.now.command number a.status a.text.items)) }
+    ensures none { IfOk result (λ o. o ≡ None → I.coming inputs.old []) }
+    ensures unfailed { OnOk result (I.failures inputs.new ≡ I.failures inputs.old) }
+    ensures cause { IfErr result (IsUnreadCause (I.failures inputs.old) (I.failures inputs.new)) }
+{
+    match inputs.next_line(line) {
+        Ok(true) => Ok(Some(answer_to(asked, number, line.as_slice(), err)?)),
+        Ok(false) => Ok(None),
+        Err(InFault::Document(JFault::TooLong)) => Ok(Some(answer_to_none(
+            asked,
+            number,
+            JFault::TooLong,
+            line.as_slice(),
+            err,
+        )?)),
+        Err(InFault::Failed) => Err(Cause::Read(Input::Object)),
+        Err(_) => Err(Cause::NoMemory),
+    }
+}
+
+/// The answer to a line.
+fn answer_to<E: Sink>(
+    asked: &Asked<'_>,
+    number: u64,
+    line: &[u8],
+    err: &mut E,
+) -> Result<LineAnswer, AllocError>
+    ensures { IfOk result (λ a. IsLineAnswer (node_of asked.now.node.now) asked.now.command number line.now a.status a.text.items) }
+{
+    match read_line(asked.alloc, line) {
+        Ok(Ok(document)) => answer_to_document(asked, number, document),
+        Ok(Err(fault)) => answer_to_none(asked, number, fault, line, err),
+        Err(_) => Err(AllocError),
+    }
+}
+
+/// The document on a line, or why it is none.
+fn read_line(alloc: Global, line: &[u8]) -> Result<Result<Tree, JFault>, AllocError>
+    ensures document { IfOk result (λ read. IfOk read (λ t. Reads line.now (data_of t))) }
+    ensures none { IfOk result (λ read. IfErr read (λ fault. IsOfBytes fault × IsNoDocument line.now fault)) }
+{
+    match Tree::from_bytes(alloc, line) {
+        Ok(document) => Ok(Ok(document)),
+        Err(JFault::NoMemory) => Err(AllocError),
+        Err(fault) => Ok(Err(fault)),
+    }
+}
+
+/// The answer to the document on a line.
+fn answer_to_document(
+    asked: &Asked<'_>,
+    number: u64,
+    document: Tree,
+) -> Result<LineAnswer, AllocError>
+    ensures { IfOk result (λ a. (line : List ℕ) → Reads line (data_of document) → IsLineAnswer (node_of asked.now.node.now) asked.now.command number line a.status a.text.items) }
+{
+    let Asked {
+        alloc,
+        command,
+        node,
+        why: _,
+    } = *asked;
+    // what a run says of one object alone goes to standard error, and so is not asked for
+    let mut unasked = Explanation::new(false);
+    match answer_of(alloc, command, node, document, &mut unasked) {
+        Ok(alone) => print_at(alloc, number, command, &alone),
+        Err(Cause::NotStored) => {
+            let alone = Answer {
+                status: 1,
+                text: String::new(alloc),
+            };
+            print_at(alloc, number, command, &alone)
+        }
+        Err(_) => Err(AllocError),
+    }
+}
+
+/// The answer to a line that is no document, of which at least a beginning is at hand.
+fn answer_to_none<E: Sink>(
+    asked: &Asked<'_>,
+    number: u64,
+    fault: JFault,
+    line: &[u8],
+    err: &mut E,
+) -> Result<LineAnswer, AllocError>
+    ensures { IfOk result (λ a. (a.status ≡ 3) × (a.text.items ≡ code_at number asked.now.command fault)) }
+{
+    let alloc = asked.alloc;
+    let text = code_text(alloc, number, asked.command, &fault)?;
+    if asked.why || text.is_empty() {
+        let mut explanation = Explanation::new(asked.why);
+        explanation.explain_document(alloc, line, None);
+        say(alloc, &Cause::Line(number, fault), &explanation, err)?;
+    }
+    Ok(LineAnswer { status: 3, text })
+}
+
+/// The text of what is printed of a line that is no document.
+fn code_text(
+    alloc: Global,
+    number: u64,
+    command: ObjectCommand,
+    fault: &JFault,
+) -> Result<Vec<u8>, AllocError>
+    ensures { IfOk result (λ v. v.items ≡ code_at number command fault.now) }
+{
+    match command {
+        ObjectCommand::Validate { strict: _ } | ObjectCommand::Leaves => {
+            with_number(alloc, number, code_line(fault))
+        }
+        ObjectCommand::Prune | ObjectCommand::Default => Ok(Vec::new(alloc)),
+    }
+}
+
+/// The code of a fault, with the end of its line.
+fn code_line(fault: &JFault) -> &'static [u8]
+    ensures { result.now ≡ document_code fault.now ++ codes "\n" }
+{
+    match fault {
+        JFault::NotAnInteger => b"J1\n",
+        JFault::NoMemory => b"J2\n",
+        JFault::NotJson => b"J3\n",
+        JFault::TooLong => b"J4\n",
+        JFault::ReadFailed => b"J5\n",
+    }
 }
 
 /// Why the line after so many was not read; `line` has what was read of it.
@@ -160,69 +304,21 @@ pub(crate) fn unread_line(
     }
 }
 
-/// Answers the line after those that are answered, and writes its answer.
-fn answer_line<W: Sink>(
-    alloc: Global,
-    command: ObjectCommand,
-    node: &Node,
-    before: SoFar,
-    line: &[u8],
-    explanation: &mut Explanation,
-    out: &mut W,
-) -> Result<SoFar, Cause>
+/// Writes the answer to the line after those that are answered.
+fn write_answer<W: Sink>(before: SoFar, answer: &LineAnswer, out: &mut W) -> Result<SoFar, Cause>
     requires { before.lines < 2 ^ 64 - 1 }
-    ensures answered { IfOk result (λ so_far. (so_far.lines ≡ before.lines + 1) × ((status : ℕ) × (so_far.status ≡ max before.status status)
-        × AddsAnswer (node_of node.now) command (before.lines + 1) line.now status (W.taken out.old) (W.taken out.new))) }
+    ensures counted { IfOk result (λ so_far. (so_far.lines ≡ before.lines + 1) × (so_far.status ≡ max before.status answer.now.status)) }
+    ensures written { OnOk result (Appends (W.taken out.old) (W.taken out.new) answer.now.text.items) }
     ensures unfailed { OnOk result (W.failures out.new ≡ W.failures out.old) }
-    ensures cause { IfErr result (IsLineCause (node_of node.now) command (before.lines + 1) line.now (W.taken out.old) (W.taken out.new) (W.failures out.old) (W.failures out.new)) }
+    ensures cause { IfErr result (IsCutCause answer.now.text.items (W.taken out.old) (W.taken out.new) (W.failures out.old) (W.failures out.new)) }
 {
-    let number = before.lines + 1;
-    let answer = match read_line(alloc, command, node, number, line, explanation) {
-        Ok(answer) => answer,
-        Err(cause) => return Err(cause),
-    };
     match write_text(answer.text.as_slice(), before.written, out) {
         Ok(written) => Ok(SoFar {
-            lines: number,
+            lines: before.lines + 1,
             status: before.status.max(answer.status),
             written,
         }),
         Err(written) => Err(Cause::Write(written)),
-    }
-}
-
-/// The answer to the document on a line.
-fn read_line(
-    alloc: Global,
-    command: ObjectCommand,
-    node: &Node,
-    number: u64,
-    line: &[u8],
-    explanation: &mut Explanation,
-) -> Result<LineAnswer, Cause>
-    ensures answer { IfOk result (λ a. IsLineAnswer (node_of node.now) command number line.now a.status a.text.items) }
-    ensures cause { IfErr result (IsReadingCause line.now) }
-{
-    let document = match Tree::from_bytes(alloc, line) {
-        Ok(document) => document,
-        Err(JFault::NoMemory) => return Err(Cause::NoMemory),
-        Err(fault) => {
-            explanation.explain_document(alloc, line, None);
-            return Err(Cause::Line(number, fault));
-        }
-    };
-    // what a run says of one object alone goes to standard error, and so is not asked for
-    let mut unasked = Explanation::new(false);
-    match answer_of(alloc, command, node, document, &mut unasked) {
-        Ok(alone) => print_at(alloc, number, command, &alone),
-        Err(Cause::NotStored) => {
-            let alone = Answer {
-                status: 1,
-                text: String::new(alloc),
-            };
-            print_at(alloc, number, command, &alone)
-        }
-        Err(_) => Err(Cause::NoMemory),
     }
 }
 
@@ -232,9 +328,8 @@ fn print_at(
     number: u64,
     command: ObjectCommand,
     alone: &Answer,
-) -> Result<LineAnswer, Cause>
-    ensures printed { IfOk result (λ a. (a.status ≡ alone.now.status) × (a.text.items ≡ printed_at number command alone.now.status (string_bytes alone.now.text))) }
-    ensures memory { IfErr result (λ cause. cause ≡ NoMemory) }
+) -> Result<LineAnswer, AllocError>
+    ensures { IfOk result (λ a. (a.status ≡ alone.now.status) × (a.text.items ≡ printed_at number command alone.now.status (string_bytes alone.now.text))) }
 {
     Ok(LineAnswer {
         status: alone.status,

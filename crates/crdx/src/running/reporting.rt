@@ -86,16 +86,25 @@ pub(crate) fn report<E: Sink>(
 ) -> u8
     ensures { (result ≡ status cause.now) ⊎ (result ≡ 5) }
 {
-    match lines_of(alloc, cause, explanation) {
-        Ok(lines) => {
-            let _ = put_all(err, lines.as_bytes());
-            cause.status()
-        }
+    match say(alloc, cause, explanation, err) {
+        Ok(()) => cause.status(),
         Err(_) => {
             let _ = put_all(err, b"crdx: out of memory\n");
             5
         }
     }
+}
+
+/// Says a cause on `err`, with the explanation.
+pub(crate) fn say<E: Sink>(
+    alloc: Global,
+    cause: &Cause,
+    explanation: &Explanation,
+    err: &mut E,
+) -> Result<(), AllocError> {
+    let lines = lines_of(alloc, cause, explanation)?;
+    let _ = put_all(err, lines.as_bytes());
+    Ok(())
 }
 
 /// As `report`, of a cause that has no explanation.

@@ -26,34 +26,34 @@ returns-clause-answered g c =
     let has = g.I.Inputs.has c.args.inputs.now in
     let arguments = c.args.arguments.now in
     let accepted = c.in_ok-accepted.accepted in
-    let N = node_of c.root-root.result.now in
-    let root = subst (IsRequestedRoot has arguments.common) (sym c.root-root.ensures.node) (requested_root has arguments.common accepted.group accepted.kind accepted.schema c.in_ok-accepted.ensures.accepted) in
-    IfOk-weaker c.judge_lines_at-answered.result _ _ (λ status said. (
+    let N = node_of c.root.result.now in
+    let root = subst (IsRequestedRoot has arguments.common) (sym c.root.ensures.node) (requested_root has arguments.common accepted.group accepted.kind accepted.schema c.in_ok-accepted.ensures.accepted) in
+    IfOk-weaker c.judge_lines_of-answered.result _ _ (λ status said. (
       N,
       root,
       said.0,
       said.1,
       answered_before N arguments.command _ _ (c.in_ok-accepted.ensures.lines (file_name arguments.object)) said.0 _ status said.1 said.2,
       said.3,
-    )) c.judge_lines_at-answered.ensures.answered
+    )) c.judge_lines_of-answered.ensures.answered
 
 pub returns-clause-cause : goal.returns-clause-cause
 returns-clause-cause g c =
     let has = g.I.Inputs.has c.args.inputs.now in
     let arguments = c.args.arguments.now in
     let accepted = c.in_ok-accepted.accepted in
-    let N = node_of c.root-root.result.now in
-    let root = subst (IsRequestedRoot has arguments.common) (sym c.root-root.ensures.node) (requested_root has arguments.common accepted.group accepted.kind accepted.schema c.in_ok-accepted.ensures.accepted) in
+    let N = node_of c.root.result.now in
+    let root = subst (IsRequestedRoot has arguments.common) (sym c.root.ensures.node) (requested_root has arguments.common accepted.group accepted.kind accepted.schema c.in_ok-accepted.ensures.accepted) in
     let later = g.I.Inputs.lines c.accepted_schema.new.inputs (file_name arguments.object) in
     let unread = g.I.Inputs.failures c.args.inputs.now in
-    let read = g.I.Inputs.failures c.judge_lines_at-answered.new.inputs in
+    let read = g.I.Inputs.failures c.judge_lines_of-answered.new.inputs in
     let old = g.W.Sink.taken c.args.out.now in
-    let new = g.W.Sink.taken c.judge_lines_at-answered.new.out in
+    let new = g.W.Sink.taken c.judge_lines_of-answered.new.out in
     let unfailed = g.W.Sink.failures c.args.out.now in
-    let failed = g.W.Sink.failures c.judge_lines_at-answered.new.out in
-    IfErr-weaker c.judge_lines_at-answered.result _ _ (λ cause why. inr (
+    let failed = g.W.Sink.failures c.judge_lines_of-answered.new.out in
+    IfErr-weaker c.judge_lines_of-answered.result _ _ (λ cause why. inr (
       N,
       root,
       cause_before N arguments.command later (g.I.Inputs.lines c.args.inputs.now (file_name arguments.object)) (c.in_ok-accepted.ensures.lines (file_name arguments.object)) unread read old new unfailed failed cause
           (subst (λ n. IsLinesCause later N arguments.command n read old new unfailed failed cause) c.in_ok-accepted.ensures.unfailed why),
-    )) c.judge_lines_at-answered.ensures.cause
+    )) c.judge_lines_of-answered.ensures.cause

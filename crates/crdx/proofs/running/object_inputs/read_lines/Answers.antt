@@ -13,7 +13,7 @@ returns-in-Ok-false-clause-objects g c =
 
 pub returns-in-Err-clause-cause : goal.returns-in-Err-clause-cause
 returns-in-Err-clause-cause g c =
-    rw c.unread_text.ensures (first_unread (g.I.Inputs.coming c.args.inputs.now) (g.I.Inputs.failures c.args.inputs.now) (g.I.Inputs.failures c.next_line.new.self) c.in-Err.fault c.in-Err.ensures.counts c.in-Err.ensures.refused)
+    rw c.unread_text.ensures (first_unread (g.I.Inputs.coming c.args.inputs.now) (g.I.Inputs.coming c.next_line.new.self) (g.I.Inputs.some_coming c.next_line.new.self) (g.I.Inputs.failures c.args.inputs.now) (g.I.Inputs.failures c.next_line.new.self) c.in-Err.fault c.in-Err.ensures.counts c.in-Err.ensures.refused)
 
 pub returns-in-Ok-clause-objects : goal.returns-in-Ok-clause-objects
 returns-in-Ok-clause-objects g c =

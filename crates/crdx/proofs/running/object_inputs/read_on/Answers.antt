@@ -25,7 +25,7 @@ returns-in-Err-clause-cause g c =
     let unread = g.I.Inputs.failures c.args.inputs.now in
     let read = g.I.Inputs.failures c.next_line.new.self in
     let counts : read ≡ failures_after_read {T = Bool} unread (Err c.in-Err.fault) = subst (λ n. read ≡ failures_after_read {T = Bool} n (Err c.in-Err.fault)) s.reads c.in-Err.ensures.counts in
-    rw c.unread_text.ensures (text_unread (g.I.Inputs.coming c.args.inputs.now) (g.I.Inputs.coming c.lines.inputs) c.args.first.items c.lines.text.items s.so_far unread read c.in-Err.fault counts c.in-Err.ensures.refused)
+    rw c.unread_text.ensures (text_unread (g.I.Inputs.coming c.args.inputs.now) (g.I.Inputs.coming c.lines.inputs) c.args.first.items c.lines.text.items s.so_far (g.I.Inputs.coming c.next_line.new.self) (g.I.Inputs.some_coming c.next_line.new.self) unread read c.in-Err.fault counts c.in-Err.ensures.refused)
 
 pub lines-preserved : goal.lines-preserved
 lines-preserved g c =
