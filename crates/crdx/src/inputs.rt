@@ -15,8 +15,8 @@ use jtree::lines::{LineFeed, LineSource};
 use jtree::source::{Feed, read_bytes};
 use jtree::{JFault, Tree};
 use std::alloc::Global;
-use std::fs;
-use std::io::{ErrorKind, Read};
+use std::fs::{self, Metadata};
+use std::io::{self, ErrorKind, Read};
 use std::rt::Files;
 use thiserror::Error;
 
@@ -39,6 +39,34 @@ impl From<JFault> for InFault {
         match fault {
             JFault::ReadFailed => InFault::Failed,
             _ => InFault::Document(fault),
+        }
+    }
+}
+
+/// Why the file of a name could not be opened or read.
+#[derive(Clone, Copy, Debug, PartialEq, Eq, Drop, Error)]
+pub enum Unread {
+    /// There is no file of this name.
+    #[error("is not there")]
+    NotThere,
+    /// It is a directory.
+    #[error("is a directory")]
+    Directory,
+    /// It may not be read.
+    #[error("may not be read: permission denied")]
+    NoPermission,
+    /// Another reason, or one that is not known.
+    #[error("could not be read")]
+    Other,
+}
+
+impl From<ErrorKind> for Unread {
+    fn from(kind: ErrorKind) -> Unread {
+        match kind {
+            ErrorKind::NotFound => Unread::NotThere,
+            ErrorKind::IsADirectory => Unread::Directory,
+            ErrorKind::PermissionDenied => Unread::NoPermission,
+            _ => Unread::Other,
         }
     }
 }
@@ -95,6 +123,9 @@ pub trait Inputs {
 
     /// How many bytes the file of this name has, where that is known; of the standard input it is not.
     fn size(&self, name: Option<&str>) -> Option<u64>;
+
+    /// Why the file of this name, the last one for which `Failed` was answered, could not be opened or read.
+    fn unread(&self, name: Option<&str>) -> Unread;
 }
 
 /// A file or the standard input, whose lines are read.
@@ -121,6 +152,8 @@ pub struct HostInputs<'a, R: Files + Input> {
     rt: &'a R,
     failures: u64,
     refused: Option<Vec<u8>>,
+    /// Why a file was not opened.
+    unopened: Option<ErrorKind>,
     lines: Option<OpenLines<R::File, R::Reader>>,
 }
 
@@ -131,12 +164,22 @@ impl<'a, R: Files + Input> HostInputs<'a, R> {
             rt,
             failures: 0,
             refused: None,
+            unopened: None,
             lines: None,
         }
     }
 }
 
 impl<R: Files + Input> HostInputs<'_, R> {
+    /// A file is not opened, for this reason.
+    fn not_opened(&mut self, kind: ErrorKind) -> InFault
+        ensures fault { (result ≡ Failed) ⊎ (result ≡ Document NoMemory) }
+        ensures failures { self.new.failures ≡ self.old.failures }
+    {
+        self.unopened = Some(kind);
+        fault_of(kind)
+    }
+
     fn count_failure(&mut self) -> InFault
         ensures fault { result ≡ Failed }
         ensures failures { self.new.failures ≡ one_more self.old.failures }
@@ -155,20 +198,21 @@ impl<R: Files + Input + AllocGlobal> HostInputs<'_, R> {
         match name {
             Some(name) => match fs::open(self.rt, name) {
                 Ok(file) => read_document(alloc, file, &mut self.refused),
-                Err(error) => Err(fault_of(error.kind())),
+                Err(error) => Err(self.not_opened(error.kind())),
             },
             None => read_document(alloc, self.rt.reader(), &mut self.refused),
         }
     }
 
-    fn open(&self, name: Option<&str>) -> Result<OpenLines<R::File, R::Reader>, InFault>
-        ensures { IfErr result IsOpenFault }
+    fn open(&mut self, name: Option<&str>) -> Result<OpenLines<R::File, R::Reader>, InFault>
+        ensures fault { IfErr result IsOpenFault }
+        ensures failures { self.new.failures ≡ self.old.failures }
     {
         let alloc = self.rt.alloc();
         match name {
             Some(name) => match fs::open(self.rt, name) {
                 Ok(file) => Ok(OpenLines::File(LineFeed::new(alloc, Feed::new(file)))),
-                Err(error) => Err(fault_of(error.kind())),
+                Err(error) => Err(self.not_opened(error.kind())),
             },
             None => {
                 let lines = LineFeed::new(alloc, Feed::new(self.rt.reader()));
@@ -232,6 +276,14 @@ impl<R: Files + Input + AllocGlobal> Inputs for HostInputs<'_, R> {
         let metadata = fs::metadata(self.rt, name?).ok()?;
         Some(metadata.len())
     }
+
+    fn unread(&self, name: Option<&str>) -> Unread {
+        match (self.unopened, name) {
+            (Some(kind), _) => kind.into(),
+            (None, Some(name)) => unread_of(fs::metadata(self.rt, name)),
+            (None, None) => Unread::Other,
+        }
+    }
 }
 
 /// The document that is all that the reader has left; where the bytes are none, they are kept.
@@ -263,5 +315,13 @@ fn fault_of(kind: ErrorKind) -> InFault
     match kind {
         ErrorKind::OutOfMemory => InFault::Document(JFault::NoMemory),
         _ => InFault::Failed,
+    }
+}
+
+/// Why what was opened could not be read.
+fn unread_of(metadata: io::Result<Metadata>) -> Unread {
+    match metadata {
+        Ok(metadata) if metadata.is_dir() => Unread::Directory,
+        _ => Unread::Other,
     }
 }

@@ -139,7 +139,10 @@ pub(crate) fn document<I: Inputs>(
 {
     match inputs.tree(name) {
         Ok(tree) => Ok(tree),
-        Err(InFault::Failed) => Err(Cause::Read(input)),
+        Err(InFault::Failed) => {
+            explanation.explain_unread(alloc, name, inputs.unread(name));
+            Err(Cause::Read(input))
+        }
         Err(InFault::Document(JFault::NoMemory)) => Err(Cause::NoMemory),
         Err(InFault::Document(fault)) => {
             explanation.explain_document(alloc, inputs.refused(), inputs.size(name));

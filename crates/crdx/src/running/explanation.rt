@@ -8,9 +8,10 @@ mod pools;
 mod samples;
 mod values;
 
+use crate::inputs::Unread;
 use crate::running::causes::Cause;
 use crate::running::explanation::definitions::definition_text;
-use crate::running::explanation::documents::{after_text, document_text};
+use crate::running::explanation::documents::{after_text, document_text, unread_text};
 use crate::running::explanation::fields::field_text;
 use crate::running::explanation::objects::unstored_text;
 use crate::running::explanation::pools::{path_text, pools_text, suggestion_text};
@@ -53,6 +54,13 @@ impl Explanation {
     pub fn explain_document(&mut self, alloc: Global, bytes: &[u8], size: Option<u64>) {
         if self.is_asked {
             self.say(alloc, document_text(alloc, bytes, size));
+        }
+    }
+
+    /// Why the file of this name, or the standard input where there is no name, was not read.
+    pub fn explain_unread(&mut self, alloc: Global, name: Option<&str>, unread: Unread) {
+        if self.is_asked {
+            self.say(alloc, unread_text(alloc, name, unread));
         }
     }
 

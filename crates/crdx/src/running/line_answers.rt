@@ -89,7 +89,7 @@ pub(crate) fn judge_lines<I: Inputs, W: Sink, E: Sink>(
         node: accepted.schema.root(),
         why: arguments.common.why,
     };
-    let answered = judge_lines_of(&asked, arguments.object, inputs, out, err);
+    let answered = judge_lines_of(&asked, arguments.object, inputs, explanation, out, err);
     drop(accepted);
     answered
 }
@@ -99,6 +99,7 @@ fn judge_lines_of<I: Inputs, W: Sink, E: Sink>(
     asked: &Asked<'_>,
     name: Option<&str>,
     inputs: &mut I,
+    explanation: &mut Explanation,
     out: &mut W,
     err: &mut E,
 ) -> Result<u8, Cause>
@@ -108,11 +109,15 @@ fn judge_lines_of<I: Inputs, W: Sink, E: Sink>(
     ensures cause { IfErr result (IsLinesCause (I.lines inputs.old (file_name name.entry)) (node_of asked.now.node.now) asked.now.command
         (I.failures inputs.old) (I.failures inputs.new) (W.taken out.old) (W.taken out.new) (W.failures out.old) (W.failures out.new)) }
 {
-    match inputs.open_lines(name) {
+    let answered = match inputs.open_lines(name) {
         Ok(()) => answer_lines(asked, inputs, out, err),
         Err(InFault::Failed) => Err(Cause::Read(Input::Object)),
         Err(_) => Err(Cause::NoMemory),
+    };
+    if let Err(Cause::Read(_)) = &answered {
+        explanation.explain_unread(asked.alloc, name, inputs.unread(name));
     }
+    answered
 }
 
 /// The answers to the lines of the input that was opened.

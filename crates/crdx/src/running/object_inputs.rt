@@ -55,11 +55,15 @@ fn read_input<I: Inputs>(
     ensures unfailed { OnOk result (I.failures inputs.new ≡ I.failures inputs.old) }
 {
     let name = input_named(word);
-    match inputs.open_lines(name) {
+    let read = match inputs.open_lines(name) {
         Ok(()) => read_lines(alloc, inputs, explanation, objects),
         Err(InFault::Failed) => Err(Cause::Read(Input::Object)),
         Err(_) => Err(Cause::NoMemory),
+    };
+    if let Err(Cause::Read(_)) = &read {
+        explanation.explain_unread(alloc, name, inputs.unread(name));
     }
+    read
 }
 
 /// Adds those of the input that was opened: one on each line where the first line has one, and else one on all lines together.

@@ -168,6 +168,10 @@ fn lines_of(alloc: Global, cause: &Cause, explanation: &Explanation) -> Result<S
     let explained = explanation.lines()?;
     match (cause, explained) {
         (Cause::Violations(_), Some(explained)) => String::from_str(alloc, explained),
+        (Cause::Read(_), Some(explained)) => {
+            let line = line_of(alloc, cause)?;
+            format!(in alloc; "{line}{explained}")
+        }
         (_, Some(explained)) if cause.status() < 4 => {
             let line = line_of(alloc, cause)?;
             format!(in alloc; "{line}{explained}")

@@ -1,5 +1,6 @@
 //! Why bytes are no document, and why an object is no sample.
 
+use crate::inputs::Unread;
 use crate::running::answer::json_text;
 use jtree::{MOST_BYTES, Refusal, Tree};
 use std::alloc::{AllocError, Global};
@@ -41,6 +42,22 @@ fn refusal_text(alloc: Global, refusal: &Refusal, size: Option<u64>) -> Result<S
             }
         },
     }
+}
+
+/// Why an input was not opened or read.
+pub(crate) fn unread_text(
+    alloc: Global,
+    name: Option<&str>,
+    unread: Unread,
+) -> Result<Option<String>, AllocError> {
+    let text = match name {
+        Some(name) => {
+            let name = json_text(alloc, name)?;
+            format!(in alloc; "{name} {unread}")?
+        }
+        None => format!(in alloc; "the standard input {unread}")?,
+    };
+    Ok(Some(text))
 }
 
 /// Why an object may be no sample within a limit.

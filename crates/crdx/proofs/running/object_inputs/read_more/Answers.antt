@@ -1,7 +1,7 @@
 use Rattle.std.proofs.Common.{◌≡◌, ◌+◌, ◌∷◌, Bool, List, ℕ, Err, refl, sym, subst, ◌∙◌}
 use Rattle.crdx.specs.Internal.ObjectInputs.{IsBrokenLine, IsLaterCause}
 use Rattle.crdx.specs.Program.InputFault.{failures_after_read}
-use Rattle.crdx.proofs.ObjectInputLemmas.{none_added, added_line, later_broken}
+use Rattle.crdx.proofs.ObjectInputLemmas.{none_added, added_line, later_broken, later_unread}
 use Rattle.crdx.proofs.running.object_inputs.read_more.Goals as goal
 
 pub lines-init : goal.lines-init
@@ -10,6 +10,15 @@ lines-init g c = record {
   lines = λ name ls is. is;
   reads = refl;
 }
+
+pub returns-in-Err-clause-cause : goal.returns-in-Err-clause-cause
+returns-in-Err-clause-cause g c =
+    let s = c.lines.invariant in
+    let unread = g.I.Inputs.failures c.args.inputs.now in
+    let read = g.I.Inputs.failures c.next_line.new.self in
+    let next = g.I.Inputs.coming c.next_line.new.self in
+    let counts : read ≡ failures_after_read {T = Bool} unread (Err c.in-Err.fault) = subst (λ n. read ≡ failures_after_read {T = Bool} n (Err c.in-Err.fault)) s.reads c.in-Err.ensures.counts in
+    rw c.unread_line.ensures (later_unread (g.I.Inputs.coming c.args.inputs.now) (g.I.Inputs.coming c.lines.inputs) c.lines.read _ _ s.so_far next (g.I.Inputs.some_coming c.next_line.new.self) unread read c.in-Err.fault counts c.in-Err.ensures.refused)
 
 pub returns-in-Err-add_line-clause-cause : goal.returns-in-Err-add_line-clause-cause
 returns-in-Err-add_line-clause-cause g c =
