@@ -90,15 +90,16 @@ impl<'p, Z: SizeSet> Walk<'p, Z> {
         size: u32,
         items: &[Tree],
         scratch: &mut Scratch<'p>,
+        meter: &mut Meter,
     ) -> Result<Tree, AllocError>
         requires node { IsNodeOf self.now.plan.now node }
         requires leaf { sort_of (site self.now.plan.now node) ≡ sort.Leaf }
         requires free { (v : Data) × IsUnusedPart self.now.plan.now node size (trees_of items.now) v }
         ensures ok { IfOk result (λ v. IsLeast tree_cmp (IsUnusedPart self.now.plan.now node size (trees_of items.now)) (data_of v)) }
         ensures following { IfOk result (λ v. Continue (IsUnusedPart self.now.plan.now node size (trees_of items.now)) (data_of v) (stack_of scratch.new.following.items)) }
-        ensures steps { Costs self.now.plan.now scratch.old.meter scratch.new.meter 1 }
+        ensures steps { Costs self.now.plan.now meter.old meter.new 1 }
     {
-        self.first_free(node, size, &Used::Items(items), scratch)
+        self.first_free(node, size, &Used::Items(items), scratch, meter)
     }
 
     /// The first candidate of a size for a key that leaves some tuple of keys unused.
@@ -109,20 +110,21 @@ impl<'p, Z: SizeSet> Walk<'p, Z> {
         size: u32,
         used: &Rows<'_>,
         scratch: &mut Scratch<'p>,
+        meter: &mut Meter,
     ) -> Result<Tree, AllocError>
         requires node { IsNodeOf self.now.plan.now slot.now.node }
         requires leaf { sort_of (site self.now.plan.now slot.now.node) ≡ sort.Leaf }
         requires free { (v : Data) × IsFreeKey self.now.plan.now slot.now.node size slot.now.name.now (used_rows used.now) slot.now.later v }
         ensures ok { IfOk result (λ v. IsLeast tree_cmp (IsFreeKey self.now.plan.now slot.now.node size slot.now.name.now (used_rows used.now) slot.now.later) (data_of v)) }
         ensures following { IfOk result (λ v. Continue (IsFreeKey self.now.plan.now slot.now.node size slot.now.name.now (used_rows used.now) slot.now.later) (data_of v) (stack_of scratch.new.following.items)) }
-        ensures steps { Costs self.now.plan.now scratch.old.meter scratch.new.meter 1 }
+        ensures steps { Costs self.now.plan.now meter.old meter.new 1 }
     {
         let used_key = Used::Key(KeyRows {
             name: slot.name,
             rows: *used,
             later: slot.later,
         });
-        self.first_free(slot.node, size, &used_key, scratch)
+        self.first_free(slot.node, size, &used_key, scratch, meter)
     }
 
     /// The first free candidate of a size. `following` becomes those that continue it in its place, the last one first, and this
@@ -134,15 +136,16 @@ impl<'p, Z: SizeSet> Walk<'p, Z> {
         size: u32,
         used: &Used<'_>,
         scratch: &mut Scratch<'p>,
+        meter: &mut Meter,
     ) -> Result<Tree, AllocError>
         requires node { IsNodeOf self.now.plan.now node }
         requires leaf { sort_of (site self.now.plan.now node) ≡ sort.Leaf }
         requires free { (v : Data) × IsChoice self.now.plan.now node size None used.now v }
         ensures ok { IfOk result (λ v. IsLeast tree_cmp (IsChoice self.now.plan.now node size None used.now) (data_of v)) }
         ensures following { IfOk result (λ v. Continue (λ u. IsPartOf self.now.plan.now node size u × IsFree used.now u) (data_of v) (stack_of scratch.new.following.items)) }
-        ensures steps { Costs self.now.plan.now scratch.old.meter scratch.new.meter 1 }
+        ensures steps { Costs self.now.plan.now meter.old meter.new 1 }
     {
-        self.find_choices(node, size, None, used, scratch)?;
+        self.find_choices(node, size, None, used, scratch, meter)?;
         let mut tree = Tree::Null;
         if put_first(self.alloc, size, &mut tree, &mut scratch.following)? {
             Ok(tree)
@@ -158,15 +161,16 @@ impl<'p, Z: SizeSet> Walk<'p, Z> {
         tree: Tree,
         items: &[Tree],
         scratch: &mut Scratch<'p>,
+        meter: &mut Meter,
     ) -> Result<NextTree, AllocError>
         requires node { IsNodeOf self.now.plan.now node }
         requires leaf { sort_of (site self.now.plan.now node) ≡ sort.Leaf }
         requires limit { node_count (data_of tree) < 4294967296 }
         ensures ok { IfOk result (λ next. IsNextTree (IsUnusedPart self.now.plan.now node (node_count (data_of tree)) (trees_of items.now)) (data_of tree) next) }
         ensures following { IfOk result (λ next. ContinueNext (IsUnusedPart self.now.plan.now node (node_count (data_of tree)) (trees_of items.now)) next (stack_of scratch.new.following.items)) }
-        ensures steps { Costs self.now.plan.now scratch.old.meter scratch.new.meter 1 }
+        ensures steps { Costs self.now.plan.now meter.old meter.new 1 }
     {
-        self.next_free(node, tree, &Used::Items(items), scratch)
+        self.next_free(node, tree, &Used::Items(items), scratch, meter)
     }
 
     /// The next candidate of the same size for a key that leaves some tuple of keys unused.
@@ -176,20 +180,21 @@ impl<'p, Z: SizeSet> Walk<'p, Z> {
         tree: Tree,
         used: &Rows<'_>,
         scratch: &mut Scratch<'p>,
+        meter: &mut Meter,
     ) -> Result<NextTree, AllocError>
         requires node { IsNodeOf self.now.plan.now slot.now.node }
         requires leaf { sort_of (site self.now.plan.now slot.now.node) ≡ sort.Leaf }
         requires limit { node_count (data_of tree) < 4294967296 }
         ensures ok { IfOk result (λ next. IsNextTree (IsFreeKey self.now.plan.now slot.now.node (node_count (data_of tree)) slot.now.name.now (used_rows used.now) slot.now.later) (data_of tree) next) }
         ensures following { IfOk result (λ next. ContinueNext (IsFreeKey self.now.plan.now slot.now.node (node_count (data_of tree)) slot.now.name.now (used_rows used.now) slot.now.later) next (stack_of scratch.new.following.items)) }
-        ensures steps { Costs self.now.plan.now scratch.old.meter scratch.new.meter 1 }
+        ensures steps { Costs self.now.plan.now meter.old meter.new 1 }
     {
         let used_key = Used::Key(KeyRows {
             name: slot.name,
             rows: *used,
             later: slot.later,
         });
-        self.next_free(slot.node, tree, &used_key, scratch)
+        self.next_free(slot.node, tree, &used_key, scratch, meter)
     }
 
     /// The next free candidate of the same size, in the memory of the tree. `following` becomes what it becomes at the first one.
@@ -200,16 +205,17 @@ impl<'p, Z: SizeSet> Walk<'p, Z> {
         tree: Tree,
         used: &Used<'_>,
         scratch: &mut Scratch<'p>,
+        meter: &mut Meter,
     ) -> Result<NextTree, AllocError>
         requires node { IsNodeOf self.now.plan.now node }
         requires leaf { sort_of (site self.now.plan.now node) ≡ sort.Leaf }
         requires limit { node_count (data_of tree) < 4294967296 }
         ensures ok { IfOk result (λ next. IsNextTree (λ v. IsPartOf self.now.plan.now node (node_count (data_of tree)) v × IsFree used.now v) (data_of tree) next) }
         ensures following { IfOk result (λ next. ContinueNext (λ v. IsPartOf self.now.plan.now node (node_count (data_of tree)) v × IsFree used.now v) next (stack_of scratch.new.following.items)) }
-        ensures steps { Costs self.now.plan.now scratch.old.meter scratch.new.meter 1 }
+        ensures steps { Costs self.now.plan.now meter.old meter.new 1 }
     {
         let size = tree.nodes() as u32;
-        self.find_choices(node, size, Some(&tree), used, scratch)?;
+        self.find_choices(node, size, Some(&tree), used, scratch, meter)?;
         let mut tree = tree;
         if put_first(self.alloc, size, &mut tree, &mut scratch.following)? {
             Ok(NextTree::To(tree, 0))
@@ -228,21 +234,22 @@ impl<'p, Z: SizeSet> Walk<'p, Z> {
         after: Option<&Tree>,
         used: &Used<'_>,
         scratch: &mut Scratch<'p>,
+        meter: &mut Meter,
     ) -> Result<(), AllocError>
         requires node { IsNodeOf self.now.plan.now node }
         requires leaf { sort_of (site self.now.plan.now node) ≡ sort.Leaf }
         ensures ok { OnOk result (AreChoices (IsChoice self.now.plan.now node size (resume_point after.entry) used.now) (stack_of scratch.new.following.items)) }
-        ensures steps { Costs self.now.plan.now scratch.old.meter scratch.new.meter 1 }
+        ensures steps { Costs self.now.plan.now meter.old meter.new 1 }
     {
         if after.is_none() && used.comes_first() {
-            return self.find_choice(node, size, after, used, scratch);
+            return self.find_choice(node, size, after, used, scratch, meter);
         }
         scratch.following.clear();
         let mut place = self.plan.count(node);
         scratch.following.reserve(place as usize)?;
         while place > 0 {
             place -= 1;
-            let Some(tree) = self.plan.candidate(node, place, &mut scratch.meter) else {
+            let Some(tree) = self.plan.candidate(node, place, meter) else {
                 return Ok(());
             };
             if !is_past(after, tree) {
@@ -263,15 +270,16 @@ impl<'p, Z: SizeSet> Walk<'p, Z> {
         after: Option<&Tree>,
         used: &Used<'_>,
         scratch: &mut Scratch<'p>,
+        meter: &mut Meter,
     ) -> Result<(), AllocError>
         requires node { IsNodeOf self.now.plan.now node }
         requires leaf { sort_of (site self.now.plan.now node) ≡ sort.Leaf }
         ensures ok { OnOk result (AreChoices (IsChoice self.now.plan.now node size (resume_point after.entry) used.now) (stack_of scratch.new.following.items)) }
-        ensures steps { Costs self.now.plan.now scratch.old.meter scratch.new.meter 1 }
+        ensures steps { Costs self.now.plan.now meter.old meter.new 1 }
     {
         scratch.following.clear();
         for place in 0..self.plan.count(node) {
-            if let Some(tree) = self.plan.candidate(node, place, &mut scratch.meter) {
+            if let Some(tree) = self.plan.candidate(node, place, meter) {
                 if is_choice_past(after, size, used, tree) {
                     scratch.following.push(tree)?;
                     return Ok(());

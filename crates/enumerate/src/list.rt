@@ -42,6 +42,7 @@ impl<'p, Z: SizeSet> Walk<'p, Z> {
         node: PlanNode,
         size: u32,
         scratch: &mut Scratch<'p>,
+        meter: &mut Meter,
     ) -> Result<Tree, AllocError>
         requires node { IsNodeOf self.now.plan.now node }
         requires list { sort_of (site self.now.plan.now node) ≡ sort.List }
@@ -50,16 +51,22 @@ impl<'p, Z: SizeSet> Walk<'p, Z> {
         requires limit { size ≤ self.now.plan.now.limit }
         ensures ok { IfOk result (λ v. IsLeast tree_cmp (IsPartOf self.now.plan.now node size) (data_of v)) }
         ensures following { IfOk result (λ v. Continue (IsPartOf self.now.plan.now node size) (data_of v) (stack_of scratch.new.following.items)) }
-        ensures steps { Costs self.now.plan.now scratch.old.meter scratch.new.meter size }
+        ensures steps { Costs self.now.plan.now meter.old meter.new size }
     {
         self.laws_of(node);
         scratch.following.clear();
         let mut items = Vec::new(self.alloc);
         if size > 1 {
-            let Some(child) = self.plan.item(node, 0, &mut scratch.meter) else {
+            let Some(child) = self.plan.item(node, 0, meter) else {
                 unreachable!()
             };
-            self.first_items(&ListNode { node, child }, size - 1, &mut items, scratch)?;
+            self.first_items(
+                &ListNode { node, child },
+                size - 1,
+                &mut items,
+                scratch,
+                meter,
+            )?;
         }
         Ok(Tree::List(Items { items }))
     }
@@ -72,17 +79,18 @@ impl<'p, Z: SizeSet> Walk<'p, Z> {
         room: u32,
         items: &mut Vec<Tree>,
         scratch: &mut Scratch<'p>,
+        meter: &mut Meter,
     ) -> Result<(), AllocError>
         requires list { IsListNode self.now.plan.now list.now }
         requires follow { CanFollow self.now.plan.now list.now.node list.now.child room (items_of items.old.items) }
         requires following { ItemsContinue self.now.plan.now list.now.node list.now.child (items_of items.old.items) (stack_of scratch.old.following.items) }
         ensures ok { OnOk result (AddsItems self.now.plan.now list.now.node room items.old.items items.new.items) }
         ensures following { OnOk result (ItemsContinue self.now.plan.now list.now.node list.now.child (items_of items.new.items) (stack_of scratch.new.following.items)) }
-        ensures steps { Costs self.now.plan.now scratch.old.meter scratch.new.meter room }
+        ensures steps { Costs self.now.plan.now meter.old meter.new room }
     {
         self.laws_of(list.node);
         if room > 0 {
-            self.grow_items(list, room, 0, items, scratch)?;
+            self.grow_items(list, room, 0, items, scratch, meter)?;
         }
         Ok(())
     }
@@ -96,14 +104,15 @@ impl<'p, Z: SizeSet> Walk<'p, Z> {
         from: u32,
         items: &mut Vec<Tree>,
         scratch: &mut Scratch<'p>,
+        meter: &mut Meter,
     ) -> Result<NextParts, AllocError>
         requires list { IsListNode self.now.plan.now list.now }
         requires first { AreFirst self.now.plan.now list.now.node list.now.child (items_of items.old.items) }
         requires within { 1 + items_count (items_of items.old.items) + room ≤ self.now.plan.now.limit }
         ensures ok { IfOk result (λ next. AreGrown next self.now.plan.now list.now.node list.now.child room from items.old.items items.new.items) }
         ensures following { IfOk result (λ next. GrownItemsContinue next self.now.plan.now list.now.node list.now.child (items_of items.new.items) (stack_of scratch.new.following.items)) }
-        ensures steps { Costs self.now.plan.now scratch.old.meter scratch.new.meter room }
-        ensures last { IfOk result (λ next. KeepsMeter next scratch.old.meter scratch.new.meter) }
+        ensures steps { Costs self.now.plan.now meter.old meter.new room }
+        ensures last { IfOk result (λ next. KeepsMeter next meter.old meter.new) }
     {
         if from > room {
             return Ok(NextParts::Last(room));
@@ -112,9 +121,9 @@ impl<'p, Z: SizeSet> Walk<'p, Z> {
         let Some(size) = self.least_item(list, others, room, from) else {
             return Ok(NextParts::Last(room));
         };
-        let item = self.first_item(list, size, others, scratch)?;
+        let item = self.first_item(list, size, others, scratch, meter)?;
         items.push(item)?;
-        self.first_items(list, room - size, items, scratch)?;
+        self.first_items(list, room - size, items, scratch, meter)?;
         Ok(NextParts::Made(0))
     }
 
@@ -126,6 +135,7 @@ impl<'p, Z: SizeSet> Walk<'p, Z> {
         size: u32,
         items: &[Tree],
         scratch: &mut Scratch<'p>,
+        meter: &mut Meter,
     ) -> Result<Tree, AllocError>
         requires list { IsListNode self.now.plan.now list.now }
         requires first { AreFirst self.now.plan.now list.now.node list.now.child (items_of items.now) }
@@ -134,14 +144,20 @@ impl<'p, Z: SizeSet> Walk<'p, Z> {
         requires more { (m : ℕ) × HasMore self.now.plan.now.pools self.now.plan.now.limit (site self.now.plan.now list.now.node) (length items.now + 1) m }
         ensures ok { IfOk result (λ v. IsLeast tree_cmp (IsUnusedItem self.now.plan.now list.now.node list.now.child size (items_of items.now)) (data_of v)) }
         ensures following { IfOk result (λ v. Continue (IsUnusedItem self.now.plan.now list.now.node list.now.child size (items_of items.now)) (data_of v) (stack_of scratch.new.following.items)) }
-        ensures steps { Costs self.now.plan.now scratch.old.meter scratch.new.meter size }
+        ensures steps { Costs self.now.plan.now meter.old meter.new size }
     {
         self.laws_of(list.node);
         self.laws_of(list.child);
         match self.plan.distinct(list.node) {
-            Distinct::Free => self.first_part(list.child, size, scratch),
-            Distinct::Whole => self.first_unused(list.child, size, items, scratch),
-            Distinct::Keys => self.first_row(list.child, size, &Rows::Listed(items), scratch),
+            Distinct::Free => self.first_part(list.child, size, scratch, meter),
+            Distinct::Whole => self.first_unused(list.child, size, items, scratch, meter),
+            Distinct::Keys => self.first_row(
+                list.child,
+                size,
+                &Rows::Listed(items),
+                scratch,
+                meter,
+            ),
         }
     }
 
@@ -166,6 +182,7 @@ impl<'p, Z: SizeSet> Walk<'p, Z> {
         node: PlanNode,
         tree: Tree,
         scratch: &mut Scratch<'p>,
+        meter: &mut Meter,
     ) -> Result<NextTree, AllocError>
         requires node { IsNodeOf self.now.plan.now node }
         requires sort { sort_of (site self.now.plan.now node) ≡ sort.List }
@@ -174,7 +191,7 @@ impl<'p, Z: SizeSet> Walk<'p, Z> {
         requires limit { node_count (data_of tree) ≤ self.now.plan.now.limit }
         ensures ok { IfOk result (λ next. IsNextTree (IsPartOf self.now.plan.now node (node_count (data_of tree))) (data_of tree) next) }
         ensures following { IfOk result (λ next. ContinueNext (IsPartOf self.now.plan.now node (node_count (data_of tree))) next (stack_of scratch.new.following.items)) }
-        ensures steps { CostsTree result self.now.plan.now scratch.old.meter scratch.new.meter (node_count (data_of tree)) }
+        ensures steps { CostsTree result self.now.plan.now meter.old meter.new (node_count (data_of tree)) }
     {
         self.laws_of(node);
         let Some(mut items) = into_items(tree) else {
@@ -183,10 +200,10 @@ impl<'p, Z: SizeSet> Walk<'p, Z> {
         if items.is_empty() {
             return Ok(NextTree::Last(1));
         }
-        let Some(child) = self.plan.item(node, 0, &mut scratch.meter) else {
+        let Some(child) = self.plan.item(node, 0, meter) else {
             unreachable!()
         };
-        match self.next_items(&ListNode { node, child }, &mut items, scratch)? {
+        match self.next_items(&ListNode { node, child }, &mut items, scratch, meter)? {
             NextParts::Made(depth) => Ok(NextTree::To(Tree::List(Items { items }), depth)),
             NextParts::Last(room) => Ok(NextTree::Last(room + 1)),
         }
@@ -199,6 +216,7 @@ impl<'p, Z: SizeSet> Walk<'p, Z> {
         list: &ListNode,
         items: &mut Vec<Tree>,
         scratch: &mut Scratch<'p>,
+        meter: &mut Meter,
     ) -> Result<NextParts, AllocError>
         requires list { IsListNode self.now.plan.now list.now }
         requires item { item_site self.now.plan.now.pools (site self.now.plan.now list.now.node) ≡ Some (site self.now.plan.now list.now.child) }
@@ -206,19 +224,19 @@ impl<'p, Z: SizeSet> Walk<'p, Z> {
         requires limit { items_count (items_of items.old.items) < self.now.plan.now.limit }
         ensures ok { IfOk result (λ next. AreNextItems next self.now.plan.now list.now.node (items_of items.old.items) (items_of items.new.items)) }
         ensures following { IfOk result (λ next. GrownItemsContinue next self.now.plan.now list.now.node list.now.child (items_of items.new.items) (stack_of scratch.new.following.items)) }
-        ensures steps { CostsItems result self.now.plan.now scratch.old.meter scratch.new.meter (items_count (items_of items.old.items)) }
+        ensures steps { CostsItems result self.now.plan.now meter.old meter.new (items_count (items_of items.old.items)) }
     {
         self.laws_of(list.node);
         let mut room = 0;
         while let Some(item) = items.pop() {
-            match self.next_item(list, item, items.as_slice(), scratch)? {
+            match self.next_item(list, item, items.as_slice(), scratch, meter)? {
                 NextTree::To(next, depth) => {
                     let depth = below(room, depth);
-                    self.put_item(list, room, next, items, scratch)?;
+                    self.put_item(list, room, next, items, scratch, meter)?;
                     return Ok(NextParts::Made(depth));
                 }
                 NextTree::Last(size) => {
-                    match self.grow_larger_items(list, room, size, items, scratch)? {
+                    match self.grow_larger_items(list, room, size, items, scratch, meter)? {
                         NextParts::Made(depth) => return Ok(NextParts::Made(depth)),
                         NextParts::Last(nodes) => room = nodes,
                     }
@@ -236,6 +254,7 @@ impl<'p, Z: SizeSet> Walk<'p, Z> {
         item: Tree,
         items: &[Tree],
         scratch: &mut Scratch<'p>,
+        meter: &mut Meter,
     ) -> Result<NextTree, AllocError>
         requires list { IsListNode self.now.plan.now list.now }
         requires first { AreFirst self.now.plan.now list.now.node list.now.child (items_of items.now) }
@@ -243,16 +262,16 @@ impl<'p, Z: SizeSet> Walk<'p, Z> {
         requires within { items_count (items_of items.now) + node_count (data_of item) < self.now.plan.now.limit }
         ensures ok { IfOk result (λ next. IsNextTree (IsUnusedItem self.now.plan.now list.now.node list.now.child (node_count (data_of item)) (items_of items.now)) (data_of item) next) }
         ensures following { IfOk result (λ next. ContinueNext (IsUnusedItem self.now.plan.now list.now.node list.now.child (node_count (data_of item)) (items_of items.now)) next (stack_of scratch.new.following.items)) }
-        ensures steps { CostsTree result self.now.plan.now scratch.old.meter scratch.new.meter (node_count (data_of item)) }
+        ensures steps { CostsTree result self.now.plan.now meter.old meter.new (node_count (data_of item)) }
     {
         self.laws_of(list.node);
         self.laws_of(list.child);
         match self.plan.distinct(list.node) {
-            Distinct::Free => self.next_part(list.child, item, scratch),
-            Distinct::Whole => self.next_unused(list.child, item, items, scratch),
+            Distinct::Free => self.next_part(list.child, item, scratch, meter),
+            Distinct::Whole => self.next_unused(list.child, item, items, scratch, meter),
             Distinct::Keys => {
                 let used = Rows::Listed(items);
-                self.next_row(list.child, item, &used, scratch)
+                self.next_row(list.child, item, &used, scratch, meter)
             }
         }
     }
@@ -266,16 +285,17 @@ impl<'p, Z: SizeSet> Walk<'p, Z> {
         item: Tree,
         items: &mut Vec<Tree>,
         scratch: &mut Scratch<'p>,
+        meter: &mut Meter,
     ) -> Result<(), AllocError>
         requires list { IsListNode self.now.plan.now list.now }
         requires follow { CanFollow self.now.plan.now list.now.node list.now.child room (items_of (items.old.items ++ item ∷ [])) }
         requires following { ItemsContinue self.now.plan.now list.now.node list.now.child (items_of (items.old.items ++ item ∷ [])) (stack_of scratch.old.following.items) }
         ensures ok { OnOk result (AddsItems self.now.plan.now list.now.node room (items.old.items ++ item ∷ []) items.new.items) }
         ensures following { OnOk result (ItemsContinue self.now.plan.now list.now.node list.now.child (items_of items.new.items) (stack_of scratch.new.following.items)) }
-        ensures steps { Costs self.now.plan.now scratch.old.meter scratch.new.meter room }
+        ensures steps { Costs self.now.plan.now meter.old meter.new room }
     {
         items.push(item)?;
-        self.first_items(list, room, items, scratch)
+        self.first_items(list, room, items, scratch, meter)
     }
 
     /// Appends the first item of more than `size` nodes, and the first items after it, of `room` and `size` nodes together; or nothing,
@@ -288,17 +308,18 @@ impl<'p, Z: SizeSet> Walk<'p, Z> {
         size: u32,
         items: &mut Vec<Tree>,
         scratch: &mut Scratch<'p>,
+        meter: &mut Meter,
     ) -> Result<NextParts, AllocError>
         requires list { IsListNode self.now.plan.now list.now }
         requires first { AreFirst self.now.plan.now list.now.node list.now.child (items_of items.old.items) }
         requires within { 1 + items_count (items_of items.old.items) + (room + size) ≤ self.now.plan.now.limit }
         ensures ok { IfOk result (λ next. AreGrown next self.now.plan.now list.now.node list.now.child (room + size) (size + 1) items.old.items items.new.items) }
         ensures following { IfOk result (λ next. GrownItemsContinue next self.now.plan.now list.now.node list.now.child (items_of items.new.items) (stack_of scratch.new.following.items)) }
-        ensures steps { Costs self.now.plan.now scratch.old.meter scratch.new.meter (room + size) }
-        ensures last { IfOk result (λ next. KeepsMeter next scratch.old.meter scratch.new.meter) }
+        ensures steps { Costs self.now.plan.now meter.old meter.new (room + size) }
+        ensures last { IfOk result (λ next. KeepsMeter next meter.old meter.new) }
     {
         self.laws_of(list.node);
-        self.grow_items(list, room + size, size + 1, items, scratch)
+        self.grow_items(list, room + size, size + 1, items, scratch, meter)
     }
 
     /// Whether the tree is a list that is a part of the node.

@@ -22,7 +22,7 @@ use crate::siblings::{Chosen, Rows, still_used};
 use crate::sizes::least_split;
 use crate::walk::{NextParts, Scratch, Walk};
 use jtree::{Member, Members, Tree};
-use plan::{PlanNode, SizeSet};
+use plan::{Meter, PlanNode, SizeSet};
 use std::alloc::AllocError;
 
 impl<'p, Z: SizeSet> Walk<'p, Z> {
@@ -34,6 +34,7 @@ impl<'p, Z: SizeSet> Walk<'p, Z> {
         size: u32,
         used: &Rows<'_>,
         scratch: &mut Scratch<'p>,
+        meter: &mut Meter,
     ) -> Result<Tree, AllocError>
         requires node { IsNodeOf self.now.plan.now node }
         requires row { sort_of (site self.now.plan.now node) ≡ sort.Row }
@@ -42,7 +43,7 @@ impl<'p, Z: SizeSet> Walk<'p, Z> {
         requires open { IsOpen self.now.plan.now.pools (slots_from self.now.plan.now node 0) (row_demand self.now.plan.now node (size - 1) (used_rows used.now)) }
         ensures ok { IfOk result (λ v. IsLeast tree_cmp (IsRow self.now.plan.now node (size - 1) (used_rows used.now)) (data_of v)) }
         ensures following { IfOk result (λ v. Continue (IsRow self.now.plan.now node (size - 1) (used_rows used.now)) (data_of v) (stack_of scratch.new.following.items)) }
-        ensures steps { Costs self.now.plan.now scratch.old.meter scratch.new.meter size }
+        ensures steps { Costs self.now.plan.now meter.old meter.new size }
     {
         self.laws_of(node);
         scratch.following.clear();
@@ -60,6 +61,7 @@ impl<'p, Z: SizeSet> Walk<'p, Z> {
             },
             &mut members,
             scratch,
+            meter,
         )?;
         Ok(Tree::Object(Members { members }))
     }
@@ -74,6 +76,7 @@ impl<'p, Z: SizeSet> Walk<'p, Z> {
         ahead: &Ahead<'_>,
         members: &mut Vec<Member>,
         scratch: &mut Scratch<'p>,
+        meter: &mut Meter,
     ) -> Result<(), AllocError>
         requires node { IsNodeOf self.now.plan.now node }
         requires row { sort_of (site self.now.plan.now node) ≡ sort.Row }
@@ -81,10 +84,10 @@ impl<'p, Z: SizeSet> Walk<'p, Z> {
         requires open { IsOpenAt self.now.plan.now node place ahead.now }
         ensures ok { OnOk result (AddsFirstAt self.now.plan.now node place ahead.now members.old.items members.new.items) }
         ensures following { OnOk result (MembersContinue self.now.plan.now.pools (slots_from self.now.plan.now node place) (used_rows ahead.now.used) (drop (length members.old.items) members.new.items) (stack_of scratch.new.following.items)) }
-        ensures steps { CostsSlots self.now.plan.now node place scratch.old.meter scratch.new.meter ahead.now.room }
+        ensures steps { CostsSlots self.now.plan.now node place meter.old meter.new ahead.now.room }
     {
         self.laws_of(node);
-        let Some(slot) = self.plan.slot(node, place, &mut scratch.meter) else {
+        let Some(slot) = self.plan.slot(node, place, meter) else {
             return Ok(());
         };
         let here = RowSlot { node, place, slot };
@@ -94,9 +97,9 @@ impl<'p, Z: SizeSet> Walk<'p, Z> {
                 .rest(self.plan, node, place + 1)
                 .has(ahead.room)
         {
-            return self.first_members(node, place + 1, ahead, members, scratch);
+            return self.first_members(node, place + 1, ahead, members, scratch, meter);
         }
-        self.grow_members(&here, ahead, 0, members, scratch)?;
+        self.grow_members(&here, ahead, 0, members, scratch, meter)?;
         Ok(())
     }
 
@@ -111,13 +114,14 @@ impl<'p, Z: SizeSet> Walk<'p, Z> {
         from: u32,
         members: &mut Vec<Member>,
         scratch: &mut Scratch<'p>,
+        meter: &mut Meter,
     ) -> Result<NextParts, AllocError>
         requires here { IsRowSlot self.now.plan.now here.now }
         requires open { IsOpenAt self.now.plan.now here.now.node here.now.place ahead.now }
         ensures ok { IfOk result (λ next. IsGrownAt next self.now.plan.now here.now ahead.now from members.old.items members.new.items) }
         ensures following { IfOk result (λ next. GrownContinueAt next self.now.plan.now here.now (used_rows ahead.now.used) (drop (length members.old.items) members.new.items) (stack_of scratch.new.following.items)) }
-        ensures steps { CostsAfter self.now.plan.now here.now scratch.old.meter scratch.new.meter ahead.now.room }
-        ensures last { IfOk result (λ next. KeepsMeter next scratch.old.meter scratch.new.meter) }
+        ensures steps { CostsAfter self.now.plan.now here.now meter.old meter.new ahead.now.room }
+        ensures last { IfOk result (λ next. KeepsMeter next meter.old meter.new) }
     {
         self.laws_of(here.node);
         if from > ahead.room {
@@ -128,7 +132,7 @@ impl<'p, Z: SizeSet> Walk<'p, Z> {
         };
         // Before the value is made: the names inside it were kept before this one, so they lie below it.
         let name = take_name(self.alloc, here.slot.name, &mut scratch.spare)?;
-        let tree = self.first_value(here, size, &ahead.used, scratch)?;
+        let tree = self.first_value(here, size, &ahead.used, scratch, meter)?;
         self.put_member(
             here,
             &Ahead {
@@ -139,6 +143,7 @@ impl<'p, Z: SizeSet> Walk<'p, Z> {
             Member { name, tree },
             members,
             scratch,
+            meter,
         )?;
         Ok(NextParts::Made(0))
     }
@@ -151,6 +156,7 @@ impl<'p, Z: SizeSet> Walk<'p, Z> {
         size: u32,
         used: &Rows<'_>,
         scratch: &mut Scratch<'p>,
+        meter: &mut Meter,
     ) -> Result<Tree, AllocError>
         requires here { IsRowSlot self.now.plan.now here.now }
         requires size { HasSizeAt self.now.plan.now here.now.slot.node size }
@@ -159,13 +165,13 @@ impl<'p, Z: SizeSet> Walk<'p, Z> {
         requires free { HasFree self.now.plan.now.pools (filter is_key (slots_at self.now.plan.now here.now)) (used_keys (slots_at self.now.plan.now here.now) (used_rows used.now)) [] }
         ensures ok { IfOk result (λ v. IsLeast tree_cmp (IsValueAt self.now.plan.now here.now (used_rows used.now) size) (data_of v)) }
         ensures following { IfOk result (λ v. Continue (IsValueAt self.now.plan.now here.now (used_rows used.now) size) (data_of v) (stack_of scratch.new.following.items)) }
-        ensures steps { Costs self.now.plan.now scratch.old.meter scratch.new.meter size }
+        ensures steps { Costs self.now.plan.now meter.old meter.new size }
     {
         self.laws_of(here.node);
         if here.slot.key {
-            return self.first_key(&here.slot, size, used, scratch);
+            return self.first_key(&here.slot, size, used, scratch, meter);
         }
-        self.first_part(here.slot.node, size, scratch)
+        self.first_part(here.slot.node, size, scratch, meter)
     }
 
     /// Appends a member, and the first members of `room` nodes after it.
@@ -177,6 +183,7 @@ impl<'p, Z: SizeSet> Walk<'p, Z> {
         member: Member,
         members: &mut Vec<Member>,
         scratch: &mut Scratch<'p>,
+        meter: &mut Meter,
     ) -> Result<(), AllocError>
         requires here { IsRowSlot self.now.plan.now here.now }
         requires name { member.name ≡ (slot_there self.now.plan.now here.now).name }
@@ -186,7 +193,7 @@ impl<'p, Z: SizeSet> Walk<'p, Z> {
         ensures ok { OnOk result (AddsFirstAfter self.now.plan.now here.now (data_of member.tree) ahead.now
             (members.old.items ++ member ∷ []) members.new.items) }
         ensures following { OnOk result (MembersContinueAt self.now.plan.now here.now (used_rows ahead.now.used) (drop (length members.old.items) members.new.items) (stack_of scratch.new.following.items)) }
-        ensures steps { CostsAfter self.now.plan.now here.now scratch.old.meter scratch.new.meter ahead.now.room }
+        ensures steps { CostsAfter self.now.plan.now here.now meter.old meter.new ahead.now.room }
     {
         self.laws_of(here.node);
         if ahead.room == 0 {
@@ -207,6 +214,7 @@ impl<'p, Z: SizeSet> Walk<'p, Z> {
             },
             members,
             scratch,
+            meter,
         )
     }
 

@@ -64,14 +64,11 @@ next_members-returns = next_members.returns
 pub next_at_slot-next_filled_slot-requires : goal.next_at_slot-next_filled_slot-requires
 next_at_slot-next_filled_slot-requires = next_at_slot.next_filled_slot-requires
 
-pub next_at_slot-next_empty_slot-requires : goal.next_at_slot-next_empty_slot-requires
-next_at_slot-next_empty_slot-requires = next_at_slot.next_empty_slot-requires
+pub next_at_slot-returns-clause-steps : goal.next_at_slot-returns-clause-steps
+next_at_slot-returns-clause-steps = next_at_slot.returns-clause-steps
 
-pub next_at_slot-returns-in-Some-clause-steps : goal.next_at_slot-returns-in-Some-clause-steps
-next_at_slot-returns-in-Some-clause-steps = next_at_slot.returns-in-Some-clause-steps
-
-pub next_at_slot-returns-in-None-clause-steps : goal.next_at_slot-returns-in-None-clause-steps
-next_at_slot-returns-in-None-clause-steps = next_at_slot.returns-in-None-clause-steps
+pub next_filled_slot-unreachable-requires : goal.next_filled_slot-unreachable-requires
+next_filled_slot-unreachable-requires = next_filled_slot.unreachable-requires
 
 pub next_filled_slot-overflow_cast-len : goal.next_filled_slot-overflow_cast-len
 next_filled_slot-overflow_cast-len = next_filled_slot.overflow_cast-len

@@ -26,7 +26,7 @@ use Rattle.enumerate.proofs.walk.Walk.next_empty_slot.Goals.{After-laws_of, In_o
 out_of : (g : Over) (c : After-laws_of g) (gs : List (Option Data)) → IsWalkedTo c.args.self.now.plan.now c.args.here.now.node (c.args.here.now.place + 1) c.args.removed.now (used_rows c.args.used.now) c.args.members.now.items gs
     → IsLeftOut c.args.self.now.plan.now c.args.here.now.node c.laws_of.ensures.sound (used_rows c.args.used.now) c.args.here.now.place c.requires.here.slot.first c.args.removed.now c.args.members.now.items gs
 out_of g c gs w =
-    out_walked c.args.self.now.plan.now c.args.here.now.node c.laws_of.ensures.sound (used_rows c.args.used.now) c.args.here.now.place c.requires.here.slot.first c.args.removed.now c.args.members.now.items gs c.requires.used w c.requires.out
+    out_walked c.args.self.now.plan.now c.args.here.now.node c.laws_of.ensures.sound (used_rows c.args.used.now) c.args.here.now.place c.requires.here.slot.first c.args.removed.now c.args.members.now.items gs c.requires.used w c.requires.empty
 
 -- how many members are before it
 many : (g : Over) (c : After-laws_of g) → (c.args.removed.now.room ≡ 0 → ⊥) → c.args.removed.now.before.count ≡ length c.args.members.now.items

@@ -70,7 +70,7 @@ returns-in-Whole g t c =
           let set = c.laws_of.ensures.sound.set (site q k) c.requires.first.item (sym c.distinct.ensures ∙ c.in-Whole.is) in
           IfOk-weaker c.first_unused.result _ _ (λ v h. continue_same (IsUnusedPart q k n (trees_of c.args.items.now)) (IsUnusedItem q i k n (items_of c.args.items.now)) (data_of v) (stack_of c.first_unused.new.scratch.following.items)
           (λ u p. (set_item_unused q i k n c.args.items.now u set).0 p) (λ u f. (set_item_unused q i k n c.args.items.now u set).1 f) h) c.first_unused.ensures.following;
-      steps = costs_within c.args.self.now.plan.now c.args.scratch.now.meter c.first_unused.new.scratch.meter 1 c.args.size (some_size c.requires.size) c.first_unused.ensures.steps;
+      steps = costs_within c.args.self.now.plan.now c.args.meter.now c.first_unused.new.meter 1 c.args.size (some_size c.requires.size) c.first_unused.ensures.steps;
     }
 
 pub first_row-requires : goal.first_item-first_row-requires

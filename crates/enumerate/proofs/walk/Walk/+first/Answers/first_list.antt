@@ -31,7 +31,7 @@ first_items-requires g t c κs within =
 
 pub returns-in_err-first_items-clause-steps : goal.first_list-returns-in_err-first_items-clause-steps
 returns-in_err-first_items-clause-steps g t c =
-    costs_below c.args.self.now.plan.now c.args.scratch.now.meter c.item.new.meter c.first_items.new.scratch.meter (c.args.size - 1) c.args.size c.item.ensures.step (omega (arith, c.if-size-gt1.true)) c.first_items.ensures.steps
+    costs_below c.args.self.now.plan.now c.args.meter.now c.item.new.meter c.first_items.new.meter (c.args.size - 1) c.args.size c.item.ensures.step (omega (arith, c.if-size-gt1.true)) c.first_items.ensures.steps
 
 pub returns : goal.first_list-returns
 returns g t c =
@@ -64,8 +64,8 @@ returns g t c =
           ];
       steps = elim c.if-size-gt1.branch [
         | first_list-then-size-gt1+in-Some+in_ok-first_items b ↦
-            subst (λ s. Costs q c.args.scratch.now.meter s.meter c.args.size) (sym b.scratch-is)
-            (costs_below q c.args.scratch.now.meter b.item.new.meter b.first_items.new.scratch.meter (c.args.size - 1) c.args.size b.item.ensures.step (omega (arith, b.if-size-gt1.true)) b.first_items.ensures.steps)
-        | first_list-else-size-gt1 b ↦ subst (λ s. Costs q c.args.scratch.now.meter s.meter c.args.size) (sym b.scratch-is) (λ w wide. omega arith)
+            subst (λ s. Costs q c.args.meter.now s c.args.size) (sym b.meter-is)
+            (costs_below q c.args.meter.now b.item.new.meter b.first_items.new.meter (c.args.size - 1) c.args.size b.item.ensures.step (omega (arith, b.if-size-gt1.true)) b.first_items.ensures.steps)
+        | first_list-else-size-gt1 b ↦ subst (λ s. Costs q c.args.meter.now s c.args.size) (sym b.meter-is) (λ w wide. omega arith)
       ];
     }

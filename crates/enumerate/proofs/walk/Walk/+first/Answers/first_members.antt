@@ -54,7 +54,7 @@ returns-then-has g t c =
           on_ok_weaker c.first_members.result (λ a. out_adds q c.args.node c.args.place sound s.first (demand_at q c.args.node c.args.ahead.now) c.args.members.now.items c.first_members.new.members.items (omega (arith, c.requires.open.limit, c.laws_of.ensures.limit)) free a)
           c.first_members.ensures.ok;
       following = on_ok_weaker c.first_members.result (λ h. continue_out q c.args.node c.args.place s.first (used_rows c.args.ahead.now.used) (drop (length c.args.members.now.items) c.first_members.new.members.items) (stack_of c.first_members.new.scratch.following.items) free h) c.first_members.ensures.following;
-      steps = costs_wider c.args.self.now.plan.now c.args.node c.args.place c.args.scratch.now.meter c.slot.new.meter c.args.ahead.now.room c.slot.ensures.step (fewer_here g t (goal.at.first_members-returns-then-has g t c).In-Some) c.first_members.new.scratch.meter c.first_members.ensures.steps;
+      steps = costs_wider c.args.self.now.plan.now c.args.node c.args.place c.args.meter.now c.slot.new.meter c.args.ahead.now.room c.slot.ensures.step (fewer_here g t (goal.at.first_members-returns-then-has g t c).In-Some) c.first_members.new.meter c.first_members.ensures.steps;
     }
 
 pub grow_members-requires : goal.first_members-grow_members-requires
@@ -66,7 +66,7 @@ grow_members-requires g t c κs within =
 
 pub returns-in_err-grow_members-clause-steps : goal.first_members-returns-in_err-grow_members-clause-steps
 returns-in_err-grow_members-clause-steps g t c =
-    costs_wider c.args.self.now.plan.now c.args.node c.args.place c.args.scratch.now.meter c.slot.new.meter c.args.ahead.now.room c.slot.ensures.step (fewer_here g t (goal.at.first_members-returns-in_err-grow_members-clause-steps g t c).In-Some) c.grow_members.new.scratch.meter c.grow_members.ensures.steps
+    costs_wider c.args.self.now.plan.now c.args.node c.args.place c.args.meter.now c.slot.new.meter c.args.ahead.now.room c.slot.ensures.step (fewer_here g t (goal.at.first_members-returns-in_err-grow_members-clause-steps g t c).In-Some) c.grow_members.new.meter c.grow_members.ensures.steps
 
 pub returns : goal.first_members-returns
 returns g t c =
@@ -89,5 +89,5 @@ returns g t c =
             | first_members-else-not-here-via-then-not-here+else-has w ↦ let yes = w.has.ensures.1 ((w.rest.ensures c.args.ahead.now.room).1 (omega (arith, c.requires.open.limit), can)) in let no = sym yes ∙ w.if-has.false in cc
             | first_members-else-not-here-via-else-not-here w ↦ let yes = w.if-not-here.false in let no = sym yes ∙ s.must ∙ free in cc
           ]) c.requires.open.can.rest c.in_ok-grow_members.ensures.ok c.in_ok-grow_members.ensures.following;
-      steps = costs_wider c.args.self.now.plan.now c.args.node c.args.place c.args.scratch.now.meter c.slot.new.meter c.args.ahead.now.room c.slot.ensures.step (fewer_here g t (goal.at.first_members-returns g t c).In-Some) c.grow_members.new.scratch.meter c.grow_members.ensures.steps;
+      steps = costs_wider c.args.self.now.plan.now c.args.node c.args.place c.args.meter.now c.slot.new.meter c.args.ahead.now.room c.slot.ensures.step (fewer_here g t (goal.at.first_members-returns g t c).In-Some) c.grow_members.new.meter c.grow_members.ensures.steps;
     }

@@ -105,5 +105,5 @@ returns-in-Leaf g t c =
           let q = c.args.self.now.plan.now in
           let n = c.args.size in
           IfOk-weaker c.first_unused.result _ _ (λ v h. continue_same (IsUnusedPart q c.args.node n []) (IsPartOf q c.args.node n) (data_of v) (stack_of c.first_unused.new.scratch.following.items) (λ u p. p.0) (λ u p. (p, λ k. contained [] _ k)) h) c.first_unused.ensures.following;
-      steps = costs_within c.args.self.now.plan.now c.args.scratch.now.meter c.first_unused.new.scratch.meter 1 c.args.size (some_size c.requires.size) c.first_unused.ensures.steps;
+      steps = costs_within c.args.self.now.plan.now c.args.meter.now c.first_unused.new.meter 1 c.args.size (some_size c.requires.size) c.first_unused.ensures.steps;
     }

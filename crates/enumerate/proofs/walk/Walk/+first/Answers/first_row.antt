@@ -27,9 +27,9 @@ row_adds g t c =
     subst (λ old. AddsFirst q.pools (slots_from q c.args.node 0) d old c.first_members.new.members.items) c.new-members.ensures.items
     (subst (λ x. AddsFirst q.pools (slots_from q c.args.node 0) (record d { before = x }) c.new-members.result.items c.first_members.new.members.items) c.nothing.ensures c.in_ok-first_members.ensures.ok)
 
-row_cost : (g : Over) (t : ℕ) (c : first_row-After-first_members g t) → Costs c.args.self.now.plan.now c.args.scratch.now.meter c.first_members.new.scratch.meter c.args.size
+row_cost : (g : Over) (t : ℕ) (c : first_row-After-first_members g t) → Costs c.args.self.now.plan.now c.args.meter.now c.first_members.new.meter c.args.size
 row_cost g t c =
-    costs_row c.args.self.now.plan.now c.args.node c.args.scratch.now.meter c.first_members.new.scratch.meter (c.args.size - 1) c.args.size c.requires.node c.requires.row (omega (arith, c.requires.some)) c.first_members.ensures.steps
+    costs_row c.args.self.now.plan.now c.args.node c.args.meter.now c.first_members.new.meter (c.args.size - 1) c.args.size c.requires.node c.requires.row (omega (arith, c.requires.some)) c.first_members.ensures.steps
 
 pub first_members-requires : goal.first_row-first_members-requires
 first_members-requires g t c κs within =

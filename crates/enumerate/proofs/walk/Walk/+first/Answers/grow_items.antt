@@ -15,11 +15,11 @@ use Rattle.enumerate.proofs.walk.Walk.+first.Goals.{grow_items-After-first_item,
 use Rattle.plan.specs.Sets.{IsLeastFrom, IsEmptyFrom}
 
 -- the item, and those after it
-item_cost : (g : Over) (t : ℕ) (c : grow_items-After-first_item g t) → Costs c.args.self.now.plan.now c.args.scratch.now.meter c.first_item.new.scratch.meter c.args.room
-item_cost g t c = costs_within c.args.self.now.plan.now c.args.scratch.now.meter c.first_item.new.scratch.meter c.in-Some.size c.args.room (part_within c.in-Some.size c.in-Some.ensures.1.1.0 c.args.room c.in-Some.ensures.1.1.1.1) c.first_item.ensures.steps
+item_cost : (g : Over) (t : ℕ) (c : grow_items-After-first_item g t) → Costs c.args.self.now.plan.now c.args.meter.now c.first_item.new.meter c.args.room
+item_cost g t c = costs_within c.args.self.now.plan.now c.args.meter.now c.first_item.new.meter c.in-Some.size c.args.room (part_within c.in-Some.size c.in-Some.ensures.1.1.0 c.args.room c.in-Some.ensures.1.1.1.1) c.first_item.ensures.steps
 
-items_cost : (g : Over) (t : ℕ) (c : grow_items-After-first_items g t) → Costs c.args.self.now.plan.now c.args.scratch.now.meter c.first_items.new.scratch.meter c.args.room
-items_cost g t c = costs_both c.args.self.now.plan.now c.args.scratch.now.meter c.first_item.new.scratch.meter c.first_items.new.scratch.meter c.in-Some.size c.args.room (part_within c.in-Some.size c.in-Some.ensures.1.1.0 c.args.room c.in-Some.ensures.1.1.1.1) c.first_item.ensures.steps c.first_items.ensures.steps
+items_cost : (g : Over) (t : ℕ) (c : grow_items-After-first_items g t) → Costs c.args.self.now.plan.now c.args.meter.now c.first_items.new.meter c.args.room
+items_cost g t c = costs_both c.args.self.now.plan.now c.args.meter.now c.first_item.new.meter c.first_items.new.meter c.in-Some.size c.args.room (part_within c.in-Some.size c.in-Some.ensures.1.1.0 c.args.room c.in-Some.ensures.1.1.1.1) c.first_item.ensures.steps c.first_items.ensures.steps
 
 pub returns-in_default : goal.grow_items-returns-in_default
 returns-in_default g t c =

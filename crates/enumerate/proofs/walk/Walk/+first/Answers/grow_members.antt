@@ -68,14 +68,14 @@ returns g t c =
         refl,
       );
       following = c.in_ok-put_member.ensures.following;
-      steps = costs_both_slots c.args.self.now.plan.now c.args.here.now.node (c.args.here.now.place + 1) c.args.scratch.now.meter c.first_value.new.scratch.meter c.put_member.new.scratch.meter c.in-Some.size c.args.ahead.now.room (part_within c.in-Some.size c.in-Some.ensures.1.1.0 c.args.ahead.now.room c.in-Some.ensures.1.1.1.1) c.first_value.ensures.steps c.put_member.ensures.steps;
+      steps = costs_both_slots c.args.self.now.plan.now c.args.here.now.node (c.args.here.now.place + 1) c.args.meter.now c.first_value.new.meter c.put_member.new.meter c.in-Some.size c.args.ahead.now.room (part_within c.in-Some.size c.in-Some.ensures.1.1.0 c.args.ahead.now.room c.in-Some.ensures.1.1.1.1) c.first_value.ensures.steps c.put_member.ensures.steps;
       last = tt;
     }
 
 pub returns-in_err-tree-clause-steps : goal.grow_members-returns-in_err-tree-clause-steps
 returns-in_err-tree-clause-steps g t c =
-    costs_slots c.args.self.now.plan.now c.args.here.now.node (c.args.here.now.place + 1) c.args.scratch.now.meter c.first_value.new.scratch.meter c.in-Some.size c.args.ahead.now.room (part_within c.in-Some.size c.in-Some.ensures.1.1.0 c.args.ahead.now.room c.in-Some.ensures.1.1.1.1) c.first_value.ensures.steps
+    costs_slots c.args.self.now.plan.now c.args.here.now.node (c.args.here.now.place + 1) c.args.meter.now c.first_value.new.meter c.in-Some.size c.args.ahead.now.room (part_within c.in-Some.size c.in-Some.ensures.1.1.0 c.args.ahead.now.room c.in-Some.ensures.1.1.1.1) c.first_value.ensures.steps
 
 pub returns-in_err-put_member-clause-steps : goal.grow_members-returns-in_err-put_member-clause-steps
 returns-in_err-put_member-clause-steps g t c =
-    costs_both_slots c.args.self.now.plan.now c.args.here.now.node (c.args.here.now.place + 1) c.args.scratch.now.meter c.first_value.new.scratch.meter c.put_member.new.scratch.meter c.in-Some.size c.args.ahead.now.room (part_within c.in-Some.size c.in-Some.ensures.1.1.0 c.args.ahead.now.room c.in-Some.ensures.1.1.1.1) c.first_value.ensures.steps c.put_member.ensures.steps
+    costs_both_slots c.args.self.now.plan.now c.args.here.now.node (c.args.here.now.place + 1) c.args.meter.now c.first_value.new.meter c.put_member.new.meter c.in-Some.size c.args.ahead.now.room (part_within c.in-Some.size c.in-Some.ensures.1.1.0 c.args.ahead.now.room c.in-Some.ensures.1.1.1.1) c.first_value.ensures.steps c.put_member.ensures.steps

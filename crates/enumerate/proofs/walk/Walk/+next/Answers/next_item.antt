@@ -78,7 +78,7 @@ returns-in-Whole g t c =
           (λ u p. (set_item_unused q i k n c.args.items.now u set).0 p) (λ u f. (set_item_unused q i k n c.args.items.now u set).1 f) h) c.next_unused.ensures.ok;
       following = IfOk-weaker c.next_unused.result _ _ (λ m h. moved_continues_same (IsUnusedPart q k n (trees_of c.args.items.now)) (IsUnusedItem q i k n (items_of c.args.items.now)) m (stack_of c.next_unused.new.scratch.following.items)
           (λ u p. (set_item_unused q i k n c.args.items.now u set).0 p) (λ u f. (set_item_unused q i k n c.args.items.now u set).1 f) h) c.next_unused.ensures.following;
-      steps = (costs_thrice c.args.self.now.plan.now c.args.scratch.now.meter c.next_unused.new.scratch.meter (node_count (data_of c.args.item)) (some_nodes (data_of c.args.item)) c.next_unused.ensures.steps, IfOk-weaker c.next_unused.result _ _ (λ m h. costs_less c.args.self.now.plan.now m c.args.scratch.now.meter c.next_unused.new.scratch.meter (node_count (data_of c.args.item)) (some_nodes (data_of c.args.item)) c.next_unused.ensures.steps) c.next_unused.ensures.ok);
+      steps = (costs_thrice c.args.self.now.plan.now c.args.meter.now c.next_unused.new.meter (node_count (data_of c.args.item)) (some_nodes (data_of c.args.item)) c.next_unused.ensures.steps, IfOk-weaker c.next_unused.result _ _ (λ m h. costs_less c.args.self.now.plan.now m c.args.meter.now c.next_unused.new.meter (node_count (data_of c.args.item)) (some_nodes (data_of c.args.item)) c.next_unused.ensures.steps) c.next_unused.ensures.ok);
     }
 
 pub returns-in-Keys : goal.next_item-returns-in-Keys

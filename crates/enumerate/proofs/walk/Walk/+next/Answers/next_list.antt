@@ -20,12 +20,12 @@ use Rattle.enumerate.proofs.walk.Walk.+next.Given.{Over}
 use Rattle.enumerate.proofs.walk.Walk.+next.Goals as goal
 use Rattle.enumerate.proofs.walk.Walk.+next.Goals.{next_list-After-next_items}
 
-list_cost : (g : Over) (t : ℕ) (c : next_list-After-next_items g t) → Costs c.args.self.now.plan.now c.args.scratch.now.meter c.next_items.new.scratch.meter (3 * node_count (data_of c.args.tree))
+list_cost : (g : Over) (t : ℕ) (c : next_list-After-next_items g t) → Costs c.args.self.now.plan.now c.args.meter.now c.next_items.new.meter (3 * node_count (data_of c.args.tree))
 list_cost g t c =
     let q = c.args.self.now.plan.now in
     let m = items_count (items_of c.in-Some.items.items) in
     let count : node_count (data_of c.args.tree) ≡ 1 + m = ap node_count c.in-Some.ensures.some in
-    costs_within q c.args.scratch.now.meter c.next_items.new.scratch.meter (1 + 3 * m) (3 * node_count (data_of c.args.tree)) (omega (arith, count)) (costs_below q c.args.scratch.now.meter c.item.new.meter c.next_items.new.scratch.meter (3 * m) (1 + 3 * m) c.item.ensures.step refl c.next_items.ensures.steps.0)
+    costs_within q c.args.meter.now c.next_items.new.meter (1 + 3 * m) (3 * node_count (data_of c.args.tree)) (omega (arith, count)) (costs_below q c.args.meter.now c.item.new.meter c.next_items.new.meter (3 * m) (1 + 3 * m) c.item.ensures.step refl c.next_items.ensures.steps.0)
 
 pub unreachable-requires : goal.next_list-unreachable-requires
 unreachable-requires g t c =
@@ -129,6 +129,6 @@ returns-in-Last g t c =
         list_cost g t (goal.at.next_list-returns-in-Last g t c).After-next_items,
         let m = items_count (items_of c.in-Some.items.items) in
             let count : node_count (data_of c.args.tree) ≡ 1 + m = ap node_count c.in-Some.ensures.some in
-            costs_below q c.args.scratch.now.meter c.item.new.meter c.next_items.new.scratch.meter (2 * m) (2 * node_count (data_of c.args.tree) - 1) c.item.ensures.step (omega (arith, count)) (subst (λ s. CostsLastParts s q c.item.new.meter c.next_items.new.scratch.meter (2 * m)) c.in-Last.is c.in_ok-depth.ensures.steps.1),
+            costs_below q c.args.meter.now c.item.new.meter c.next_items.new.meter (2 * m) (2 * node_count (data_of c.args.tree) - 1) c.item.ensures.step (omega (arith, count)) (subst (λ s. CostsLastParts s q c.item.new.meter c.next_items.new.meter (2 * m)) c.in-Last.is c.in_ok-depth.ensures.steps.1),
       );
     }

@@ -33,7 +33,7 @@ no_value_here g t c =
 
 pub returns-in_err-tree-clause-steps : goal.next_member-returns-in_err-tree-clause-steps
 returns-in_err-tree-clause-steps g t c =
-    (costs_slots c.args.self.now.plan.now c.args.here.now.node (c.args.here.now.place + 1) c.args.scratch.now.meter c.next_value.new.scratch.meter (3 * node_count (data_of c.args.member.tree)) (3 * node_count (data_of c.args.member.tree) + c.args.ahead.now.room) (omega arith) c.next_value.ensures.steps.0, search rules)
+    (costs_slots c.args.self.now.plan.now c.args.here.now.node (c.args.here.now.place + 1) c.args.meter.now c.next_value.new.meter (3 * node_count (data_of c.args.member.tree)) (3 * node_count (data_of c.args.member.tree) + c.args.ahead.now.room) (omega arith) c.next_value.ensures.steps.0, search rules)
 
 pub below-depth-requires : goal.next_member-below-depth-requires
 below-depth-requires g t c =
@@ -69,7 +69,7 @@ put_member-requires g t c =
           };
     }
 
-put_cost : (g : Over) (t : ℕ) (c : next_member-After-put_member g t) → CostsAfter c.args.self.now.plan.now c.args.here.now c.args.scratch.now.meter c.put_member.new.scratch.meter (3 * node_count (data_of c.args.member.tree) + c.args.ahead.now.room)
+put_cost : (g : Over) (t : ℕ) (c : next_member-After-put_member g t) → CostsAfter c.args.self.now.plan.now c.args.here.now c.args.meter.now c.put_member.new.meter (3 * node_count (data_of c.args.member.tree) + c.args.ahead.now.room)
 put_cost g t c = let n = 3 * node_count (data_of c.args.member.tree) in λ w wide. omega (arith, split_cost w n c.args.ahead.now.room (n + c.args.ahead.now.room) (omega arith), c.next_value.ensures.steps.0 w wide, c.put_member.ensures.steps w wide)
 
 pub returns-in_err-put_member-in-To-clause-steps : goal.next_member-returns-in_err-put_member-in-To-clause-steps
@@ -117,7 +117,7 @@ pub returns-in-Last : goal.next_member-returns-in-Last
 returns-in-Last g t c =
     let q = c.args.self.now.plan.now in
     let n = node_count (data_of c.args.member.tree) in
-    let last = subst (λ m. CostsLast m q c.args.scratch.now.meter c.next_value.new.scratch.meter n) c.in-Last.is c.in_ok-tree.ensures.steps.1 in
+    let last = subst (λ m. CostsLast m q c.args.meter.now c.next_value.new.meter n) c.in-Last.is c.in_ok-tree.ensures.steps.1 in
     let here = c.args.here.now in
     let a = c.args.ahead.now in
     let size = c.in-Last.size in
@@ -137,6 +137,6 @@ returns-in-Last g t c =
         let none = no_value_here g t (goal.at.next_member-returns-in-Last g t c).In-Last in
             let few : 2 * n - 1 + (c.args.ahead.now.room + c.in-Last.size) ≤ 3 * n + c.args.ahead.now.room = omega (arith, none.1) in
             λ w wide. omega (arith, cost_within w (2 * n - 1 + (c.args.ahead.now.room + c.in-Last.size)) (3 * n + c.args.ahead.now.room) few, split_cost w (2 * n - 1) (c.args.ahead.now.room + c.in-Last.size) (2 * n - 1 + (c.args.ahead.now.room + c.in-Last.size)) refl, last w wide, c.grow_larger_members.ensures.steps w wide),
-        IfOk-weaker c.grow_larger_members.result _ _ (λ st k. parts_kept st q c.args.scratch.now.meter c.next_value.new.scratch.meter c.grow_larger_members.new.scratch.meter (2 * n - 1) last k) c.grow_larger_members.ensures.last,
+        IfOk-weaker c.grow_larger_members.result _ _ (λ st k. parts_kept st q c.args.meter.now c.next_value.new.meter c.grow_larger_members.new.meter (2 * n - 1) last k) c.grow_larger_members.ensures.last,
       );
     }

@@ -16,13 +16,13 @@ use Rattle.enumerate.proofs.walk.Walk.+next.Given.{Over}
 use Rattle.enumerate.proofs.walk.Walk.+next.Goals as goal
 
 -- what it took to the slot, and at it
-cost_here : (g : Over) (t : ℕ) (c : next_members-After-next_at_slot g t) → CostsWalk c.args.self.now.plan.now c.args.node c.args.scratch.now.meter c.next_at_slot.new.scratch.meter (members_count (members_of c.args.members.now.items))
+cost_here : (g : Over) (t : ℕ) (c : next_members-After-next_at_slot g t) → CostsWalk c.args.self.now.plan.now c.args.node c.args.meter.now c.next_at_slot.new.meter (members_count (members_of c.args.members.now.items))
 cost_here g t c =
     let q = c.args.self.now.plan.now in
     let l = c.loop-place in
     let nodes = kept_nodes q c.args.node l.place l.removed (used_rows c.args.used.now) c.args.members.now.items l.members.items c.requires.in_slots.0 c.requires.in_slots.1 (l.invariant.walked c.requires.in_slots.0 c.requires.in_slots.1) in
-    let at_slot : CostsFrom q c.args.node l.scratch.meter c.next_at_slot.new.scratch.meter (3 * members_count (members_of l.members.items) + l.removed.room) = λ w wide. omega (arith, c.slot_at-slot.ensures.step, c.next_at_slot.ensures.steps.0 w wide) in
-    walk_cost q c.args.node c.args.scratch.now.meter l.scratch.meter c.next_at_slot.new.scratch.meter l.place l.removed.room (members_count (members_of l.members.items)) (members_count (members_of c.args.members.now.items)) nodes l.invariant.steps at_slot
+    let at_slot : CostsFrom q c.args.node l.meter c.next_at_slot.new.meter (3 * members_count (members_of l.members.items) + l.removed.room) = λ w wide. omega (arith, c.slot_at-slot.ensures.step, c.next_at_slot.ensures.steps.0 w wide) in
+    walk_cost q c.args.node c.args.meter.now l.meter c.next_at_slot.new.meter l.place l.removed.room (members_count (members_of l.members.items)) (members_count (members_of c.args.members.now.items)) nodes l.invariant.steps at_slot
 
 pub loop-place-init : goal.next_members-loop-place-init
 loop-place-init g t c =
@@ -93,7 +93,7 @@ loop-place-preserved g t c =
     let used = used_rows c.args.used.now in
     let l = c.loop-place in
     let back : l.place ≡ l.place - 1 + 1 = omega (arith, c.loop-place-test.true) in
-    let last = subst (λ st. CostsLastFrom st q l.removed.room c.slot_at-slot.new.meter c.next_at_slot.new.scratch.meter) c.in-Last.is c.in_ok-depth.ensures.steps.1 in
+    let last = subst (λ st. CostsLastFrom st q l.removed.room c.slot_at-slot.new.meter c.next_at_slot.new.meter) c.in-Last.is c.in_ok-depth.ensures.steps.1 in
     record {
       within = omega (arith, l.invariant.within);
       walked = λ gs h.

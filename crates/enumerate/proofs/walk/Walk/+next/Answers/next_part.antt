@@ -50,7 +50,7 @@ returns-in_default g t c =
     record {
       ok = subst (λ v. IsNextTree (IsPartOf q c.args.node (node_count v)) v c.after_null.result) (sym null) c.after_null.ensures;
       following = none_continues (IsPartOf q c.args.node (node_count (data_of c.args.tree))) c.after_null.result (stack_of c.clear.new.self.items) (ap stack_of c.clear.ensures.items);
-      steps = (λ w wide. omega arith, costs_last c.after_null.result q c.args.scratch.now.meter c.args.scratch.now.meter (node_count (data_of c.args.tree)) (λ w wide. omega arith));
+      steps = (λ w wide. omega arith, costs_last c.after_null.result q c.args.meter.now c.args.meter.now (node_count (data_of c.args.tree)) (λ w wide. omega arith));
     }
 
 pub returns-in-Row : goal.next_part-returns-in-Row
@@ -70,5 +70,5 @@ returns-in-Leaf g t c =
     record {
       ok = IfOk-weaker c.next_unused.result _ _ (λ m h. moved_same (IsUnusedPart q c.args.node n []) (IsPartOf q c.args.node n) (data_of c.args.tree) m (λ u p. p.0) (λ u p. (p, λ k. contained [] _ k)) h) c.next_unused.ensures.ok;
       following = IfOk-weaker c.next_unused.result _ _ (λ m h. moved_continues_same (IsUnusedPart q c.args.node n []) (IsPartOf q c.args.node n) m (stack_of c.next_unused.new.scratch.following.items) (λ u p. p.0) (λ u p. (p, λ k. contained [] _ k)) h) c.next_unused.ensures.following;
-      steps = (costs_thrice c.args.self.now.plan.now c.args.scratch.now.meter c.next_unused.new.scratch.meter (node_count (data_of c.args.tree)) (some_nodes (data_of c.args.tree)) c.next_unused.ensures.steps, IfOk-weaker c.next_unused.result _ _ (λ m h. costs_less c.args.self.now.plan.now m c.args.scratch.now.meter c.next_unused.new.scratch.meter (node_count (data_of c.args.tree)) (some_nodes (data_of c.args.tree)) c.next_unused.ensures.steps) c.next_unused.ensures.ok);
+      steps = (costs_thrice c.args.self.now.plan.now c.args.meter.now c.next_unused.new.meter (node_count (data_of c.args.tree)) (some_nodes (data_of c.args.tree)) c.next_unused.ensures.steps, IfOk-weaker c.next_unused.result _ _ (λ m h. costs_less c.args.self.now.plan.now m c.args.meter.now c.next_unused.new.meter (node_count (data_of c.args.tree)) (some_nodes (data_of c.args.tree)) c.next_unused.ensures.steps) c.next_unused.ensures.ok);
     }
