@@ -1,6 +1,7 @@
 //! Samples of a plan, by their sizes.
-ghost use Rattle.std.specs.Prelude.{IfOk, ◌*◌, ◌↔◌, IsTrue, IfSome};
+ghost use Rattle.std.specs.Prelude.{IfOk, ◌*◌, IfSome};
 ghost use Rattle.jtree.specs.View.{data_of};
+ghost use Rattle.enumerate.specs.Internal.Answers.{Decides};
 ghost use Rattle.enumerate.specs.Page.{IsSampleOf};
 ghost use Rattle.enumerate.specs.View.{tree_of};
 ghost use Rattle.enumerate.specs.Internal.Candidates.{stack_of};
@@ -66,8 +67,7 @@ impl<'p, Z: SizeSet> Walk<'p, Z> {
 
     /// Whether the tree is a sample.
     pub(crate) fn is_sample(&self, tree: &Tree, meter: &mut Meter) -> Result<bool, AllocError>
-        ensures ok { IfOk result (λ is. IsTrue is ↔ IsSampleOf self.now.plan.now (data_of tree.now)) }
-        ensures steps { Costs self.now.plan.now meter.old meter.new self.now.plan.now.limit }
+        ensures { Decides result (IsSampleOf self.now.plan.now (data_of tree.now)) (Costs self.now.plan.now meter.old meter.new self.now.plan.now.limit) }
     {
         if tree.nodes() > self.plan.limit() as u64 {
             return Ok(false);

@@ -1,19 +1,18 @@
 //! The next members of a row.
-ghost use Rattle.std.specs.Prelude.{◌≡◌, ◌+◌, ◌-◌, ◌≤◌, ◌<◌, ℕ, List, length, drop, IfOk, ◌*◌, Option, Some, ◌↔◌, IsTrue, IfSome, true, None, ◌≢◌, IfNone, All};
+ghost use Rattle.std.specs.Prelude.{◌≡◌, ◌+◌, ◌-◌, ◌≤◌, ◌<◌, ℕ, ◌*◌, Option, Some, ◌↔◌, IsTrue, IfSome, true, None, ◌≢◌, IfNone, All};
 ghost use Rattle.jtree.specs.Data.{Data, Members as MembersData, object as object_data};
 ghost use Rattle.jtree.specs.Nodes.{node_count, members_count};
 ghost use Rattle.jtree.specs.View.{data_of, members_of};
-ghost use Rattle.plan.specs.Samples.Candidates.{sort_of};
 ghost use Rattle.plan.specs.Samples.Part.{IsPart};
 ghost use Rattle.enumerate.specs.Page.{IsPast};
-ghost use Rattle.enumerate.specs.Internal.Candidates.{used_rows, stack_of};
-ghost use Rattle.enumerate.specs.Internal.Following.{GrownContinueAt, ContinueNext, GrownContinue};
-ghost use Rattle.enumerate.specs.Internal.Moves.{IsNextTree, AreInSlots, demand_of, MovesMembers, MovesMember, WasAt};
-ghost use Rattle.enumerate.specs.Internal.Nodes.{site, IsNodeOf};
+ghost use Rattle.enumerate.specs.Internal.Answers.{MovesRemoved, MovesRow, FindsNext, GrowsAt, MovesAt};
+ghost use Rattle.enumerate.specs.Internal.Candidates.{used_rows};
+ghost use Rattle.enumerate.specs.Internal.Moves.{AreMembersOf, WasAt};
+ghost use Rattle.enumerate.specs.Internal.Nodes.{IsNodeOfSort, site};
 ghost use Rattle.enumerate.specs.Internal.Prefixes.{EndsIn};
-ghost use Rattle.enumerate.specs.Internal.Rows.{slots_from, IsRow, slot_there, IsRowSlot, IsOpenAt, IsGrownAt, IsValueAt, AreUsedAt, CostsAfter, AreUsed, FitsAt, larger};
-ghost use Rattle.enumerate.specs.Internal.Steps.{KeepsMeter, CostsMembers, CostsTree, CostsMember};
-ghost use Rattle.enumerate.specs.Internal.Walks.{IsWalkedTo, AreLeft, MovesSlot, CostsSlot};
+ghost use Rattle.enumerate.specs.Internal.Rows.{HasRoom, slots_from, IsRow, slot_there, IsRowSlot, IsOpenAt, IsValueAt, AreUsedAt, AreUsed, FitsAt, larger};
+ghost use Rattle.enumerate.specs.Internal.Steps.{CostsTree};
+ghost use Rattle.enumerate.specs.Internal.Walks.{IsReached, CostsSlot};
 ghost use Rattle.plan.specs.declared.sort.Sort.TheVariants as sort;
 
 use crate::names::keep_name;
@@ -37,14 +36,11 @@ impl<'p, Z: SizeSet> Walk<'p, Z> {
         scratch: &mut Scratch<'p>,
         meter: &mut Meter,
     ) -> Result<NextTree, AllocError>
-        requires node { IsNodeOf self.now.plan.now node }
-        requires sort { sort_of (site self.now.plan.now node) ≡ sort.Row }
+        requires node { IsNodeOfSort self.now.plan.now node sort.Row }
         requires known { AreUsed self.now.plan.now.pools (slots_from self.now.plan.now node 0) (used_rows used.now) }
         requires row { IsRow self.now.plan.now node (node_count (data_of tree) - 1) (used_rows used.now) (data_of tree) }
         requires limit { node_count (data_of tree) ≤ self.now.plan.now.limit }
-        ensures ok { IfOk result (λ next. IsNextTree (IsRow self.now.plan.now node (node_count (data_of tree) - 1) (used_rows used.now)) (data_of tree) next) }
-        ensures following { IfOk result (λ next. ContinueNext (IsRow self.now.plan.now node (node_count (data_of tree) - 1) (used_rows used.now)) next (stack_of scratch.new.following.items)) }
-        ensures steps { CostsTree result self.now.plan.now meter.old meter.new (node_count (data_of tree)) }
+        ensures { FindsNext result (IsRow self.now.plan.now node (node_count (data_of tree) - 1) (used_rows used.now)) (data_of tree) scratch.new.following.items (CostsTree result self.now.plan.now meter.old meter.new (node_count (data_of tree))) }
     {
         self.laws_of(node);
         let Some(mut members) = into_members(tree) else {
@@ -67,14 +63,8 @@ impl<'p, Z: SizeSet> Walk<'p, Z> {
         scratch: &mut Scratch<'p>,
         meter: &mut Meter,
     ) -> Result<NextParts, AllocError>
-        requires node { IsNodeOf self.now.plan.now node }
-        requires row { sort_of (site self.now.plan.now node) ≡ sort.Row }
-        requires used { AreUsed self.now.plan.now.pools (slots_from self.now.plan.now node 0) (used_rows used.now) }
-        requires in_slots { (gs : List (Option Data)) × AreInSlots self.now.plan.now.pools (slots_from self.now.plan.now node 0) (demand_of self.now.plan.now node (used_rows used.now) gs) members.old.items gs }
-        requires limit { members_count (members_of members.old.items) < self.now.plan.now.limit }
-        ensures ok { IfOk result (λ next. MovesMembers next self.now.plan.now node (used_rows used.now) members.old.items members.new.items) }
-        ensures following { IfOk result (λ next. GrownContinue next self.now.plan.now.pools (slots_from self.now.plan.now node 0) (used_rows used.now) members.new.items (stack_of scratch.new.following.items)) }
-        ensures steps { CostsMembers result self.now.plan.now node meter.old meter.new (members_count (members_of members.old.items)) }
+        requires { AreMembersOf self.now.plan.now node (used_rows used.now) members.old.items }
+        ensures { MovesRow result self.now.plan.now node (used_rows used.now) members.old.items members.new.items scratch.new.following.items meter.old meter.new }
     {
         self.laws_of(node);
         let mut removed = Removed {
@@ -106,13 +96,8 @@ impl<'p, Z: SizeSet> Walk<'p, Z> {
         scratch: &mut Scratch<'p>,
         meter: &mut Meter,
     ) -> Result<NextParts, AllocError>
-        requires here { IsRowSlot self.now.plan.now here.now }
-        requires used { AreUsed self.now.plan.now.pools (slots_from self.now.plan.now here.now.node 0) (used_rows used.now) }
-        requires walked { (gs : List (Option Data)) × IsWalkedTo self.now.plan.now here.now.node (here.now.place + 1) removed.old (used_rows used.now) members.old.items gs }
-        requires limit { members_count (members_of members.old.items) + removed.old.room < self.now.plan.now.limit }
-        ensures ok { IfOk result (λ next. MovesSlot next self.now.plan.now here.now removed.old (used_rows used.now) members.old.items removed.new members.new.items) }
-        ensures following { IfOk result (λ next. GrownContinue next self.now.plan.now.pools (slots_from self.now.plan.now here.now.node 0) (used_rows used.now) members.new.items (stack_of scratch.new.following.items)) }
-        ensures steps { CostsSlot result self.now.plan.now here.now.node removed.old.room meter.old meter.new (3 * members_count (members_of members.old.items) + removed.old.room) }
+        requires { IsReached self.now.plan.now here.now removed.old (used_rows used.now) members.old.items }
+        ensures { MovesAt result self.now.plan.now here.now removed.old (used_rows used.now) members.old.items removed.new members.new.items scratch.new.following.items (CostsSlot result self.now.plan.now here.now.node removed.old.room meter.old meter.new (3 * members_count (members_of members.old.items) + removed.old.room)) }
     {
         self.laws_of(here.node);
         if ends_in(members.as_slice(), here.slot.name) {
@@ -132,14 +117,9 @@ impl<'p, Z: SizeSet> Walk<'p, Z> {
         scratch: &mut Scratch<'p>,
         meter: &mut Meter,
     ) -> Result<NextParts, AllocError>
-        requires here { IsRowSlot self.now.plan.now here.now }
-        requires used { AreUsed self.now.plan.now.pools (slots_from self.now.plan.now here.now.node 0) (used_rows used.now) }
+        requires reached { IsReached self.now.plan.now here.now removed.old (used_rows used.now) members.old.items }
         requires filled { EndsIn (slot_there self.now.plan.now here.now).name members.old.items }
-        requires walked { (gs : List (Option Data)) × IsWalkedTo self.now.plan.now here.now.node (here.now.place + 1) removed.old (used_rows used.now) members.old.items gs }
-        requires limit { members_count (members_of members.old.items) + removed.old.room < self.now.plan.now.limit }
-        ensures ok { IfOk result (λ next. MovesSlot next self.now.plan.now here.now removed.old (used_rows used.now) members.old.items removed.new members.new.items) }
-        ensures following { IfOk result (λ next. GrownContinue next self.now.plan.now.pools (slots_from self.now.plan.now here.now.node 0) (used_rows used.now) members.new.items (stack_of scratch.new.following.items)) }
-        ensures steps { CostsSlot result self.now.plan.now here.now.node removed.old.room meter.old meter.new (3 * members_count (members_of members.old.items) + removed.old.room) }
+        ensures { MovesAt result self.now.plan.now here.now removed.old (used_rows used.now) members.old.items removed.new members.new.items scratch.new.following.items (CostsSlot result self.now.plan.now here.now.node removed.old.room meter.old meter.new (3 * members_count (members_of members.old.items) + removed.old.room)) }
     {
         self.laws_of(here.node);
         let Some(member) = members.pop() else {
@@ -171,14 +151,9 @@ impl<'p, Z: SizeSet> Walk<'p, Z> {
         scratch: &mut Scratch<'p>,
         meter: &mut Meter,
     ) -> Result<NextParts, AllocError>
-        requires here { IsRowSlot self.now.plan.now here.now }
-        requires used { AreUsed self.now.plan.now.pools (slots_from self.now.plan.now here.now.node 0) (used_rows used.now) }
+        requires reached { IsReached self.now.plan.now here.now removed.now (used_rows used.now) members.old.items }
         requires empty { EndsIn (slot_there self.now.plan.now here.now).name members.old.items → ⊥ }
-        requires walked { (gs : List (Option Data)) × IsWalkedTo self.now.plan.now here.now.node (here.now.place + 1) removed.now (used_rows used.now) members.old.items gs }
-        requires limit { members_count (members_of members.old.items) + removed.now.room < self.now.plan.now.limit }
-        ensures ok { IfOk result (λ next. MovesSlot next self.now.plan.now here.now removed.now (used_rows used.now) members.old.items removed.now members.new.items) }
-        ensures following { IfOk result (λ next. GrownContinue next self.now.plan.now.pools (slots_from self.now.plan.now here.now.node 0) (used_rows used.now) members.new.items (stack_of scratch.new.following.items)) }
-        ensures steps { CostsSlot result self.now.plan.now here.now.node removed.now.room meter.old meter.new removed.now.room }
+        ensures { MovesAt result self.now.plan.now here.now removed.now (used_rows used.now) members.old.items removed.now members.new.items scratch.new.following.items (CostsSlot result self.now.plan.now here.now.node removed.now.room meter.old meter.new removed.now.room) }
     {
         self.laws_of(here.node);
         if removed.room == 0 || !self.fits(here, removed.before, removed.room) {
@@ -198,9 +173,7 @@ impl<'p, Z: SizeSet> Walk<'p, Z> {
 
     /// Whether a part in the slot, and those after it, can have so many nodes together.
     fn fits(&self, here: &RowSlot<'_>, before: Before, room: u32) -> bool
-        requires here { IsRowSlot self.now.plan.now here.now }
-        requires count { before.count ≤ here.now.place }
-        requires limit { before.count + room < self.now.plan.now.limit }
+        requires { HasRoom self.now.plan.now here.now before room }
         ensures { IsTrue result ↔ ((n : ℕ) × FitsAt self.now.plan.now here.now before room n) }
     {
         self.least_value(here, before, room, 0).is_some()
@@ -220,10 +193,7 @@ impl<'p, Z: SizeSet> Walk<'p, Z> {
     ) -> Result<NextParts, AllocError>
         requires here { IsRowSlot self.now.plan.now here.now }
         requires member { WasAt self.now.plan.now here.now ahead.now members.old.items member }
-        ensures ok { IfOk result (λ next. MovesMember next self.now.plan.now here.now ahead.now member members.old.items members.new.items) }
-        ensures left { IfOk result (λ next. AreLeft next members.old.items members.new.items) }
-        ensures following { IfOk result (λ next. GrownContinueAt next self.now.plan.now here.now (used_rows ahead.now.used) (drop ahead.now.before.count members.new.items) (stack_of scratch.new.following.items)) }
-        ensures steps { CostsMember result self.now.plan.now here.now ahead.now.room meter.old meter.new (node_count (data_of member.tree)) }
+        ensures { MovesRemoved result self.now.plan.now here.now ahead.now member members.old.items members.new.items scratch.new.following.items meter.old meter.new }
     {
         self.laws_of(here.node);
         let Member { name, tree } = member;
@@ -254,9 +224,7 @@ impl<'p, Z: SizeSet> Walk<'p, Z> {
         requires known { AreUsedAt self.now.plan.now here.now (used_rows used.now) }
         requires value { IsValueAt self.now.plan.now here.now (used_rows used.now) (node_count (data_of tree)) (data_of tree) }
         requires limit { node_count (data_of tree) ≤ self.now.plan.now.limit }
-        ensures ok { IfOk result (λ next. IsNextTree (IsValueAt self.now.plan.now here.now (used_rows used.now) (node_count (data_of tree))) (data_of tree) next) }
-        ensures following { IfOk result (λ next. ContinueNext (IsValueAt self.now.plan.now here.now (used_rows used.now) (node_count (data_of tree))) next (stack_of scratch.new.following.items)) }
-        ensures steps { CostsTree result self.now.plan.now meter.old meter.new (node_count (data_of tree)) }
+        ensures { FindsNext result (IsValueAt self.now.plan.now here.now (used_rows used.now) (node_count (data_of tree))) (data_of tree) scratch.new.following.items (CostsTree result self.now.plan.now meter.old meter.new (node_count (data_of tree))) }
     {
         self.laws_of(here.node);
         if here.slot.key {
@@ -279,10 +247,7 @@ impl<'p, Z: SizeSet> Walk<'p, Z> {
     ) -> Result<NextParts, AllocError>
         requires here { IsRowSlot self.now.plan.now here.now }
         requires open { IsOpenAt self.now.plan.now here.now.node here.now.place (larger ahead.now size) }
-        ensures ok { IfOk result (λ next. IsGrownAt next self.now.plan.now here.now (larger ahead.now size) (size + 1) members.old.items members.new.items) }
-        ensures following { IfOk result (λ next. GrownContinueAt next self.now.plan.now here.now (used_rows ahead.now.used) (drop (length members.old.items) members.new.items) (stack_of scratch.new.following.items)) }
-        ensures steps { CostsAfter self.now.plan.now here.now meter.old meter.new (ahead.now.room + size) }
-        ensures last { IfOk result (λ next. KeepsMeter next meter.old meter.new) }
+        ensures { GrowsAt result self.now.plan.now here.now (larger ahead.now size) (size + 1) members.old.items members.new.items scratch.new.following.items meter.old meter.new }
     {
         self.laws_of(here.node);
         let larger = Ahead {

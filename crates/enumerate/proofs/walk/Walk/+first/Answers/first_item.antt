@@ -29,8 +29,7 @@ pub first_unused-requires : goal.first_item-first_unused-requires
 first_unused-requires g t c =
     let q = c.args.self.now.plan.now in
     record {
-      node = omega (arith, c.requires.list.child, c.requires.list.node);
-      leaf = (c.laws_of.ensures.sound.set (site q c.args.list.now.child) c.requires.first.item (sym c.distinct.ensures ∙ c.in-Whole.is)).leaf;
+      node = record { node = omega (arith, c.requires.list.child, c.requires.list.node); sort = (c.laws_of.ensures.sound.set (site q c.args.list.now.child) c.requires.first.item (sym c.distinct.ensures ∙ c.in-Whole.is)).leaf };
       free =
           set_free q c.args.list.now.node c.args.list.now.child (record { rule = c.laws_of.ensures.rule; ends = c.laws_of.ensures.completed; item = c.requires.first.item }) c.args.size c.args.items.now c.requires.first
           (c.laws_of.ensures.sound.set (site q c.args.list.now.child) c.requires.first.item (sym c.distinct.ensures ∙ c.in-Whole.is)) c.requires.size c.requires.more.0 c.requires.more.1;
@@ -84,16 +83,13 @@ first_row-requires g t c κs within =
       (
         within,
         (
-          node,
+          record { node = node; sort = items.row },
           (
-            items.row,
+            some,
             (
-              some,
-              (
-                c.requires.limit,
-                (item_open q c.args.list.now.node c.args.list.now.child c.laws_of.ensures.rule c.laws_of-2.ensures.rule c.laws_of-2.ensures.sound items c.laws_of.ensures.free counts.0 counts.1 c.args.items.now c.args.size c.requires.more.0
-                    (omega (arith, c.laws_of.ensures.limit)) c.requires.first c.requires.more.1 c.requires.size),
-              ),
+              c.requires.limit,
+              (item_open q c.args.list.now.node c.args.list.now.child c.laws_of.ensures.rule c.laws_of-2.ensures.rule c.laws_of-2.ensures.sound items c.laws_of.ensures.free counts.0 counts.1 c.args.items.now c.args.size c.requires.more.0
+                  (omega (arith, c.laws_of.ensures.limit)) c.requires.first c.requires.more.1 c.requires.size),
             ),
           ),
         ),

@@ -26,18 +26,15 @@ first_row-requires g t c κs within =
       (
         within,
         (
-          c.requires.node,
+          record { node = c.requires.node; sort = row },
           (
-            row,
+            some,
             (
-              some,
-              (
-                c.requires.limit,
-                plain_open q c.args.node c.laws_of.ensures.rule row c.args.size (keys_at q c.args.node 0 c.laws_of.ensures.sound) (elim c.if-size-eq1.branch [
-                  | first_part-then-size-eq1+else-null_ok w ↦ λ e. sym w.null_ok.ensures ∙ w.if-null_ok.false
-                  | first_part-else-size-eq1 w ↦ λ e. absurd (omega (arith, w.if-size-eq1.false, e))
-                ]) c.requires.size,
-              ),
+              c.requires.limit,
+              plain_open q c.args.node c.laws_of.ensures.rule row c.args.size (keys_at q c.args.node 0 c.laws_of.ensures.sound) (elim c.if-size-eq1.branch [
+                | first_part-then-size-eq1+else-null_ok w ↦ λ e. sym w.null_ok.ensures ∙ w.if-null_ok.false
+                | first_part-else-size-eq1 w ↦ λ e. absurd (omega (arith, w.if-size-eq1.false, e))
+              ]) c.requires.size,
             ),
           ),
         ),
@@ -51,16 +48,13 @@ first_list-requires g t c κs within =
       (
         within,
         (
-          c.requires.node,
+          record { node = c.requires.node; sort = sym c.in-List.ensures },
           (
-            sym c.in-List.ensures,
-            (
-              elim c.if-size-eq1.branch [
-                | first_part-then-size-eq1+else-null_ok w ↦ λ e. sym w.null_ok.ensures ∙ w.if-null_ok.false
-                | first_part-else-size-eq1 w ↦ λ e. absurd (omega (arith, w.if-size-eq1.false, e))
-              ],
-              (c.requires.size, c.requires.limit),
-            ),
+            elim c.if-size-eq1.branch [
+              | first_part-then-size-eq1+else-null_ok w ↦ λ e. sym w.null_ok.ensures ∙ w.if-null_ok.false
+              | first_part-else-size-eq1 w ↦ λ e. absurd (omega (arith, w.if-size-eq1.false, e))
+            ],
+            (c.requires.size, c.requires.limit),
           ),
         ),
       ),

@@ -1,4 +1,4 @@
-use Rattle.std.proofs.Common.{sym, ap, subst, ◌∙◌, arith, ◌≡◌, ◌+◌, ◌*◌, ℕ, List, length, drop, Option}
+use Rattle.std.proofs.Common.{rules, sym, ap, subst, ◌∙◌, arith, ◌≡◌, ◌+◌, ◌*◌, ℕ, List, length, drop, Option}
 use Rattle.std.proofs.lemmas.List.{length-drop}
 use Rattle.jtree.specs.Data.{Data}
 use Rattle.jtree.specs.Data.{object as object_data}
@@ -34,22 +34,22 @@ nodes_here : (g : Over) (t : ℕ) (c : next_filled_slot-In-Some g t) → members
 nodes_here g t c = ap (λ l. members_count (members_of l)) c.in-Some.ensures.items ∙ members_pushed c.pop.new.self.items c.in-Some.member
 
 off_here : (g : Over) (t : ℕ) (c : next_filled_slot-In-Some g t) (gs : List (Option Data)) → IsWalkedTo c.args.self.now.plan.now c.args.here.now.node (c.args.here.now.place + 1) c.args.removed.now (used_rows c.args.used.now) c.args.members.now.items gs
-    → IsRemoved c.args.self.now.plan.now c.args.here.now.node c.laws_of.ensures.sound (used_rows c.args.used.now) c.args.here.now.place c.requires.here.slot.first c.args.removed.now c.pop.new.self.items c.in-Some.member gs
+    → IsRemoved c.args.self.now.plan.now c.args.here.now.node c.laws_of.ensures.sound (used_rows c.args.used.now) c.args.here.now.place c.requires.reached.here.slot.first c.args.removed.now c.pop.new.self.items c.in-Some.member gs
 off_here g t c gs w =
     let q = c.args.self.now.plan.now in
     let here = c.args.here.now in
     let there = subst (λ l. IsWalkedTo q here.node (here.place + 1) c.args.removed.now (used_rows c.args.used.now) l gs) c.in-Some.ensures.items w in
-    removed q here.node c.laws_of.ensures.sound (used_rows c.args.used.now) here.place c.requires.here.slot.first c.args.removed.now c.pop.new.self.items c.in-Some.member gs c.requires.used there (named g t c)
+    removed q here.node c.laws_of.ensures.sound (used_rows c.args.used.now) here.place c.requires.reached.here.slot.first c.args.removed.now c.pop.new.self.items c.in-Some.member gs c.requires.reached.used there (named g t c)
 
 -- with the member, it is what was removed
 ahead_is : (g : Over) (t : ℕ) (c : next_filled_slot-In_ok-prefix g t) (gs : List (Option Data)) → IsWalkedTo c.args.self.now.plan.now c.args.here.now.node (c.args.here.now.place + 1) c.args.removed.now (used_rows c.args.used.now) c.args.members.now.items gs
-    → IsRemoved c.args.self.now.plan.now c.args.here.now.node c.laws_of.ensures.sound (used_rows c.args.used.now) c.args.here.now.place c.requires.here.slot.first c.args.removed.now c.pop.new.self.items c.in-Some.member gs
+    → IsRemoved c.args.self.now.plan.now c.args.here.now.node c.laws_of.ensures.sound (used_rows c.args.used.now) c.args.here.now.place c.requires.reached.here.slot.first c.args.removed.now c.pop.new.self.items c.in-Some.member gs
     → (rows : Rows) → used_rows rows ≡ agreeing_rows c.in_ok-prefix.prefix.agreeing (used_rows c.args.used.now)
     → demand_at c.args.self.now.plan.now c.args.here.now.node (ahead_with (record { before = c.in_ok-prefix.prefix.before; room = c.args.removed.now.room; used = rows }) c.in-Some.member)
     ≡ demand_from c.args.here.now.place (slots_from c.args.self.now.plan.now c.args.here.now.node 0) gs (demand_of c.args.self.now.plan.now c.args.here.now.node (used_rows c.args.used.now) gs)
 ahead_is g t c gs w off rows same =
     let prefix = c.in_ok-prefix.ensures.prefix gs w.cut.whole.are (ap members_of c.as_slice.ensures.value ∙ off.cut.front) in
-    asked_is c.args.self.now.plan.now c.args.here.now.node c.laws_of.ensures.sound (used_rows c.args.used.now) c.args.here.now.place c.requires.here.slot.first (ahead_with (record { before = c.in_ok-prefix.prefix.before; room = c.args.removed.now.room; used = rows }) c.in-Some.member) gs prefix.before off.room_is (same ∙ prefix.rows)
+    asked_is c.args.self.now.plan.now c.args.here.now.node c.laws_of.ensures.sound (used_rows c.args.used.now) c.args.here.now.place c.requires.reached.here.slot.first (ahead_with (record { before = c.in_ok-prefix.prefix.before; room = c.args.removed.now.room; used = rows }) c.in-Some.member) gs prefix.before off.room_is (same ∙ prefix.rows)
 
 pub unreachable-requires : goal.next_filled_slot-unreachable-requires
 unreachable-requires g t c =
@@ -59,32 +59,37 @@ unreachable-requires g t c =
 
 pub overflow_cast-len : goal.next_filled_slot-overflow_cast-len
 overflow_cast-len g t c =
-    omega (arith, fewer_members c.pop.new.self.items, nodes_here g t (goal.at.next_filled_slot-overflow_cast-len g t c).In-Some, c.requires.limit, c.laws_of.ensures.limit, c.len.ensures, c.pop.new.self.ok.0)
+    omega (arith, fewer_members c.pop.new.self.items, nodes_here g t (goal.at.next_filled_slot-overflow_cast-len g t c).In-Some, c.requires.reached.limit, c.laws_of.ensures.limit, c.len.ensures, c.pop.new.self.ok.0)
 
-pub returns-then-is_last_key-clause-ok : goal.next_filled_slot-returns-then-is_last_key-clause-ok
-returns-then-is_last_key-clause-ok g t c = (
-  λ gs w.
-      let q = c.args.self.now.plan.now in
-      let here = c.args.here.now in
-      let members = c.pop.new.self.items in
-      let off = off_here g t (goal.at.next_filled_slot-returns-then-is_last_key-clause-ok g t c).In-Some gs w in
-      let plain = c.is_last_key.ensures.plain c.if-is_last_key.true in
-      let count : c.len.result ≡ 0 + length members = omega (arith, c.len.ensures, c.pop.new.self.ok.0) in
-      let is = c.unnamed-removed.ensures ∙ ap (λ n. record { count = n; seen = 0 }) count ∙ sym (before_plain here.place (slots_from q here.node 0) gs nothing members plain off.cut.front) in
-      walked_key q here.node c.laws_of.ensures.sound (used_rows c.args.used.now) here.place c.requires.here.slot.first c.args.removed.now members c.in-Some.member gs c.unnamed-removed.result off is (c.is_last_key.ensures.key c.if-is_last_key.true) (c.is_last_key.ensures.none c.if-is_last_key.true),
-  tt,
-)
+pub returns-then-is_last_key : goal.next_filled_slot-returns-then-is_last_key
+returns-then-is_last_key g t c =
+    let q = c.args.self.now.plan.now in
+    let here = c.args.here.now in
+    let members = c.pop.new.self.items in
+    let plain = c.is_last_key.ensures.plain c.if-is_last_key.true in
+    let count : c.len.result ≡ 0 + length members = omega (arith, c.len.ensures, c.pop.new.self.ok.0) in
+    record {
+      ok = (
+        λ gs w.
+            let off = off_here g t (goal.at.next_filled_slot-returns-then-is_last_key g t c).In-Some gs w in
+            let is = c.unnamed-removed.ensures ∙ ap (λ n. record { count = n; seen = 0 }) count ∙ sym (before_plain here.place (slots_from q here.node 0) gs nothing members plain off.cut.front) in
+            walked_key q here.node c.laws_of.ensures.sound (used_rows c.args.used.now) here.place c.requires.reached.here.slot.first c.args.removed.now members c.in-Some.member gs c.unnamed-removed.result off is (c.is_last_key.ensures.key c.if-is_last_key.true) (c.is_last_key.ensures.none c.if-is_last_key.true),
+        tt,
+      );
+      following = tt;
+      steps = search rules;
+    }
 
-pub prefix_at-requires-clause-limit : goal.next_filled_slot-prefix_at-requires-clause-limit
-prefix_at-requires-clause-limit g t c =
-    omega (arith, ap (λ (l : List Member). length l) c.as_slice.ensures.value, fewer_members c.pop.new.self.items, nodes_here g t (goal.at.next_filled_slot-prefix_at-requires-clause-limit g t c).In-Some, c.requires.limit)
+pub prefix_at-requires : goal.next_filled_slot-prefix_at-requires
+prefix_at-requires g t c =
+    record { node = record { node = c.requires.reached.here.node; sort = c.requires.reached.here.row }; place = omega (arith, c.requires.reached.here.within); limit = omega (arith, ap (λ (l : List Member). length l) c.as_slice.ensures.value, fewer_members c.pop.new.self.items, nodes_here g t (goal.at.next_filled_slot-prefix_at-requires g t c).In-Some, c.requires.reached.limit) }
 
 pub next_member-requires : goal.next_filled_slot-next_member-requires
 next_member-requires g t c κs within =
     let q = c.args.self.now.plan.now in
     let here = c.args.here.now in
-    let gs = c.requires.walked.0 in
-    let w = c.requires.walked.1 in
+    let gs = c.requires.reached.walked.0 in
+    let w = c.requires.reached.walked.1 in
     let sound = c.laws_of.ensures.sound in
     let used = used_rows c.args.used.now in
     let members = c.pop.new.self.items in
@@ -94,22 +99,22 @@ next_member-requires g t c κs within =
     let off = off_here g t there gs w in
     let is = ahead_is g t (goal.at.next_filled_slot-next_member-requires g t c).In_ok-prefix gs w off c.rows.result c.rows.ensures in
     let count : a.before.count ≡ length members = ap (λ (d : Demand). d.before.count) is ∙ so_many q here.node sound used here.place gs members off.cut.front in
-    let can = ready q here.node sound used here.place c.requires.here.slot.first c.args.removed.now members one gs (demand_at q here.node (ahead_with a one)) off is in
+    let can = ready q here.node sound used here.place c.requires.reached.here.slot.first c.args.removed.now members one gs (demand_at q here.node (ahead_with a one)) off is in
     let was : WasAt q here a members one = record {
       before = sym count;
       name = named g t there;
       value = can.value;
       rest = can.rest;
-      slots = record { count = omega (arith, count, few_at here.place (slots_from q here.node 0) gs members off.cut.front); limit = omega (arith, count, fewer_members members, nodes_here g t there, c.requires.limit); can = can.can };
+      slots = record { count = omega (arith, count, few_at here.place (slots_from q here.node 0) gs members off.cut.front); limit = omega (arith, count, fewer_members members, nodes_here g t there, c.requires.reached.limit); can = can.can };
     } in
-    (omega (arith, c.decreases), (within, (c.requires.here, was)))
+    (omega (arith, c.decreases), (within, (c.requires.reached.here, was)))
 
 pub returns : goal.next_filled_slot-returns
 returns g t c =
     let q = c.args.self.now.plan.now in
     let here = c.args.here.now in
     let sound = c.laws_of.ensures.sound in
-    let first = c.requires.here.slot.first in
+    let first = c.requires.reached.here.slot.first in
     let used = used_rows c.args.used.now in
     let members = c.pop.new.self.items in
     let one = c.in-Some.member in
@@ -118,8 +123,8 @@ returns g t c =
     let d = demand_at q here.node (ahead_with a one) in
     let l = (goal.at.next_filled_slot-returns g t c).In-Some in
     let p = (goal.at.next_filled_slot-returns g t c).In_ok-prefix in
-    let gs = c.requires.walked.0 in
-    let w = c.requires.walked.1 in
+    let gs = c.requires.reached.walked.0 in
+    let w = c.requires.reached.walked.1 in
     let off = off_here g t l gs w in
     let is = ahead_is g t p gs w off c.rows.result c.rows.ensures in
     let all = members_count (members_of c.args.members.now.items) in
@@ -133,11 +138,11 @@ returns g t c =
       following = if_both c.next_member.result _ _ _ (λ st h left. walked_continue q here.node sound used here.place first st members new gs (stack_of c.next_member.new.scratch.following.items) off.cut left
           (subst (λ (e : Demand). GrownContinueAt st q here e.used (drop e.before.count new) (stack_of c.next_member.new.scratch.following.items)) is h)) c.next_member.ensures.following c.next_member.ensures.left;
       steps = (
-        λ u wide. omega (arith, cost_within u (3 * node_count (data_of one.tree) + a.room) (3 * all + a.room) (omega (arith, nodes_here g t l)), c.is_last_key.ensures.steps, one_fewer q here.node here.place first, length-drop here.place (slots_from q here.node 0), c.requires.here.within, c.in_ok-prefix.ensures.steps, c.next_member.ensures.steps.0 u wide),
+        λ u wide. omega (arith, cost_within u (3 * node_count (data_of one.tree) + a.room) (3 * all + a.room) (omega (arith, nodes_here g t l)), c.is_last_key.ensures.steps, one_fewer q here.node here.place first, length-drop here.place (slots_from q here.node 0), c.requires.reached.here.within, c.in_ok-prefix.ensures.steps, c.next_member.ensures.steps.0 u wide),
         if_both c.next_member.result _ _ _ (λ st h cost.
             let hs = drop here.place gs in
             let ended = subst (λ e. AreLastAfter q here.node here.place e one off.after hs) (sym is) off.ended in
-            last_removed q here c.requires.here st (data_of one.tree) a.room c.args.meter.now c.prefix_at.new.meter c.next_member.new.meter (omega (arith, c.in_ok-prefix.ensures.steps, c.is_last_key.ensures.steps))
+            last_removed q here c.requires.reached.here st (data_of one.tree) a.room c.args.meter.now c.prefix_at.new.meter c.next_member.new.meter (omega (arith, c.in_ok-prefix.ensures.steps, c.is_last_key.ensures.steps))
             (removes_all st q.pools (slots_at q here) d hs (drop a.before.count new) (h.0 hs off.after ended)) cost) c.next_member.ensures.ok c.next_member.ensures.steps.1,
       );
     }

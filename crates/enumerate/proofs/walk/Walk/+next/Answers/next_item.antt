@@ -31,7 +31,7 @@ next_row-requires g t c κs within =
     let sound = c.laws_of-2.ensures.sound in
     let known = items_used q i k rule sound items c.args.items.now (omega (arith, few_items (items_of c.args.items.now), counted c.args.items.now, c.requires.within, c.laws_of.ensures.limit)) c.requires.first.are c.requires.first.apart in
     let row = unused_row q i k rule sound items c.args.items.now n (data_of c.args.item) c.requires.first.are c.requires.item in
-    (omega (arith, c.decreases, row_lighter q k i c.requires.list.child), (within, (node, (items.row, (known, (row, omega (arith, c.requires.within)))))))
+    (omega (arith, c.decreases, row_lighter q k i c.requires.list.child), (within, (record { node = node; sort = items.row }, (known, (row, omega (arith, c.requires.within))))))
 
 pub next_part-requires : goal.next_item-next_part-requires
 next_part-requires g t c κs within =
@@ -43,13 +43,15 @@ next_part-requires g t c κs within =
 pub next_unused-requires : goal.next_item-next_unused-requires
 next_unused-requires g t c =
     record {
-      node = omega (arith, c.requires.list.child, c.requires.list.node);
-      leaf =
-          let q = c.args.self.now.plan.now in
-          let i = c.args.list.now.node in
-          let k = c.args.list.now.child in
-          let whole : distinct_of (site q i) ≡ distinct.Whole = sym c.distinct.ensures ∙ c.in-Whole.is in
-          (c.laws_of.ensures.sound.set (site q k) c.requires.first.item whole).leaf;
+      node = record {
+        node = omega (arith, c.requires.list.child, c.requires.list.node);
+        sort =
+            let q = c.args.self.now.plan.now in
+            let i = c.args.list.now.node in
+            let k = c.args.list.now.child in
+            let whole : distinct_of (site q i) ≡ distinct.Whole = sym c.distinct.ensures ∙ c.in-Whole.is in
+            (c.laws_of.ensures.sound.set (site q k) c.requires.first.item whole).leaf;
+      };
       limit = omega (arith, c.requires.within, c.laws_of.ensures.limit);
     }
 

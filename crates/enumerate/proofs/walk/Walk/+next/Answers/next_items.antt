@@ -116,9 +116,9 @@ next_item-requires g t c κs within-it =
       ),
     )
 
-pub returns-in_err-next-clause-steps : goal.next_items-returns-in_err-next-clause-steps
-returns-in_err-next-clause-steps g t c =
-    (λ w wide. omega (arith, item_cost g t (goal.at.next_items-returns-in_err-next-clause-steps g t c).After-next_item w wide), search rules)
+pub returns-in_err-next : goal.next_items-returns-in_err-next
+returns-in_err-next g t c =
+    record { ok = search rules; following = search rules; steps = (λ w wide. omega (arith, item_cost g t (goal.at.next_items-returns-in_err-next g t c).After-next_item w wide), search rules) }
 
 -- the next item, after the same items
 next_here : (g : Over) (t : ℕ) (c : next_items-In-To g t) → IsNextTree (IsUnusedItem c.args.self.now.plan.now c.args.list.now.node c.args.list.now.child (node_count (data_of c.in-Some.item)) (items_of c.pop.new.self.items)) (data_of c.in-Some.item) (tree_next.To c.in-To.next c.in-To.depth)
@@ -153,9 +153,9 @@ put_item-requires g t c =
           item_continues q c.args.list.now (node_count one) front (front ++ next ∷ []) next cs refl to.0.is.0.part.nodes_are continue;
     }
 
-pub returns-in_err-put_item-in-To-clause-steps : goal.next_items-returns-in_err-put_item-in-To-clause-steps
-returns-in_err-put_item-in-To-clause-steps g t c =
-    (λ w wide. omega (arith, item_cost g t (goal.at.next_items-returns-in_err-put_item-in-To-clause-steps g t c).After-next_item w wide, c.put_item.ensures.steps w wide), search rules)
+pub returns-in_err-put_item-in-To : goal.next_items-returns-in_err-put_item-in-To
+returns-in_err-put_item-in-To g t c =
+    record { ok = search rules; following = search rules; steps = (λ w wide. omega (arith, item_cost g t (goal.at.next_items-returns-in_err-put_item-in-To g t c).After-next_item w wide, c.put_item.ensures.steps w wide), search rules) }
 
 pub returns-in-To : goal.next_items-returns-in-To
 returns-in-To g t c =
@@ -201,9 +201,9 @@ grow_larger_items-requires g t c =
           omega (arith, nodes, last.1, within);
     }
 
-pub returns-in_err-depth-in-Last-clause-steps : goal.next_items-returns-in_err-depth-in-Last-clause-steps
-returns-in_err-depth-in-Last-clause-steps g t c =
-    (λ w wide. grown_cost g t (goal.at.next_items-returns-in_err-depth-in-Last-clause-steps g t c).In-Last c.grow_larger_items.new.meter w wide (c.grow_larger_items.ensures.steps w wide), search rules)
+pub returns-in_err-depth-in-Last : goal.next_items-returns-in_err-depth-in-Last
+returns-in_err-depth-in-Last g t c =
+    record { ok = search rules; following = search rules; steps = (λ w wide. grown_cost g t (goal.at.next_items-returns-in_err-depth-in-Last g t c).In-Last c.grow_larger_items.new.meter w wide (c.grow_larger_items.ensures.steps w wide), search rules) }
 
 pub returns-in-Made : goal.next_items-returns-in-Made
 returns-in-Made g t c =

@@ -31,9 +31,9 @@ no_value_here : (g : Over) (t : ℕ) (c : next_member-In-Last g t) → IsNextTre
 no_value_here g t c =
     subst (λ m. IsNextTree (IsValueAt c.args.self.now.plan.now c.args.here.now (used_rows c.args.ahead.now.used) (node_count (data_of c.args.member.tree))) (data_of c.args.member.tree) m) c.in-Last.is c.in_ok-tree.ensures.ok
 
-pub returns-in_err-tree-clause-steps : goal.next_member-returns-in_err-tree-clause-steps
-returns-in_err-tree-clause-steps g t c =
-    (costs_slots c.args.self.now.plan.now c.args.here.now.node (c.args.here.now.place + 1) c.args.meter.now c.next_value.new.meter (3 * node_count (data_of c.args.member.tree)) (3 * node_count (data_of c.args.member.tree) + c.args.ahead.now.room) (omega arith) c.next_value.ensures.steps.0, search rules)
+pub returns-in_err-tree : goal.next_member-returns-in_err-tree
+returns-in_err-tree g t c =
+    record { ok = search rules; left = search rules; following = search rules; steps = (costs_slots c.args.self.now.plan.now c.args.here.now.node (c.args.here.now.place + 1) c.args.meter.now c.next_value.new.meter (3 * node_count (data_of c.args.member.tree)) (3 * node_count (data_of c.args.member.tree) + c.args.ahead.now.room) (omega arith) c.next_value.ensures.steps.0, search rules) }
 
 pub below-depth-requires : goal.next_member-below-depth-requires
 below-depth-requires g t c =
@@ -56,7 +56,7 @@ put_member-requires g t c =
           let cs = stack_of c.next_value.new.scratch.following.items in
           let continue = subst (λ m. ContinueNext (C (node_count old)) m cs) c.in-To.is c.in_ok-tree.ensures.following in
           subst (λ n. Continue (C n) (data_of c.in-To.tree) cs) (sym next.0.is.0.nodes_are) continue;
-      «open» =
+      ahead =
           let sound = c.laws_of.ensures.sound in
           record {
             count = c.requires.member.slots.count;
@@ -72,8 +72,9 @@ put_member-requires g t c =
 put_cost : (g : Over) (t : ℕ) (c : next_member-After-put_member g t) → CostsAfter c.args.self.now.plan.now c.args.here.now c.args.meter.now c.put_member.new.meter (3 * node_count (data_of c.args.member.tree) + c.args.ahead.now.room)
 put_cost g t c = let n = 3 * node_count (data_of c.args.member.tree) in λ w wide. omega (arith, split_cost w n c.args.ahead.now.room (n + c.args.ahead.now.room) (omega arith), c.next_value.ensures.steps.0 w wide, c.put_member.ensures.steps w wide)
 
-pub returns-in_err-put_member-in-To-clause-steps : goal.next_member-returns-in_err-put_member-in-To-clause-steps
-returns-in_err-put_member-in-To-clause-steps g t c = (put_cost g t (goal.at.next_member-returns-in_err-put_member-in-To-clause-steps g t c).After-put_member, search rules)
+pub returns-in_err-put_member-in-To : goal.next_member-returns-in_err-put_member-in-To
+returns-in_err-put_member-in-To g t c =
+    record { ok = search rules; left = search rules; following = search rules; steps = (put_cost g t (goal.at.next_member-returns-in_err-put_member-in-To g t c).After-put_member, search rules) }
 
 pub returns-in_ok-put_member-in-To : goal.next_member-returns-in_ok-put_member-in-To
 returns-in_ok-put_member-in-To g t c =

@@ -46,12 +46,12 @@ next_at_slot-requires g t c κs within =
     let walked = subst (λ n. IsWalkedTo q i n c.loop-place.removed used c.loop-place.members.items gs) back there in
     let nodes = kept_nodes q i c.loop-place.place c.loop-place.removed used c.args.members.now.items c.loop-place.members.items gs c.requires.in_slots.1 there in
     let here : IsRowSlot q (record { node = i; place = c.loop-place.place - 1; slot = c.slot_at-slot.result }) = record {
-      node = c.requires.node;
-      row = c.requires.row;
+      node = c.requires.node.node;
+      row = c.requires.node.sort;
       within = omega (arith, c.loop-place-test.true, c.loop-place.invariant.within);
       slot = c.slot_at-slot.ensures.slot;
     } in
-    (omega (arith, c.decreases), (within, (here, (c.requires.used, ((gs, walked), omega (arith, nodes, c.requires.limit))))))
+    (omega (arith, c.decreases), (within, record { here = here; used = c.requires.used; walked = (gs, walked); limit = omega (arith, nodes, c.requires.limit) }))
 
 pub returns-in-Made : goal.next_members-returns-in-Made
 returns-in-Made g t c =
@@ -82,9 +82,9 @@ returns-in-Made g t c =
       steps = (cost_here g t (goal.at.next_members-returns-in-Made g t c).After-next_at_slot, tt);
     }
 
-pub returns-in_err-depth-clause-steps : goal.next_members-returns-in_err-depth-clause-steps
-returns-in_err-depth-clause-steps g t c =
-    (cost_here g t (goal.at.next_members-returns-in_err-depth-clause-steps g t c).After-next_at_slot, search rules)
+pub returns-in_err-depth : goal.next_members-returns-in_err-depth
+returns-in_err-depth g t c =
+    record { ok = search rules; following = search rules; steps = (cost_here g t (goal.at.next_members-returns-in_err-depth g t c).After-next_at_slot, search rules) }
 
 pub loop-place-preserved : goal.next_members-loop-place-preserved
 loop-place-preserved g t c =

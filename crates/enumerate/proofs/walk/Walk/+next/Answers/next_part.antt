@@ -22,16 +22,13 @@ next_row-requires g t c κs within =
       (
         within,
         (
-          c.requires.node,
+          record { node = c.requires.node; sort = row },
           (
-            row,
+            record { few = omega arith; tuples = λ k d lt. absurd (omega (arith, lt)); apart = λ a b d lt inside. absurd (omega (arith, lt, inside)) },
             (
-              record { few = omega arith; tuples = λ k d lt. absurd (omega (arith, lt)); apart = λ a b d lt inside. absurd (omega (arith, lt, inside)) },
-              (
-                row_unless_null q c.args.node c.laws_of.ensures.rule row (node_count (data_of c.args.tree)) (data_of c.args.tree) (record { part = c.requires.part; nodes_are = refl })
-                    (λ is nullable. let yes = c.is_null.ensures.1 is in let no = c.if-is_null.false in cc),
-                c.requires.limit,
-              ),
+              row_unless_null q c.args.node c.laws_of.ensures.rule row (node_count (data_of c.args.tree)) (data_of c.args.tree) (record { part = c.requires.part; nodes_are = refl })
+                  (λ is nullable. let yes = c.is_null.ensures.1 is in let no = c.if-is_null.false in cc),
+              c.requires.limit,
             ),
           ),
         ),
@@ -41,7 +38,7 @@ next_row-requires g t c κs within =
 pub next_list-requires : goal.next_part-next_list-requires
 next_list-requires g t c κs within =
     let q = c.args.self.now.plan.now in
-    (omega (arith, c.decreases, weight_next q c.args.node), (within, (c.requires.node, (sym c.in-List.ensures, (c.requires.part, (λ is. let yes = c.is_null.ensures.1 is in let no = c.if-is_null.false in cc, c.requires.limit))))))
+    (omega (arith, c.decreases, weight_next q c.args.node), (within, (record { node = c.requires.node; sort = sym c.in-List.ensures }, (c.requires.part, (λ is. let yes = c.is_null.ensures.1 is in let no = c.if-is_null.false in cc, c.requires.limit)))))
 
 pub returns-in_default : goal.next_part-returns-in_default
 returns-in_default g t c =
