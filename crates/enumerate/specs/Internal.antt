@@ -12,3 +12,4 @@ pub mod Following
 pub mod Prefixes
 pub mod Walks
 pub mod Changes
+pub mod Answers

@@ -78,10 +78,7 @@ impl<'p> Current<'p> {
             }
         }
         let tree = mem::replace(&mut self.tree, Tree::Null);
-        mem::swap(meter, &mut self.scratch.meter);
-        let next = walk.next_sample(tree, &mut self.scratch);
-        mem::swap(meter, &mut self.scratch.meter);
-        match next? {
+        match walk.next_sample(tree, &mut self.scratch, meter)? {
             NextTree::To(next, depth) => {
                 self.tree = next;
                 self.change = change_at(depth);

@@ -4,15 +4,15 @@ ghost use Rattle.jtree.specs.Data.{Data};
 ghost use Rattle.jtree.specs.Nodes.{node_count};
 ghost use Rattle.jtree.specs.Order.{tree_cmp};
 ghost use Rattle.jtree.specs.View.{data_of};
-ghost use Rattle.plan.specs.Samples.Candidates.{sort_of};
 ghost use Rattle.plan.specs.Samples.Part.{IsPart};
 ghost use Rattle.enumerate.specs.Least.{IsLeast};
 ghost use Rattle.enumerate.specs.Page.{IsPast};
 ghost use Rattle.enumerate.specs.View.{resume_point, trees_of};
+ghost use Rattle.enumerate.specs.Internal.Answers.{FindsFirst, FindsNext};
 ghost use Rattle.enumerate.specs.Internal.Candidates.{used_rows, stack_of, IsFree, IsUnusedPart, IsFreeKey, IsChoice};
 ghost use Rattle.enumerate.specs.Internal.Following.{Continue, AreChoices, ContinueNext};
 ghost use Rattle.enumerate.specs.Internal.Moves.{IsNextTree};
-ghost use Rattle.enumerate.specs.Internal.Nodes.{site, IsNodeOf, IsPartOf, Costs};
+ghost use Rattle.enumerate.specs.Internal.Nodes.{IsNodeOfSort, site, IsPartOf, Costs};
 ghost use Rattle.plan.specs.declared.sort.Sort.TheVariants as sort;
 
 use crate::siblings::{KeyRows, Rows, Used, is_free};
@@ -90,15 +90,13 @@ impl<'p, Z: SizeSet> Walk<'p, Z> {
         size: u32,
         items: &[Tree],
         scratch: &mut Scratch<'p>,
+        meter: &mut Meter,
     ) -> Result<Tree, AllocError>
-        requires node { IsNodeOf self.now.plan.now node }
-        requires leaf { sort_of (site self.now.plan.now node) ≡ sort.Leaf }
+        requires node { IsNodeOfSort self.now.plan.now node sort.Leaf }
         requires free { (v : Data) × IsUnusedPart self.now.plan.now node size (trees_of items.now) v }
-        ensures ok { IfOk result (λ v. IsLeast tree_cmp (IsUnusedPart self.now.plan.now node size (trees_of items.now)) (data_of v)) }
-        ensures following { IfOk result (λ v. Continue (IsUnusedPart self.now.plan.now node size (trees_of items.now)) (data_of v) (stack_of scratch.new.following.items)) }
-        ensures steps { Costs self.now.plan.now scratch.old.meter scratch.new.meter 1 }
+        ensures { FindsFirst result (IsUnusedPart self.now.plan.now node size (trees_of items.now)) scratch.new.following.items (Costs self.now.plan.now meter.old meter.new 1) }
     {
-        self.first_free(node, size, &Used::Items(items), scratch)
+        self.first_free(node, size, &Used::Items(items), scratch, meter)
     }
 
     /// The first candidate of a size for a key that leaves some tuple of keys unused.
@@ -109,20 +107,18 @@ impl<'p, Z: SizeSet> Walk<'p, Z> {
         size: u32,
         used: &Rows<'_>,
         scratch: &mut Scratch<'p>,
+        meter: &mut Meter,
     ) -> Result<Tree, AllocError>
-        requires node { IsNodeOf self.now.plan.now slot.now.node }
-        requires leaf { sort_of (site self.now.plan.now slot.now.node) ≡ sort.Leaf }
+        requires node { IsNodeOfSort self.now.plan.now slot.now.node sort.Leaf }
         requires free { (v : Data) × IsFreeKey self.now.plan.now slot.now.node size slot.now.name.now (used_rows used.now) slot.now.later v }
-        ensures ok { IfOk result (λ v. IsLeast tree_cmp (IsFreeKey self.now.plan.now slot.now.node size slot.now.name.now (used_rows used.now) slot.now.later) (data_of v)) }
-        ensures following { IfOk result (λ v. Continue (IsFreeKey self.now.plan.now slot.now.node size slot.now.name.now (used_rows used.now) slot.now.later) (data_of v) (stack_of scratch.new.following.items)) }
-        ensures steps { Costs self.now.plan.now scratch.old.meter scratch.new.meter 1 }
+        ensures { FindsFirst result (IsFreeKey self.now.plan.now slot.now.node size slot.now.name.now (used_rows used.now) slot.now.later) scratch.new.following.items (Costs self.now.plan.now meter.old meter.new 1) }
     {
         let used_key = Used::Key(KeyRows {
             name: slot.name,
             rows: *used,
             later: slot.later,
         });
-        self.first_free(slot.node, size, &used_key, scratch)
+        self.first_free(slot.node, size, &used_key, scratch, meter)
     }
 
     /// The first free candidate of a size. `following` becomes those that continue it in its place, the last one first, and this
@@ -134,15 +130,15 @@ impl<'p, Z: SizeSet> Walk<'p, Z> {
         size: u32,
         used: &Used<'_>,
         scratch: &mut Scratch<'p>,
+        meter: &mut Meter,
     ) -> Result<Tree, AllocError>
-        requires node { IsNodeOf self.now.plan.now node }
-        requires leaf { sort_of (site self.now.plan.now node) ≡ sort.Leaf }
+        requires node { IsNodeOfSort self.now.plan.now node sort.Leaf }
         requires free { (v : Data) × IsChoice self.now.plan.now node size None used.now v }
         ensures ok { IfOk result (λ v. IsLeast tree_cmp (IsChoice self.now.plan.now node size None used.now) (data_of v)) }
         ensures following { IfOk result (λ v. Continue (λ u. IsPartOf self.now.plan.now node size u × IsFree used.now u) (data_of v) (stack_of scratch.new.following.items)) }
-        ensures steps { Costs self.now.plan.now scratch.old.meter scratch.new.meter 1 }
+        ensures steps { Costs self.now.plan.now meter.old meter.new 1 }
     {
-        self.find_choices(node, size, None, used, scratch)?;
+        self.find_choices(node, size, None, used, scratch, meter)?;
         let mut tree = Tree::Null;
         if put_first(self.alloc, size, &mut tree, &mut scratch.following)? {
             Ok(tree)
@@ -158,15 +154,13 @@ impl<'p, Z: SizeSet> Walk<'p, Z> {
         tree: Tree,
         items: &[Tree],
         scratch: &mut Scratch<'p>,
+        meter: &mut Meter,
     ) -> Result<NextTree, AllocError>
-        requires node { IsNodeOf self.now.plan.now node }
-        requires leaf { sort_of (site self.now.plan.now node) ≡ sort.Leaf }
+        requires node { IsNodeOfSort self.now.plan.now node sort.Leaf }
         requires limit { node_count (data_of tree) < 4294967296 }
-        ensures ok { IfOk result (λ next. IsNextTree (IsUnusedPart self.now.plan.now node (node_count (data_of tree)) (trees_of items.now)) (data_of tree) next) }
-        ensures following { IfOk result (λ next. ContinueNext (IsUnusedPart self.now.plan.now node (node_count (data_of tree)) (trees_of items.now)) next (stack_of scratch.new.following.items)) }
-        ensures steps { Costs self.now.plan.now scratch.old.meter scratch.new.meter 1 }
+        ensures { FindsNext result (IsUnusedPart self.now.plan.now node (node_count (data_of tree)) (trees_of items.now)) (data_of tree) scratch.new.following.items (Costs self.now.plan.now meter.old meter.new 1) }
     {
-        self.next_free(node, tree, &Used::Items(items), scratch)
+        self.next_free(node, tree, &Used::Items(items), scratch, meter)
     }
 
     /// The next candidate of the same size for a key that leaves some tuple of keys unused.
@@ -176,20 +170,18 @@ impl<'p, Z: SizeSet> Walk<'p, Z> {
         tree: Tree,
         used: &Rows<'_>,
         scratch: &mut Scratch<'p>,
+        meter: &mut Meter,
     ) -> Result<NextTree, AllocError>
-        requires node { IsNodeOf self.now.plan.now slot.now.node }
-        requires leaf { sort_of (site self.now.plan.now slot.now.node) ≡ sort.Leaf }
+        requires node { IsNodeOfSort self.now.plan.now slot.now.node sort.Leaf }
         requires limit { node_count (data_of tree) < 4294967296 }
-        ensures ok { IfOk result (λ next. IsNextTree (IsFreeKey self.now.plan.now slot.now.node (node_count (data_of tree)) slot.now.name.now (used_rows used.now) slot.now.later) (data_of tree) next) }
-        ensures following { IfOk result (λ next. ContinueNext (IsFreeKey self.now.plan.now slot.now.node (node_count (data_of tree)) slot.now.name.now (used_rows used.now) slot.now.later) next (stack_of scratch.new.following.items)) }
-        ensures steps { Costs self.now.plan.now scratch.old.meter scratch.new.meter 1 }
+        ensures { FindsNext result (IsFreeKey self.now.plan.now slot.now.node (node_count (data_of tree)) slot.now.name.now (used_rows used.now) slot.now.later) (data_of tree) scratch.new.following.items (Costs self.now.plan.now meter.old meter.new 1) }
     {
         let used_key = Used::Key(KeyRows {
             name: slot.name,
             rows: *used,
             later: slot.later,
         });
-        self.next_free(slot.node, tree, &used_key, scratch)
+        self.next_free(slot.node, tree, &used_key, scratch, meter)
     }
 
     /// The next free candidate of the same size, in the memory of the tree. `following` becomes what it becomes at the first one.
@@ -200,16 +192,16 @@ impl<'p, Z: SizeSet> Walk<'p, Z> {
         tree: Tree,
         used: &Used<'_>,
         scratch: &mut Scratch<'p>,
+        meter: &mut Meter,
     ) -> Result<NextTree, AllocError>
-        requires node { IsNodeOf self.now.plan.now node }
-        requires leaf { sort_of (site self.now.plan.now node) ≡ sort.Leaf }
+        requires node { IsNodeOfSort self.now.plan.now node sort.Leaf }
         requires limit { node_count (data_of tree) < 4294967296 }
         ensures ok { IfOk result (λ next. IsNextTree (λ v. IsPartOf self.now.plan.now node (node_count (data_of tree)) v × IsFree used.now v) (data_of tree) next) }
         ensures following { IfOk result (λ next. ContinueNext (λ v. IsPartOf self.now.plan.now node (node_count (data_of tree)) v × IsFree used.now v) next (stack_of scratch.new.following.items)) }
-        ensures steps { Costs self.now.plan.now scratch.old.meter scratch.new.meter 1 }
+        ensures steps { Costs self.now.plan.now meter.old meter.new 1 }
     {
         let size = tree.nodes() as u32;
-        self.find_choices(node, size, Some(&tree), used, scratch)?;
+        self.find_choices(node, size, Some(&tree), used, scratch, meter)?;
         let mut tree = tree;
         if put_first(self.alloc, size, &mut tree, &mut scratch.following)? {
             Ok(NextTree::To(tree, 0))
@@ -228,21 +220,21 @@ impl<'p, Z: SizeSet> Walk<'p, Z> {
         after: Option<&Tree>,
         used: &Used<'_>,
         scratch: &mut Scratch<'p>,
+        meter: &mut Meter,
     ) -> Result<(), AllocError>
-        requires node { IsNodeOf self.now.plan.now node }
-        requires leaf { sort_of (site self.now.plan.now node) ≡ sort.Leaf }
+        requires { IsNodeOfSort self.now.plan.now node sort.Leaf }
         ensures ok { OnOk result (AreChoices (IsChoice self.now.plan.now node size (resume_point after.entry) used.now) (stack_of scratch.new.following.items)) }
-        ensures steps { Costs self.now.plan.now scratch.old.meter scratch.new.meter 1 }
+        ensures steps { Costs self.now.plan.now meter.old meter.new 1 }
     {
         if after.is_none() && used.comes_first() {
-            return self.find_choice(node, size, after, used, scratch);
+            return self.find_choice(node, size, after, used, scratch, meter);
         }
         scratch.following.clear();
         let mut place = self.plan.count(node);
         scratch.following.reserve(place as usize)?;
         while place > 0 {
             place -= 1;
-            let Some(tree) = self.plan.candidate(node, place, &mut scratch.meter) else {
+            let Some(tree) = self.plan.candidate(node, place, meter) else {
                 return Ok(());
             };
             if !is_past(after, tree) {
@@ -263,15 +255,15 @@ impl<'p, Z: SizeSet> Walk<'p, Z> {
         after: Option<&Tree>,
         used: &Used<'_>,
         scratch: &mut Scratch<'p>,
+        meter: &mut Meter,
     ) -> Result<(), AllocError>
-        requires node { IsNodeOf self.now.plan.now node }
-        requires leaf { sort_of (site self.now.plan.now node) ≡ sort.Leaf }
+        requires { IsNodeOfSort self.now.plan.now node sort.Leaf }
         ensures ok { OnOk result (AreChoices (IsChoice self.now.plan.now node size (resume_point after.entry) used.now) (stack_of scratch.new.following.items)) }
-        ensures steps { Costs self.now.plan.now scratch.old.meter scratch.new.meter 1 }
+        ensures steps { Costs self.now.plan.now meter.old meter.new 1 }
     {
         scratch.following.clear();
         for place in 0..self.plan.count(node) {
-            if let Some(tree) = self.plan.candidate(node, place, &mut scratch.meter) {
+            if let Some(tree) = self.plan.candidate(node, place, meter) {
                 if is_choice_past(after, size, used, tree) {
                     scratch.following.push(tree)?;
                     return Ok(());
@@ -283,8 +275,7 @@ impl<'p, Z: SizeSet> Walk<'p, Z> {
 
     /// Whether some candidate of a leaf comes after the tree.
     pub(crate) fn has_later(&self, node: PlanNode, tree: &Tree, meter: &mut Meter) -> bool
-        requires node { IsNodeOf self.now.plan.now node }
-        requires leaf { sort_of (site self.now.plan.now node) ≡ sort.Leaf }
+        requires { IsNodeOfSort self.now.plan.now node sort.Leaf }
         ensures none { result ≡ false → (u : Data) → IsPart self.now.plan.now.pools (site self.now.plan.now node) u → IsPast (Some (data_of tree.now)) u → ⊥ }
         ensures steps { meter.new ≤ meter.old + 1 }
     {
@@ -300,8 +291,7 @@ impl<'p, Z: SizeSet> Walk<'p, Z> {
 
     /// Whether the tree is a candidate of the leaf. It looks at each candidate at most once.
     pub(crate) fn is_candidate(&self, node: PlanNode, tree: &Tree, meter: &mut Meter) -> bool
-        requires node { IsNodeOf self.now.plan.now node }
-        requires leaf { sort_of (site self.now.plan.now node) ≡ sort.Leaf }
+        requires { IsNodeOfSort self.now.plan.now node sort.Leaf }
         ensures is { IsTrue result ↔ IsPart self.now.plan.now.pools (site self.now.plan.now node) (data_of tree.now) }
         ensures steps { Costs self.now.plan.now meter.old meter.new 1 }
     {

@@ -1,23 +1,20 @@
 //! Lists: the first one, the next one, and whether a tree is one.
-ghost use Rattle.std.specs.Prelude.{◌++◌, ◌∷◌, [], ◌≡◌, ◌+◌, ◌≤◌, ◌<◌, ℕ, length, IfOk, false, OnOk, Some, ◌↔◌, IsTrue, IfSome, ◌≢◌, IfNone, MatchOption};
+ghost use Rattle.std.specs.Prelude.{◌++◌, ◌∷◌, [], ◌≡◌, ◌+◌, ◌≤◌, ◌<◌, ℕ, length, false, Some, IfSome, ◌≢◌, IfNone, MatchOption};
 ghost use Rattle.jtree.specs.Data.{null as null_data, list as list_data, Items as ItemsData};
 ghost use Rattle.jtree.specs.Nodes.{node_count, items_count};
-ghost use Rattle.jtree.specs.Order.{tree_cmp};
 ghost use Rattle.jtree.specs.View.{data_of, items_of};
-ghost use Rattle.plan.specs.Samples.Candidates.{sort_of};
 ghost use Rattle.plan.specs.Samples.Part.{IsPart};
 ghost use Rattle.plan.specs.Samples.RuleOfParts.{admits_null};
 ghost use Rattle.plan.specs.Samples.Sites.{item_site};
 ghost use Rattle.plan.specs.Samples.Sizes.{HasMore};
 ghost use Rattle.plan.specs.Sets.{IsLeastFrom, IsEmptyFrom};
-ghost use Rattle.enumerate.specs.Least.{IsLeast};
+ghost use Rattle.enumerate.specs.Internal.Answers.{MovesItems, AddsFirstItems, Decides, ItemsGrow, FindsFirst, FindsNext};
 ghost use Rattle.enumerate.specs.Internal.Candidates.{stack_of};
-ghost use Rattle.enumerate.specs.Internal.Following.{Continue, ItemsContinue, GrownItemsContinue, ContinueNext};
-ghost use Rattle.enumerate.specs.Internal.Lists.{AreFirst, CanFollow, IsUnusedItem, AddsItems, AreGrown, FitsItem, IsListNode};
+ghost use Rattle.enumerate.specs.Internal.Following.{IsBegun};
+ghost use Rattle.enumerate.specs.Internal.Lists.{CanGrow, AreFirst, IsUnusedItem, FitsItem, IsListNode};
 ghost use Rattle.enumerate.specs.Internal.Membership.{IsListOf};
-ghost use Rattle.enumerate.specs.Internal.Moves.{IsNextTree, AreNextItems};
-ghost use Rattle.enumerate.specs.Internal.Nodes.{site, IsNodeOf, IsPartOf, Costs, HasSizeAt};
-ghost use Rattle.enumerate.specs.Internal.Steps.{KeepsMeter, CostsTree, CostsItems};
+ghost use Rattle.enumerate.specs.Internal.Nodes.{IsNodeOfSort, site, IsPartOf, Costs, HasSizeAt};
+ghost use Rattle.enumerate.specs.Internal.Steps.{CostsTree};
 ghost use Rattle.plan.specs.declared.sort.Sort.TheVariants as sort;
 
 use crate::siblings::Rows;
@@ -42,24 +39,28 @@ impl<'p, Z: SizeSet> Walk<'p, Z> {
         node: PlanNode,
         size: u32,
         scratch: &mut Scratch<'p>,
+        meter: &mut Meter,
     ) -> Result<Tree, AllocError>
-        requires node { IsNodeOf self.now.plan.now node }
-        requires list { sort_of (site self.now.plan.now node) ≡ sort.List }
+        requires node { IsNodeOfSort self.now.plan.now node sort.List }
         requires no_null { size ≡ 1 → admits_null self.now.plan.now.pools (site self.now.plan.now node) ≡ false }
         requires size { HasSizeAt self.now.plan.now node size }
         requires limit { size ≤ self.now.plan.now.limit }
-        ensures ok { IfOk result (λ v. IsLeast tree_cmp (IsPartOf self.now.plan.now node size) (data_of v)) }
-        ensures following { IfOk result (λ v. Continue (IsPartOf self.now.plan.now node size) (data_of v) (stack_of scratch.new.following.items)) }
-        ensures steps { Costs self.now.plan.now scratch.old.meter scratch.new.meter size }
+        ensures { FindsFirst result (IsPartOf self.now.plan.now node size) scratch.new.following.items (Costs self.now.plan.now meter.old meter.new size) }
     {
         self.laws_of(node);
         scratch.following.clear();
         let mut items = Vec::new(self.alloc);
         if size > 1 {
-            let Some(child) = self.plan.item(node, 0, &mut scratch.meter) else {
+            let Some(child) = self.plan.item(node, 0, meter) else {
                 unreachable!()
             };
-            self.first_items(&ListNode { node, child }, size - 1, &mut items, scratch)?;
+            self.first_items(
+                &ListNode { node, child },
+                size - 1,
+                &mut items,
+                scratch,
+                meter,
+            )?;
         }
         Ok(Tree::List(Items { items }))
     }
@@ -72,17 +73,14 @@ impl<'p, Z: SizeSet> Walk<'p, Z> {
         room: u32,
         items: &mut Vec<Tree>,
         scratch: &mut Scratch<'p>,
+        meter: &mut Meter,
     ) -> Result<(), AllocError>
-        requires list { IsListNode self.now.plan.now list.now }
-        requires follow { CanFollow self.now.plan.now list.now.node list.now.child room (items_of items.old.items) }
-        requires following { ItemsContinue self.now.plan.now list.now.node list.now.child (items_of items.old.items) (stack_of scratch.old.following.items) }
-        ensures ok { OnOk result (AddsItems self.now.plan.now list.now.node room items.old.items items.new.items) }
-        ensures following { OnOk result (ItemsContinue self.now.plan.now list.now.node list.now.child (items_of items.new.items) (stack_of scratch.new.following.items)) }
-        ensures steps { Costs self.now.plan.now scratch.old.meter scratch.new.meter room }
+        requires { IsBegun self.now.plan.now list.now room (items_of items.old.items) (stack_of scratch.old.following.items) }
+        ensures { AddsFirstItems result self.now.plan.now list.now room items.old.items items.new.items scratch.new.following.items meter.old meter.new }
     {
         self.laws_of(list.node);
         if room > 0 {
-            self.grow_items(list, room, 0, items, scratch)?;
+            self.grow_items(list, room, 0, items, scratch, meter)?;
         }
         Ok(())
     }
@@ -96,14 +94,10 @@ impl<'p, Z: SizeSet> Walk<'p, Z> {
         from: u32,
         items: &mut Vec<Tree>,
         scratch: &mut Scratch<'p>,
+        meter: &mut Meter,
     ) -> Result<NextParts, AllocError>
-        requires list { IsListNode self.now.plan.now list.now }
-        requires first { AreFirst self.now.plan.now list.now.node list.now.child (items_of items.old.items) }
-        requires within { 1 + items_count (items_of items.old.items) + room ≤ self.now.plan.now.limit }
-        ensures ok { IfOk result (λ next. AreGrown next self.now.plan.now list.now.node list.now.child room from items.old.items items.new.items) }
-        ensures following { IfOk result (λ next. GrownItemsContinue next self.now.plan.now list.now.node list.now.child (items_of items.new.items) (stack_of scratch.new.following.items)) }
-        ensures steps { Costs self.now.plan.now scratch.old.meter scratch.new.meter room }
-        ensures last { IfOk result (λ next. KeepsMeter next scratch.old.meter scratch.new.meter) }
+        requires { CanGrow self.now.plan.now list.now (items_of items.old.items) room }
+        ensures { ItemsGrow result self.now.plan.now list.now room from items.old.items items.new.items scratch.new.following.items meter.old meter.new }
     {
         if from > room {
             return Ok(NextParts::Last(room));
@@ -112,9 +106,9 @@ impl<'p, Z: SizeSet> Walk<'p, Z> {
         let Some(size) = self.least_item(list, others, room, from) else {
             return Ok(NextParts::Last(room));
         };
-        let item = self.first_item(list, size, others, scratch)?;
+        let item = self.first_item(list, size, others, scratch, meter)?;
         items.push(item)?;
-        self.first_items(list, room - size, items, scratch)?;
+        self.first_items(list, room - size, items, scratch, meter)?;
         Ok(NextParts::Made(0))
     }
 
@@ -126,31 +120,34 @@ impl<'p, Z: SizeSet> Walk<'p, Z> {
         size: u32,
         items: &[Tree],
         scratch: &mut Scratch<'p>,
+        meter: &mut Meter,
     ) -> Result<Tree, AllocError>
         requires list { IsListNode self.now.plan.now list.now }
         requires first { AreFirst self.now.plan.now list.now.node list.now.child (items_of items.now) }
         requires size { HasSizeAt self.now.plan.now list.now.child size }
         requires limit { size ≤ self.now.plan.now.limit }
         requires more { (m : ℕ) × HasMore self.now.plan.now.pools self.now.plan.now.limit (site self.now.plan.now list.now.node) (length items.now + 1) m }
-        ensures ok { IfOk result (λ v. IsLeast tree_cmp (IsUnusedItem self.now.plan.now list.now.node list.now.child size (items_of items.now)) (data_of v)) }
-        ensures following { IfOk result (λ v. Continue (IsUnusedItem self.now.plan.now list.now.node list.now.child size (items_of items.now)) (data_of v) (stack_of scratch.new.following.items)) }
-        ensures steps { Costs self.now.plan.now scratch.old.meter scratch.new.meter size }
+        ensures { FindsFirst result (IsUnusedItem self.now.plan.now list.now.node list.now.child size (items_of items.now)) scratch.new.following.items (Costs self.now.plan.now meter.old meter.new size) }
     {
         self.laws_of(list.node);
         self.laws_of(list.child);
         match self.plan.distinct(list.node) {
-            Distinct::Free => self.first_part(list.child, size, scratch),
-            Distinct::Whole => self.first_unused(list.child, size, items, scratch),
-            Distinct::Keys => self.first_row(list.child, size, &Rows::Listed(items), scratch),
+            Distinct::Free => self.first_part(list.child, size, scratch, meter),
+            Distinct::Whole => self.first_unused(list.child, size, items, scratch, meter),
+            Distinct::Keys => self.first_row(
+                list.child,
+                size,
+                &Rows::Listed(items),
+                scratch,
+                meter,
+            ),
         }
     }
 
     /// The least size from `from` on of an item after the others that leaves those after it the rest of `room` nodes.
     #[inline(always)]
     fn least_item(&self, list: &ListNode, items: &[Tree], room: u32, from: u32) -> Option<u32>
-        requires list { IsListNode self.now.plan.now list.now }
-        requires first { AreFirst self.now.plan.now list.now.node list.now.child (items_of items.now) }
-        requires within { 1 + items_count (items_of items.now) + room ≤ self.now.plan.now.limit }
+        requires { CanGrow self.now.plan.now list.now (items_of items.now) room }
         ensures { MatchOption result (IsEmptyFrom (FitsItem self.now.plan.now list.now.node list.now.child (length items.now) room) from) (IsLeastFrom (FitsItem self.now.plan.now list.now.node list.now.child (length items.now) room) from) }
     {
         self.laws_of(list.node);
@@ -166,15 +163,13 @@ impl<'p, Z: SizeSet> Walk<'p, Z> {
         node: PlanNode,
         tree: Tree,
         scratch: &mut Scratch<'p>,
+        meter: &mut Meter,
     ) -> Result<NextTree, AllocError>
-        requires node { IsNodeOf self.now.plan.now node }
-        requires sort { sort_of (site self.now.plan.now node) ≡ sort.List }
+        requires node { IsNodeOfSort self.now.plan.now node sort.List }
         requires part { IsPart self.now.plan.now.pools (site self.now.plan.now node) (data_of tree) }
         requires no_null { data_of tree ≢ null_data }
         requires limit { node_count (data_of tree) ≤ self.now.plan.now.limit }
-        ensures ok { IfOk result (λ next. IsNextTree (IsPartOf self.now.plan.now node (node_count (data_of tree))) (data_of tree) next) }
-        ensures following { IfOk result (λ next. ContinueNext (IsPartOf self.now.plan.now node (node_count (data_of tree))) next (stack_of scratch.new.following.items)) }
-        ensures steps { CostsTree result self.now.plan.now scratch.old.meter scratch.new.meter (node_count (data_of tree)) }
+        ensures { FindsNext result (IsPartOf self.now.plan.now node (node_count (data_of tree))) (data_of tree) scratch.new.following.items (CostsTree result self.now.plan.now meter.old meter.new (node_count (data_of tree))) }
     {
         self.laws_of(node);
         let Some(mut items) = into_items(tree) else {
@@ -183,10 +178,10 @@ impl<'p, Z: SizeSet> Walk<'p, Z> {
         if items.is_empty() {
             return Ok(NextTree::Last(1));
         }
-        let Some(child) = self.plan.item(node, 0, &mut scratch.meter) else {
+        let Some(child) = self.plan.item(node, 0, meter) else {
             unreachable!()
         };
-        match self.next_items(&ListNode { node, child }, &mut items, scratch)? {
+        match self.next_items(&ListNode { node, child }, &mut items, scratch, meter)? {
             NextParts::Made(depth) => Ok(NextTree::To(Tree::List(Items { items }), depth)),
             NextParts::Last(room) => Ok(NextTree::Last(room + 1)),
         }
@@ -199,26 +194,25 @@ impl<'p, Z: SizeSet> Walk<'p, Z> {
         list: &ListNode,
         items: &mut Vec<Tree>,
         scratch: &mut Scratch<'p>,
+        meter: &mut Meter,
     ) -> Result<NextParts, AllocError>
         requires list { IsListNode self.now.plan.now list.now }
         requires item { item_site self.now.plan.now.pools (site self.now.plan.now list.now.node) ≡ Some (site self.now.plan.now list.now.child) }
         requires part { IsPart self.now.plan.now.pools (site self.now.plan.now list.now.node) (list_data (items_of items.old.items)) }
         requires limit { items_count (items_of items.old.items) < self.now.plan.now.limit }
-        ensures ok { IfOk result (λ next. AreNextItems next self.now.plan.now list.now.node (items_of items.old.items) (items_of items.new.items)) }
-        ensures following { IfOk result (λ next. GrownItemsContinue next self.now.plan.now list.now.node list.now.child (items_of items.new.items) (stack_of scratch.new.following.items)) }
-        ensures steps { CostsItems result self.now.plan.now scratch.old.meter scratch.new.meter (items_count (items_of items.old.items)) }
+        ensures { MovesItems result self.now.plan.now list.now items.old.items items.new.items scratch.new.following.items meter.old meter.new }
     {
         self.laws_of(list.node);
         let mut room = 0;
         while let Some(item) = items.pop() {
-            match self.next_item(list, item, items.as_slice(), scratch)? {
+            match self.next_item(list, item, items.as_slice(), scratch, meter)? {
                 NextTree::To(next, depth) => {
                     let depth = below(room, depth);
-                    self.put_item(list, room, next, items, scratch)?;
+                    self.put_item(list, room, next, items, scratch, meter)?;
                     return Ok(NextParts::Made(depth));
                 }
                 NextTree::Last(size) => {
-                    match self.grow_larger_items(list, room, size, items, scratch)? {
+                    match self.grow_larger_items(list, room, size, items, scratch, meter)? {
                         NextParts::Made(depth) => return Ok(NextParts::Made(depth)),
                         NextParts::Last(nodes) => room = nodes,
                     }
@@ -236,23 +230,22 @@ impl<'p, Z: SizeSet> Walk<'p, Z> {
         item: Tree,
         items: &[Tree],
         scratch: &mut Scratch<'p>,
+        meter: &mut Meter,
     ) -> Result<NextTree, AllocError>
         requires list { IsListNode self.now.plan.now list.now }
         requires first { AreFirst self.now.plan.now list.now.node list.now.child (items_of items.now) }
         requires item { IsUnusedItem self.now.plan.now list.now.node list.now.child (node_count (data_of item)) (items_of items.now) (data_of item) }
         requires within { items_count (items_of items.now) + node_count (data_of item) < self.now.plan.now.limit }
-        ensures ok { IfOk result (λ next. IsNextTree (IsUnusedItem self.now.plan.now list.now.node list.now.child (node_count (data_of item)) (items_of items.now)) (data_of item) next) }
-        ensures following { IfOk result (λ next. ContinueNext (IsUnusedItem self.now.plan.now list.now.node list.now.child (node_count (data_of item)) (items_of items.now)) next (stack_of scratch.new.following.items)) }
-        ensures steps { CostsTree result self.now.plan.now scratch.old.meter scratch.new.meter (node_count (data_of item)) }
+        ensures { FindsNext result (IsUnusedItem self.now.plan.now list.now.node list.now.child (node_count (data_of item)) (items_of items.now)) (data_of item) scratch.new.following.items (CostsTree result self.now.plan.now meter.old meter.new (node_count (data_of item))) }
     {
         self.laws_of(list.node);
         self.laws_of(list.child);
         match self.plan.distinct(list.node) {
-            Distinct::Free => self.next_part(list.child, item, scratch),
-            Distinct::Whole => self.next_unused(list.child, item, items, scratch),
+            Distinct::Free => self.next_part(list.child, item, scratch, meter),
+            Distinct::Whole => self.next_unused(list.child, item, items, scratch, meter),
             Distinct::Keys => {
                 let used = Rows::Listed(items);
-                self.next_row(list.child, item, &used, scratch)
+                self.next_row(list.child, item, &used, scratch, meter)
             }
         }
     }
@@ -266,16 +259,13 @@ impl<'p, Z: SizeSet> Walk<'p, Z> {
         item: Tree,
         items: &mut Vec<Tree>,
         scratch: &mut Scratch<'p>,
+        meter: &mut Meter,
     ) -> Result<(), AllocError>
-        requires list { IsListNode self.now.plan.now list.now }
-        requires follow { CanFollow self.now.plan.now list.now.node list.now.child room (items_of (items.old.items ++ item ∷ [])) }
-        requires following { ItemsContinue self.now.plan.now list.now.node list.now.child (items_of (items.old.items ++ item ∷ [])) (stack_of scratch.old.following.items) }
-        ensures ok { OnOk result (AddsItems self.now.plan.now list.now.node room (items.old.items ++ item ∷ []) items.new.items) }
-        ensures following { OnOk result (ItemsContinue self.now.plan.now list.now.node list.now.child (items_of items.new.items) (stack_of scratch.new.following.items)) }
-        ensures steps { Costs self.now.plan.now scratch.old.meter scratch.new.meter room }
+        requires { IsBegun self.now.plan.now list.now room (items_of (items.old.items ++ item ∷ [])) (stack_of scratch.old.following.items) }
+        ensures { AddsFirstItems result self.now.plan.now list.now room (items.old.items ++ item ∷ []) items.new.items scratch.new.following.items meter.old meter.new }
     {
         items.push(item)?;
-        self.first_items(list, room, items, scratch)
+        self.first_items(list, room, items, scratch, meter)
     }
 
     /// Appends the first item of more than `size` nodes, and the first items after it, of `room` and `size` nodes together; or nothing,
@@ -288,17 +278,13 @@ impl<'p, Z: SizeSet> Walk<'p, Z> {
         size: u32,
         items: &mut Vec<Tree>,
         scratch: &mut Scratch<'p>,
+        meter: &mut Meter,
     ) -> Result<NextParts, AllocError>
-        requires list { IsListNode self.now.plan.now list.now }
-        requires first { AreFirst self.now.plan.now list.now.node list.now.child (items_of items.old.items) }
-        requires within { 1 + items_count (items_of items.old.items) + (room + size) ≤ self.now.plan.now.limit }
-        ensures ok { IfOk result (λ next. AreGrown next self.now.plan.now list.now.node list.now.child (room + size) (size + 1) items.old.items items.new.items) }
-        ensures following { IfOk result (λ next. GrownItemsContinue next self.now.plan.now list.now.node list.now.child (items_of items.new.items) (stack_of scratch.new.following.items)) }
-        ensures steps { Costs self.now.plan.now scratch.old.meter scratch.new.meter (room + size) }
-        ensures last { IfOk result (λ next. KeepsMeter next scratch.old.meter scratch.new.meter) }
+        requires { CanGrow self.now.plan.now list.now (items_of items.old.items) (room + size) }
+        ensures { ItemsGrow result self.now.plan.now list.now (room + size) (size + 1) items.old.items items.new.items scratch.new.following.items meter.old meter.new }
     {
         self.laws_of(list.node);
-        self.grow_items(list, room + size, size + 1, items, scratch)
+        self.grow_items(list, room + size, size + 1, items, scratch, meter)
     }
 
     /// Whether the tree is a list that is a part of the node.
@@ -309,11 +295,9 @@ impl<'p, Z: SizeSet> Walk<'p, Z> {
         tree: &Tree,
         meter: &mut Meter,
     ) -> Result<bool, AllocError>
-        requires node { IsNodeOf self.now.plan.now node }
-        requires list { sort_of (site self.now.plan.now node) ≡ sort.List }
+        requires node { IsNodeOfSort self.now.plan.now node sort.List }
         requires limit { node_count (data_of tree.now) ≤ self.now.plan.now.limit }
-        ensures ok { IfOk result (λ is. IsTrue is ↔ IsListOf self.now.plan.now node (data_of tree.now)) }
-        ensures steps { Costs self.now.plan.now meter.old meter.new (node_count (data_of tree.now)) }
+        ensures { Decides result (IsListOf self.now.plan.now node (data_of tree.now)) (Costs self.now.plan.now meter.old meter.new (node_count (data_of tree.now))) }
     {
         match tree {
             Tree::List(list) => self.make_list(node, list.items.as_slice(), meter),
@@ -329,11 +313,9 @@ impl<'p, Z: SizeSet> Walk<'p, Z> {
         items: &[Tree],
         meter: &mut Meter,
     ) -> Result<bool, AllocError>
-        requires node { IsNodeOf self.now.plan.now node }
-        requires list { sort_of (site self.now.plan.now node) ≡ sort.List }
+        requires node { IsNodeOfSort self.now.plan.now node sort.List }
         requires limit { 1 + items_count (items_of items.now) ≤ self.now.plan.now.limit }
-        ensures ok { IfOk result (λ is. IsTrue is ↔ IsPart self.now.plan.now.pools (site self.now.plan.now node) (list_data (items_of items.now))) }
-        ensures steps { Costs self.now.plan.now meter.old meter.new (1 + items_count (items_of items.now)) }
+        ensures { Decides result (IsPart self.now.plan.now.pools (site self.now.plan.now node) (list_data (items_of items.now))) (Costs self.now.plan.now meter.old meter.new (1 + items_count (items_of items.now))) }
     {
         if items.is_empty() {
             return Ok(self.plan.more(node, 0).has(0));
@@ -363,8 +345,7 @@ impl<'p, Z: SizeSet> Walk<'p, Z> {
         requires list { IsListNode self.now.plan.now list.now }
         requires first { AreFirst self.now.plan.now list.now.node list.now.child (items_of items.now) }
         requires limit { node_count (data_of item.now) ≤ self.now.plan.now.limit }
-        ensures ok { IfOk result (λ is. IsTrue is ↔ IsUnusedItem self.now.plan.now list.now.node list.now.child (node_count (data_of item.now)) (items_of items.now) (data_of item.now)) }
-        ensures steps { Costs self.now.plan.now meter.old meter.new (node_count (data_of item.now)) }
+        ensures { Decides result (IsUnusedItem self.now.plan.now list.now.node list.now.child (node_count (data_of item.now)) (items_of items.now) (data_of item.now)) (Costs self.now.plan.now meter.old meter.new (node_count (data_of item.now))) }
     {
         self.laws_of(list.node);
         self.laws_of(list.child);

@@ -8,7 +8,6 @@ use jtree::Tree;
 use plan::{Meter, Plan, SizeSet};
 use std::alloc::Global;
 use std::marker::Model;
-use std::mem;
 
 /// An enumeration of the samples of a plan. It has a current sample until it has ended.
 pub struct Live<'p, Z: SizeSet> {
@@ -65,10 +64,7 @@ impl<'p, Z: SizeSet> Live<'p, Z> {
     {
         let walk = Walk { alloc, plan };
         let mut scratch = Scratch::new(alloc);
-        mem::swap(meter, &mut scratch.meter);
-        let first = walk.first_from(0, &mut scratch);
-        mem::swap(meter, &mut scratch.meter);
-        match first? {
+        match walk.first_from(0, &mut scratch, meter)? {
             Some(tree) => Ok(Some(Live {
                 walk,
                 current: Some(Current::at(plan, tree, scratch)),
@@ -99,10 +95,7 @@ impl<'p, Z: SizeSet> Live<'p, Z> {
         }
         let copy = copy_of(alloc, tree)?;
         let mut scratch = Scratch::new(alloc);
-        mem::swap(meter, &mut scratch.meter);
-        let next = walk.next_sample(copy, &mut scratch);
-        mem::swap(meter, &mut scratch.meter);
-        match next? {
+        match walk.next_sample(copy, &mut scratch, meter)? {
             NextTree::To(next, _) => Ok(Some(Live {
                 walk,
                 current: Some(Current::at(plan, next, scratch)),

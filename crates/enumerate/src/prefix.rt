@@ -8,7 +8,7 @@ ghost use Rattle.enumerate.specs.Internal.Candidates.{used_rows, agreeing_if};
 ghost use Rattle.enumerate.specs.Internal.Moves.{Begins};
 ghost use Rattle.enumerate.specs.Internal.Nodes.{site, IsNodeOf};
 ghost use Rattle.enumerate.specs.Internal.Prefixes.{members_to, agreeing_rows, IsPrefix};
-ghost use Rattle.enumerate.specs.Internal.Rows.{slots_from, ending_at};
+ghost use Rattle.enumerate.specs.Internal.Rows.{IsPlaceAfter, slots_from, ending_at};
 ghost use Rattle.plan.specs.declared.sort.Sort.TheVariants as sort;
 
 use crate::siblings::{Chosen, Rows, keep_agreeing, still_used};
@@ -158,10 +158,7 @@ impl<'p, Z: SizeSet> Walk<'p, Z> {
         used: &Rows<'a>,
         meter: &mut Meter,
     ) -> Result<Prefix<'a>, AllocError>
-        requires node { IsNodeOf self.now.plan.now node }
-        requires row { sort_of (site self.now.plan.now node) ≡ sort.Row }
-        requires place { place ≤ length (slots_from self.now.plan.now node 0) }
-        requires limit { length members.now < self.now.plan.now.limit }
+        requires { IsPlaceAfter self.now.plan.now node place members.now }
         ensures prefix { IfOk result (λ prefix. (gs : List (Option Data)) → AreFillings self.now.plan.now.pools (slots_from self.now.plan.now node 0) gs → members_of members.now ≡ members_to place (slots_from self.now.plan.now node 0) gs
             → IsPrefix (slots_from self.now.plan.now node 0) place gs (used_rows used.now) prefix) }
         ensures steps { meter.new ≤ meter.old + place }
@@ -185,10 +182,7 @@ impl<'p, Z: SizeSet> Walk<'p, Z> {
         used: &Rows<'a>,
         meter: &mut Meter,
     ) -> Result<Prefix<'a>, AllocError>
-        requires node { IsNodeOf self.now.plan.now node }
-        requires row { sort_of (site self.now.plan.now node) ≡ sort.Row }
-        requires place { place ≤ length (slots_from self.now.plan.now node 0) }
-        requires limit { length members.now < self.now.plan.now.limit }
+        requires { IsPlaceAfter self.now.plan.now node place members.now }
         ensures prefix { IfOk result (λ prefix. (gs : List (Option Data)) → AreFillings self.now.plan.now.pools (slots_from self.now.plan.now node 0) gs → members_of members.now ≡ members_to place (slots_from self.now.plan.now node 0) gs
             → IsPrefix (slots_from self.now.plan.now node 0) place gs (used_rows used.now) prefix) }
         ensures steps { meter.new ≤ meter.old + place }

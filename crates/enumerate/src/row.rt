@@ -1,8 +1,7 @@
 //! Objects and maps, which are rows of slots.
 ghost use Rattle.std.specs.Prelude.{◌≡◌, ◌<◌, length};
-ghost use Rattle.plan.specs.Samples.Candidates.{sort_of};
 ghost use Rattle.plan.specs.Samples.Steps.{counted};
-ghost use Rattle.enumerate.specs.Internal.Nodes.{site, IsNodeOf};
+ghost use Rattle.enumerate.specs.Internal.Nodes.{IsNodeOfSort};
 ghost use Rattle.enumerate.specs.Internal.Rows.{slots_from, IsSlotOf};
 ghost use Rattle.plan.specs.declared.sort.Sort.TheVariants as sort;
 
@@ -47,8 +46,7 @@ impl<'p, Z: SizeSet> Walk<'p, Z> {
     /// The slot at a place of a row.
     #[inline(always)]
     pub(crate) fn slot_at(&self, node: PlanNode, place: u64, meter: &mut Meter) -> Slot<'p>
-        requires node { IsNodeOf self.now.plan.now node }
-        requires row { sort_of (site self.now.plan.now node) ≡ sort.Row }
+        requires node { IsNodeOfSort self.now.plan.now node sort.Row }
         requires place { place < length (slots_from self.now.plan.now node 0) }
         ensures slot { IsSlotOf self.now.plan.now node place result }
         ensures step { meter.new ≡ counted meter.old 1 }

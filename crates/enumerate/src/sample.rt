@@ -1,6 +1,7 @@
 //! Samples of a plan, by their sizes.
-ghost use Rattle.std.specs.Prelude.{IfOk, ◌*◌, ◌↔◌, IsTrue, IfSome};
+ghost use Rattle.std.specs.Prelude.{IfOk, ◌*◌, IfSome};
 ghost use Rattle.jtree.specs.View.{data_of};
+ghost use Rattle.enumerate.specs.Internal.Answers.{Decides};
 ghost use Rattle.enumerate.specs.Page.{IsSampleOf};
 ghost use Rattle.enumerate.specs.View.{tree_of};
 ghost use Rattle.enumerate.specs.Internal.Candidates.{stack_of};
@@ -19,16 +20,17 @@ impl<'p, Z: SizeSet> Walk<'p, Z> {
         &self,
         from: u32,
         scratch: &mut Scratch<'p>,
+        meter: &mut Meter,
     ) -> Result<Option<Tree>, AllocError>
         ensures ok { IfOk result (λ found. IsFirstFrom self.now.plan.now from (tree_of found)) }
         ensures following { IfOk result (λ found. IfSome (tree_of found) (λ v. ContinueSample self.now.plan.now v (stack_of scratch.new.following.items))) }
-        ensures steps { Costs self.now.plan.now scratch.old.meter scratch.new.meter self.now.plan.now.limit }
+        ensures steps { Costs self.now.plan.now meter.old meter.new self.now.plan.now.limit }
     {
         jtree::laws::last_node_is_replaced();
         let root = self.plan.root();
         self.reveal_limit();
         match self.plan.sizes(root).next(from) {
-            Some(size) => Ok(Some(self.first_part(root, size, scratch)?)),
+            Some(size) => Ok(Some(self.first_part(root, size, scratch, meter)?)),
             None => Ok(None),
         }
     }
@@ -38,20 +40,21 @@ impl<'p, Z: SizeSet> Walk<'p, Z> {
         &self,
         tree: Tree,
         scratch: &mut Scratch<'p>,
+        meter: &mut Meter,
     ) -> Result<NextTree, AllocError>
         requires sample { IsSampleOf self.now.plan.now (data_of tree) }
         ensures ok { IfOk result (λ next. IsSampleAfter self.now.plan.now (data_of tree) next) }
         ensures following { IfOk result (λ next. ContinueAfter self.now.plan.now next (stack_of scratch.new.following.items)) }
-        ensures steps { Costs self.now.plan.now scratch.old.meter scratch.new.meter (3 * self.now.plan.now.limit) }
+        ensures steps { Costs self.now.plan.now meter.old meter.new (3 * self.now.plan.now.limit) }
     {
         jtree::laws::last_node_is_replaced();
         let root = self.plan.root();
         let limit = self.plan.limit();
-        match self.next_part(root, tree, scratch)? {
+        match self.next_part(root, tree, scratch, meter)? {
             NextTree::To(next, depth) => Ok(NextTree::To(next, depth)),
             NextTree::Last(size) => {
                 if size < limit {
-                    match self.first_from(size + 1, scratch)? {
+                    match self.first_from(size + 1, scratch, meter)? {
                         Some(next) => Ok(NextTree::To(next, 0)),
                         None => Ok(NextTree::Last(size)),
                     }
@@ -64,8 +67,7 @@ impl<'p, Z: SizeSet> Walk<'p, Z> {
 
     /// Whether the tree is a sample.
     pub(crate) fn is_sample(&self, tree: &Tree, meter: &mut Meter) -> Result<bool, AllocError>
-        ensures ok { IfOk result (λ is. IsTrue is ↔ IsSampleOf self.now.plan.now (data_of tree.now)) }
-        ensures steps { Costs self.now.plan.now meter.old meter.new self.now.plan.now.limit }
+        ensures { Decides result (IsSampleOf self.now.plan.now (data_of tree.now)) (Costs self.now.plan.now meter.old meter.new self.now.plan.now.limit) }
     {
         if tree.nodes() > self.plan.limit() as u64 {
             return Ok(false);

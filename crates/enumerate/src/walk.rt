@@ -7,22 +7,16 @@
 //!
 //! In a set the items that are there already are skipped. In a map list an item gets its keys one by one, each in view of the items
 //! that have the same keys so far (`siblings`).
-ghost use Rattle.std.specs.Prelude.{[], ◌≡◌, ◌≤◌, ◌<◌, ℕ, List, IfOk, filter, ◌↔◌, IsTrue, ◌≢◌};
+ghost use Rattle.std.specs.Prelude.{[], ◌≡◌, ◌≤◌, ◌<◌, List, ◌↔◌, IsTrue, ◌≢◌};
 ghost use Rattle.jtree.specs.Data.{null as null_data};
 ghost use Rattle.jtree.specs.Nodes.{node_count};
-ghost use Rattle.jtree.specs.Order.{tree_cmp};
 ghost use Rattle.jtree.specs.View.{data_of};
 ghost use Rattle.plan.specs.Samples.Candidates.{sort_of};
-ghost use Rattle.plan.specs.Samples.Keys.{HasSoundParts};
-ghost use Rattle.plan.specs.Samples.NoDeadEnd.{is_key, NoDeadEnd, AreCounts};
 ghost use Rattle.plan.specs.Samples.Part.{IsPart};
-ghost use Rattle.plan.specs.Samples.RuleOfParts.{RuleOfParts};
 ghost use Rattle.plan.specs.Samples.Sites.{slots};
-ghost use Rattle.enumerate.specs.Least.{IsLeast};
-ghost use Rattle.enumerate.specs.Internal.Candidates.{stack_of};
-ghost use Rattle.enumerate.specs.Internal.Following.{Continue, ContinueNext};
+ghost use Rattle.enumerate.specs.Internal.Answers.{Decides, FindsFirst, FindsNext};
 ghost use Rattle.enumerate.specs.Internal.Moves.{IsNextTree};
-ghost use Rattle.enumerate.specs.Internal.Nodes.{site, IsNodeOf, IsPartOf, Costs, HasSizeAt, FreeLaw};
+ghost use Rattle.enumerate.specs.Internal.Nodes.{HasLaws, site, IsNodeOf, IsPartOf, Costs, HasSizeAt};
 ghost use Rattle.enumerate.specs.Internal.Steps.{CostsTree};
 ghost use Rattle.plan.specs.declared.sort.Sort.TheVariants as sort;
 
@@ -39,28 +33,25 @@ pub(crate) struct Walk<'p, Z: SizeSet> {
     pub plan: &'p Plan<Z>,
 }
 
-/// What is kept from one sample to the next, and the count of steps while a walk goes on.
+/// What is kept from one sample to the next.
 #[derive(Drop)]
 pub(crate) struct Scratch<'p> {
     /// On top the candidate that is the last node, and below it those that follow in its place.
     pub following: Vec<&'p Tree>,
     /// Names of members that were removed, whose memory is used again: at most as many as a sample had members.
     pub spare: Vec<Text>,
-    pub meter: Meter,
 }
 
 impl<'p> Scratch<'p> {
-    ghost use Rattle.std.specs.Prelude.{◌≡◌, [], ◌-◌, ◌^◌};
+    ghost use Rattle.std.specs.Prelude.{◌≡◌, []};
 
-    /// With nothing in it. Its meter takes the place of the caller's, which is put here while a walk goes on; it counts no more, so
-    /// that nothing can begin to count anew.
+    /// With nothing in it.
     pub(crate) fn new(alloc: Global) -> Scratch<'p>
         ensures following { result.following.items ≡ [] }
     {
         Scratch {
             following: Vec::new(alloc),
             spare: Vec::new(alloc),
-            meter: Meter::spent(),
         }
     }
 }
@@ -95,12 +86,7 @@ impl<'p, Z: SizeSet> Walk<'p, Z> {
     /// Does nothing: a proof calls it to learn the laws of a node's parts.
     pub(crate) fn laws_of(&self, node: PlanNode)
         requires node { IsNodeOf self.now.plan.now node }
-        ensures rule { RuleOfParts self.now.plan.now.pools self.now.plan.now.limit (site self.now.plan.now node) }
-        ensures completed { NoDeadEnd self.now.plan.now.pools self.now.plan.now.limit (site self.now.plan.now node) }
-        ensures sound { HasSoundParts self.now.plan.now.pools (site self.now.plan.now node) }
-        ensures counts { (counts : List ℕ) × AreCounts self.now.plan.now.pools (filter is_key (slots self.now.plan.now.pools (site self.now.plan.now node))) counts }
-        ensures free { FreeLaw }
-        ensures limit { self.now.plan.now.limit < 4294967296 }
+        ensures { HasLaws self.now.plan.now node }
     {
         let _ = node;
         self.plan.no_dead_end();
@@ -115,23 +101,22 @@ impl<'p, Z: SizeSet> Walk<'p, Z> {
         node: PlanNode,
         size: u32,
         scratch: &mut Scratch<'p>,
+        meter: &mut Meter,
     ) -> Result<Tree, AllocError>
         requires node { IsNodeOf self.now.plan.now node }
         requires size { HasSizeAt self.now.plan.now node size }
         requires limit { size ≤ self.now.plan.now.limit }
-        ensures ok { IfOk result (λ v. IsLeast tree_cmp (IsPartOf self.now.plan.now node size) (data_of v)) }
-        ensures following { IfOk result (λ v. Continue (IsPartOf self.now.plan.now node size) (data_of v) (stack_of scratch.new.following.items)) }
-        ensures steps { Costs self.now.plan.now scratch.old.meter scratch.new.meter size }
+        ensures { FindsFirst result (IsPartOf self.now.plan.now node size) scratch.new.following.items (Costs self.now.plan.now meter.old meter.new size) }
     {
         self.laws_of(node);
         match self.plan.sort(node) {
-            Sort::Leaf => self.first_unused(node, size, &[], scratch),
+            Sort::Leaf => self.first_unused(node, size, &[], scratch, meter),
             _ if size == 1 && self.plan.null_ok(node) => {
                 scratch.following.clear();
                 Ok(Tree::Null)
             }
-            Sort::Row => self.first_row(node, size, &Rows::Listed(&[]), scratch),
-            Sort::List => self.first_list(node, size, scratch),
+            Sort::Row => self.first_row(node, size, &Rows::Listed(&[]), scratch, meter),
+            Sort::List => self.first_list(node, size, scratch, meter),
         }
     }
 
@@ -143,23 +128,22 @@ impl<'p, Z: SizeSet> Walk<'p, Z> {
         node: PlanNode,
         tree: Tree,
         scratch: &mut Scratch<'p>,
+        meter: &mut Meter,
     ) -> Result<NextTree, AllocError>
         requires node { IsNodeOf self.now.plan.now node }
         requires part { IsPart self.now.plan.now.pools (site self.now.plan.now node) (data_of tree) }
         requires limit { node_count (data_of tree) ≤ self.now.plan.now.limit }
-        ensures ok { IfOk result (λ next. IsNextTree (IsPartOf self.now.plan.now node (node_count (data_of tree))) (data_of tree) next) }
-        ensures following { IfOk result (λ next. ContinueNext (IsPartOf self.now.plan.now node (node_count (data_of tree))) next (stack_of scratch.new.following.items)) }
-        ensures steps { CostsTree result self.now.plan.now scratch.old.meter scratch.new.meter (node_count (data_of tree)) }
+        ensures { FindsNext result (IsPartOf self.now.plan.now node (node_count (data_of tree))) (data_of tree) scratch.new.following.items (CostsTree result self.now.plan.now meter.old meter.new (node_count (data_of tree))) }
     {
         self.laws_of(node);
         match self.plan.sort(node) {
-            Sort::Leaf => self.next_unused(node, tree, &[], scratch),
+            Sort::Leaf => self.next_unused(node, tree, &[], scratch, meter),
             _ if is_null(&tree) => {
                 scratch.following.clear();
                 Ok(self.after_null(node))
             }
-            Sort::Row => self.next_row(node, tree, &Rows::Listed(&[]), scratch),
-            Sort::List => self.next_list(node, tree, scratch),
+            Sort::Row => self.next_row(node, tree, &Rows::Listed(&[]), scratch, meter),
+            Sort::List => self.next_list(node, tree, scratch, meter),
         }
     }
 
@@ -194,8 +178,7 @@ impl<'p, Z: SizeSet> Walk<'p, Z> {
     ) -> Result<bool, AllocError>
         requires node { IsNodeOf self.now.plan.now node }
         requires limit { node_count (data_of tree.now) ≤ self.now.plan.now.limit }
-        ensures ok { IfOk result (λ is. IsTrue is ↔ IsPart self.now.plan.now.pools (site self.now.plan.now node) (data_of tree.now)) }
-        ensures steps { Costs self.now.plan.now meter.old meter.new (node_count (data_of tree.now)) }
+        ensures { Decides result (IsPart self.now.plan.now.pools (site self.now.plan.now node) (data_of tree.now)) (Costs self.now.plan.now meter.old meter.new (node_count (data_of tree.now))) }
     {
         self.laws_of(node);
         match self.plan.sort(node) {

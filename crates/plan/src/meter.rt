@@ -18,7 +18,7 @@ impl Model for Meter {
 }
 
 impl Meter {
-    ghost use Rattle.std.specs.Prelude.{◌≡◌, ◌-◌, ◌^◌};
+    ghost use Rattle.std.specs.Prelude.{◌≡◌};
     ghost use Rattle.plan.specs.Samples.Steps.{counted};
 
     /// A meter at 0.
@@ -26,13 +26,6 @@ impl Meter {
         ensures { result ≡ 0 }
     {
         Meter { steps: 0 }
-    }
-
-    /// A meter that counts no more.
-    pub fn spent() -> Meter
-        ensures { result ≡ 2 ^ 64 - 1 }
-    {
-        Meter { steps: u64::MAX }
     }
 
     /// The number of steps.

@@ -443,8 +443,6 @@ fn limits(rt: HostRuntime) -> Result<(), Fail> {
         let ended = is_said(&mut report, "what is made", found, row.wanted);
         report.row(row.name, ended);
     }
-    report.is_number("the steps", Meter::spent().steps(), u64::MAX);
-    report.row("a spent meter", Ok(()));
     report.end(&rt)
 }
 

@@ -1,12 +1,11 @@
 -- Walking a row from the last slot to the first.
-use Rattle.std.specs.Prelude.{◌≡◌, ℕ, zero, suc, ◌+◌, ◌-◌, ◌≤◌, slice_get, List, true, false, Option, Some, None, drop, length}
-use Rattle.std.proofs.Common.{ltb, refl, ap, sym, ◌∙◌, subst, inl, inr, arith, [], ◌∷◌, ◌++◌}
+use Rattle.std.specs.Prelude.{◌≡◌, ◌↔◌, ℕ, zero, suc, ◌+◌, ◌-◌, ◌≤◌, slice_get, List, true, false, Option, Some, None, drop, length}
+use Rattle.std.proofs.Common.{refl, ap, sym, ◌∙◌, subst, inl, inr, arith, [], ◌∷◌, ◌++◌}
 use Rattle.jtree.specs.Data.{Data, no_members, member}
 use Rattle.std.proofs.Math.ListN.{drop_of_length-le}
 use Rattle.std.proofs.lemmas.List.{take-append-drop}
 use Rattle.enumerate.specs.Page.{IsPast}
 use Rattle.plan.specs.Samples.Part.{IsPart}
-use Rattle.std.proofs.lemmas.Bool.{ltb-false}
 use Rattle.jtree.specs.Nodes.{node_count, members_count, most_nodes}
 use Rattle.jtree.specs.View.{data_of, members_of}
 use Rattle.jtree.specs.declared.value.Member.{Member}
@@ -205,21 +204,27 @@ known_at P (suc place) (s ∷ ss) [] used keys are known = absurd are
 known_at P (suc place) (s ∷ ss) (None ∷ gs) used keys are known = known_at P place ss gs used (keys_after P s ss keys) are.1 (used_out P s ss used (no_key P s ss keys are.0) known)
 known_at P (suc place) (s ∷ ss) (Some v ∷ gs) used keys are known = known_at P place ss gs (still_used s v used) (keys_after P s ss keys) are.1 (used_after P s ss v used known)
 
--- the last member has another name
-not_at : (members : List Member) (n : ℕ) (last : Member) (k : List ℕ) → n + 1 ≡ length members → Some last ≡ slice_get members n → (last.name ≡ k → ⊥) → EndsIn k members → ⊥
-not_at [] n last k count is other ends = ends
-not_at (one ∷ []) zero last k count is other ends = let same : last ≡ one = cc in other (ap (λ m. m.name) same ∙ ends)
-not_at (one ∷ []) (suc n) last k count is other ends = absurd (omega (arith, count))
-not_at (one ∷ two ∷ members) zero last k count is other ends = absurd (omega (arith, count))
-not_at (one ∷ two ∷ members) (suc n) last k count is other ends = not_at (two ∷ members) n last k (omega (arith, count)) is other ends
+-- whether the last member has a name
+last_at : (members : List Member) (n : ℕ) (last : Member) (k : List ℕ) → n + 1 ≡ length members → Some last ≡ slice_get members n → EndsIn k members ↔ (last.name ≡ k)
+last_at [] n last k count is = absurd (omega (arith, count))
+last_at (one ∷ []) zero last k count is = let same : last ≡ one = cc in (λ ends. ap (λ m. m.name) same ∙ ends, λ ends. sym (ap (λ m. m.name) same) ∙ ends)
+last_at (one ∷ []) (suc n) last k count is = absurd (omega (arith, count))
+last_at (one ∷ two ∷ members) zero last k count is = absurd (omega (arith, count))
+last_at (one ∷ two ∷ members) (suc n) last k count is = last_at (two ∷ members) n last k (omega (arith, count)) is
 
-pub not_last : (members : List Member) (last : Member) (k : List ℕ) → Some last ≡ slice_get members (length members - 1) → (last.name ≡ k → ⊥) → EndsIn k members → ⊥
-not_last [] last k is other ends = ends
-not_last (one ∷ members) last k is other ends = not_at (one ∷ members) (length (one ∷ members) - 1) last k (omega arith) is other ends
+pub last_is : (members : List Member) (last : Member) (k : List ℕ) → Some last ≡ slice_get members (length members - 1) → EndsIn k members ↔ (last.name ≡ k)
+last_is [] last k is = absurd (cc)
+last_is (one ∷ members) last k is = last_at (one ∷ members) (length (one ∷ members) - 1) last k (omega arith) is
 
-pub no_last : (members : List Member) (k : List ℕ) → false ≡ ltb 0 (length members) → EndsIn k members → ⊥
-no_last [] k is ends = ends
-no_last (one ∷ members) k is ends = absurd (omega (arith, ltb-false 0 (length (one ∷ members)) (sym is)))
+pub some_last : (members : List Member) (k : List ℕ) → length members ≡ 0 → EndsIn k members → ⊥
+some_last [] k none ends = ends
+some_last (one ∷ members) k none ends = omega (arith, none)
+
+-- the last member is the one that has the name
+pub last_named : (front : List Member) (one : Member) (k : List ℕ) → EndsIn k (front ++ one ∷ []) → one.name ≡ k
+last_named [] one k ends = ends
+last_named (a ∷ []) one k ends = ends
+last_named (a ∷ b ∷ front) one k ends = last_named (b ∷ front) one k ends
 
 -- so many slots are filled before a place
 pub count_at : (place : ℕ) (ss : List Slot) (gs : List (Option Data)) (x : Before) (front : List Member) → members_of front ≡ members_to place ss gs → (before_at place ss gs x).count ≡ x.count + length front

@@ -1,4 +1,7 @@
 -- Values that make the next trees, one after the other, in the place of the last node.
+use Rattle.enumerate.specs.declared.row.Ahead.{Ahead}
+use Rattle.enumerate.specs.Internal.Candidates.{used_rows}
+use Rattle.plan.specs.Samples.Part.{IsPart}
 use Rattle.std.specs.Prelude.{◌≡◌, ◌⊎◌, ℕ, zero, suc, List, [], ◌∷◌, Option, Some, None}
 use Rattle.jtree.specs.Data.{Data, Items, no_items, item}
 use Rattle.jtree.specs.Last.{with_last}
@@ -12,10 +15,11 @@ use Rattle.plan.specs.Samples.Sizes.{AreFillings, filled_nodes}
 use Rattle.plan.specs.Samples.RuleOfParts.{members_in}
 use Rattle.plan.specs.Samples.NoDeadEnd.{items_then}
 use Rattle.plan.specs.Samples.Question.{Question}
-use Rattle.enumerate.specs.Internal.Rows.{still_used, slots_at, IsValue}
+use Rattle.enumerate.specs.Internal.Rows.{still_used, slots_at, IsValue, IsRowSlot, slot_there, IsValueAt, IsOpenAfter}
+use Rattle.enumerate.specs.declared.list.ListNode.{ListNode}
 use Rattle.enumerate.specs.declared.row.RowSlot.{RowSlot}
 use Rattle.enumerate.specs.Least.{IsLeast, IsNext}
-use Rattle.enumerate.specs.Internal.Lists.{IsUnusedItem}
+use Rattle.enumerate.specs.Internal.Lists.{IsUnusedItem, IsListNode, CanFollow}
 use Rattle.enumerate.specs.declared.walk.NextTree.{NextTree}
 use Rattle.enumerate.specs.declared.walk.NextTree.TheVariants as tree_next
 use Rattle.enumerate.specs.declared.walk.NextParts.{NextParts}
@@ -90,12 +94,23 @@ pub record ContinueItem (q : Question) (i c : ℕ) (items : Items) (cs : List Da
 abbrev pub ItemsContinue : Question → ℕ → ℕ → Items → List Data → Type 0
 ItemsContinue q i c items cs = (cs ≡ []) ⊎ ContinueItem q i c items cs
 
+-- the first items of a list, which these values continue, and after which items of so many nodes can follow
+pub record IsBegun (q : Question) (l : ListNode) (room : ℕ) (items : Items) (cs : List Data) : Type 0 where
+  pub list : IsListNode q l
+  pub follow : CanFollow q l.node l.child room items
+  pub following : ItemsContinue q l.node l.child items cs
+
 abbrev pub GrownItemsContinue : NextParts → Question → ℕ → ℕ → Items → List Data → Type 0
 GrownItemsContinue (parts.Made n) q i c items cs = ItemsContinue q i c items cs
 GrownItemsContinue (parts.Last n) q i c items cs = Unit {0}
 
-abbrev pub MembersContinueAt : Question → RowSlot → List Data → List Member → List Data → Type 0
-MembersContinueAt q t used ms cs = MembersContinue q.pools (slots_at q t) used ms cs
-
 abbrev pub GrownContinueAt : NextParts → Question → RowSlot → List Data → List Member → List Data → Type 0
 GrownContinueAt st q t used ms cs = GrownContinue st q.pools (slots_at q t) used ms cs
+
+-- a member for a slot, which these values continue, and after which so much is ahead
+pub record CanPut (q : Question) (t : RowSlot) (a : Ahead) (one : Member) (cs : List Data) : Type 0 where
+  pub here : IsRowSlot q t
+  pub name : one.name ≡ (slot_there q t).name
+  pub part : IsPart q.pools (slot_there q t).site (data_of one.tree)
+  pub following : Continue (IsValueAt q t (used_rows a.used) (node_count (data_of one.tree))) (data_of one.tree) cs
+  pub ahead : IsOpenAfter q t (data_of one.tree) a

@@ -38,6 +38,12 @@ pub record AreFirst (q : Question) (i c : ℕ) (used : Items) : Type 0 where
   pub are : AreParts q.pools (site q c) used
   pub apart : are_apart (alike_at (site q i)) used ≡ true
 
+-- so many nodes may follow after the first items of a list
+pub record CanGrow (q : Question) (l : ListNode) (items : Items) (room : ℕ) : Type 0 where
+  pub list : IsListNode q l
+  pub first : AreFirst q l.node l.child items
+  pub within : 1 + items_count items + room ≤ q.limit
+
 -- m nodes can follow
 pub record CanFollow (q : Question) (i c m : ℕ) (used : Items) : Type 0 where
   pub first : AreFirst q i c used

@@ -1,9 +1,11 @@
 -- What a move from one tree to the next answers.
-use Rattle.std.specs.Prelude.{◌≡◌, ◌≤◌, ◌+◌, ◌++◌, ℕ, List, ◌∷◌, [], Some, None, Option, length, drop}
+use Rattle.plan.specs.declared.sort.Sort.TheVariants as sort
+use Rattle.enumerate.specs.Internal.Nodes.{IsNodeOfSort}
+use Rattle.std.specs.Prelude.{◌≡◌, ◌≤◌, ◌+◌, ◌++◌, ℕ, List, ◌∷◌, [], Some, None, Option, length, drop, ◌<◌}
 use Rattle.jtree.specs.Data as tree
 use Rattle.enumerate.specs.Internal.Changes.{DiffersAt, DiffersTo, DiffersAfter}
 use Rattle.jtree.specs.Data.{Data, Items, no_items, Members, no_members, member}
-use Rattle.jtree.specs.Nodes.{node_count, items_count, most_nodes}
+use Rattle.jtree.specs.Nodes.{node_count, items_count, most_nodes, members_count}
 use Rattle.jtree.specs.Order.{tree_cmp, items_cmp}
 use Rattle.jtree.specs.View.{data_of, members_of}
 use Rattle.jtree.specs.declared.value.Member.{Member}
@@ -13,7 +15,7 @@ use Rattle.plan.specs.Samples.Sizes.{filled_nodes}
 use Rattle.plan.specs.Samples.RuleOfParts.{members_in}
 use Rattle.plan.specs.Samples.Question.{Question}
 use Rattle.enumerate.specs.Least.{IsNext}
-use Rattle.enumerate.specs.Internal.Rows.{fill_cmp, Demand, row_demand, demand_at, demand_after, demand_past, CanMeet, IsRest, slots_from, slot_in, slots_at, slots_after, slot_there, IsValue, IsValueAt, larger, IsOpenAt}
+use Rattle.enumerate.specs.Internal.Rows.{fill_cmp, Demand, row_demand, demand_at, demand_after, demand_past, CanMeet, IsRest, slots_from, slot_in, slots_at, slots_after, slot_there, IsValue, IsValueAt, larger, IsOpenAt, AreUsed}
 use Rattle.enumerate.specs.Internal.Candidates.{used_rows}
 use Rattle.enumerate.specs.declared.row.RowSlot.{RowSlot}
 use Rattle.enumerate.specs.declared.row.Ahead.{Ahead}
@@ -98,3 +100,10 @@ MovesMember next q t a one old new =
     ((gs : List (Option Data)) (others : List Member) → AreLastAfter q t.node t.place (demand_at q t.node (ahead_with a one)) one others gs
     → AreNextMembers next q.pools (slots_at q t) (demand_at q t.node (ahead_with a one)) gs (drop a.before.count new))
     × DiffersAfter a.room (tree.object (members_of (old ++ one ∷ []))) next (tree.object (members_of new))
+
+-- the members of a row that is to move
+pub record AreMembersOf (q : Question) (i : ℕ) (rows : List Data) (members : List Member) : Type 0 where
+  pub node : IsNodeOfSort q i sort.Row
+  pub used : AreUsed q.pools (slots_from q i 0) rows
+  pub in_slots : (gs : List (Option Data)) × AreInSlots q.pools (slots_from q i 0) (demand_of q i rows gs) members gs
+  pub limit : members_count (members_of members) < q.limit

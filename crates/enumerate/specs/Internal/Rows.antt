@@ -22,7 +22,7 @@ use Rattle.plan.specs.declared.sort.Sort.TheVariants as sort
 use Rattle.plan.specs.Samples.Question.{Question}
 use Rattle.plan.specs.declared.plan.Slot as answer
 use Rattle.enumerate.specs.Least.{IsLeast}
-use Rattle.enumerate.specs.Internal.Nodes.{site, IsSplit, IsNodeOf}
+use Rattle.enumerate.specs.Internal.Nodes.{IsNodeOfSort, site, IsSplit, IsNodeOf, HasSizeAt}
 use Rattle.enumerate.specs.declared.row.RowSlot.{RowSlot}
 use Rattle.enumerate.specs.declared.row.Ahead.{Ahead}
 use Rattle.enumerate.specs.Internal.Candidates.{agreeing_if, used_rows}
@@ -58,6 +58,18 @@ pub record IsRowSlot (q : Question) (t : RowSlot) : Type 0 where
   pub row : sort_of (site q t.node) ≡ sort.Row
   pub within : t.place < length (slots_from q t.node 0)
   pub slot : IsSlotOf q t.node t.place t.slot
+
+-- so many nodes may be put at a slot and after it
+pub record HasRoom (q : Question) (t : RowSlot) (before : Before) (room : ℕ) : Type 0 where
+  pub here : IsRowSlot q t
+  pub count : before.count ≤ t.place
+  pub limit : before.count + room < q.limit
+
+-- a place of a row, and members before it, of which there are fewer than the limit
+pub record IsPlaceAfter (q : Question) (i n : ℕ) (members : List Member) : Type 0 where
+  pub node : IsNodeOfSort q i sort.Row
+  pub place : n ≤ length (slots_from q i 0)
+  pub limit : length members < q.limit
 
 abbrev pub slots_at : Question → RowSlot → List Slot
 slots_at q a = slots_from q a.node a.place
@@ -232,3 +244,11 @@ CostsSlots q i place old new m = (w : ℕ) → IsWidth q.pools q.root w → new 
 
 abbrev pub CostsAfter : Question → RowSlot → ℕ → ℕ → ℕ → Type 0
 CostsAfter q t old new m = CostsSlots q t.node (t.place + 1) old new m
+
+-- a slot can have a value of so many nodes, which leaves some tuple of keys unused
+pub record CanHave (q : Question) (t : RowSlot) (rows : List Data) (n : ℕ) : Type 0 where
+  pub here : IsRowSlot q t
+  pub size : HasSizeAt q t.slot.node n
+  pub limit : n ≤ q.limit
+  pub known : AreUsedAt q t rows
+  pub free : HasFree q.pools (filter is_key (slots_at q t)) (used_keys (slots_at q t) rows) []

@@ -1,11 +1,11 @@
 -- A row that is walked from the last slot to the first.
-use Rattle.std.specs.Prelude.{Result, IfOk, ◌≡◌, ℕ, ◌+◌, ◌*◌, ◌≤◌, List, Option, None, take, drop, length}
+use Rattle.std.specs.Prelude.{Result, IfOk, ◌≡◌, ℕ, ◌+◌, ◌*◌, ◌≤◌, ◌<◌, List, Option, None, take, drop, length}
 use Rattle.jtree.specs.Data.{Data}
 use Rattle.jtree.specs.Data as tree
 use Rattle.enumerate.specs.Internal.Changes.{DiffersAfter}
 use Rattle.enumerate.specs.declared.row.RowSlot.{RowSlot}
 use Rattle.enumerate.specs.declared.row.Removed.{Removed}
-use Rattle.jtree.specs.Nodes.{most_nodes}
+use Rattle.jtree.specs.Nodes.{most_nodes, members_count}
 use Rattle.jtree.specs.View.{members_of}
 use Rattle.jtree.specs.declared.value.Member.{Member}
 use Rattle.plan.specs.Samples.Candidates.{IsWidth}
@@ -14,7 +14,7 @@ use Rattle.plan.specs.Samples.Sites.{Slot}
 use Rattle.plan.specs.Samples.RuleOfParts.{members_in}
 use Rattle.plan.specs.Samples.Sizes.{filled_nodes, Before, nothing}
 use Rattle.enumerate.specs.Least.{IsNext}
-use Rattle.enumerate.specs.Internal.Rows.{fill_cmp, Demand, IsRest, slots_from, CostsSlots}
+use Rattle.enumerate.specs.Internal.Rows.{fill_cmp, Demand, IsRest, slots_from, CostsSlots, IsRowSlot, AreUsed}
 use Rattle.enumerate.specs.Internal.Moves.{AreNext, demand_of}
 use Rattle.enumerate.specs.Internal.Prefixes.{members_to, before_at, used_at}
 use Rattle.enumerate.specs.declared.walk.NextParts.{NextParts}
@@ -39,6 +39,13 @@ pub record IsWalkedTo (q : Question) (i place : ℕ) (removed : Removed) (used :
   pub room_is : filled_nodes (drop place gs) ≡ removed.room
   pub last : IsNext fill_cmp (IsRest q.pools (slots_from q i place) (demand_from place (slots_from q i 0) gs (demand_of q i used gs))) (drop place gs) None
   pub known : (removed.room ≡ 0 → ⊥) → removed.before ≡ before_at place (slots_from q i 0) gs nothing
+
+-- a slot whose place is next, where it was walked up to it
+pub record IsReached (q : Question) (t : RowSlot) (removed : Removed) (rows : List Data) (members : List Member) : Type 0 where
+  pub here : IsRowSlot q t
+  pub used : AreUsed q.pools (slots_from q t.node 0) rows
+  pub walked : (gs : List (Option Data)) × IsWalkedTo q t.node (t.place + 1) removed rows members gs
+  pub limit : members_count (members_of members) + removed.room < q.limit
 
 -- the members are the next ones; or it was walked to the place
 abbrev pub AreWalked : NextParts → Question → ℕ → ℕ → List Data → Before → List Member → List (Option Data) → Type 0

@@ -1,18 +1,12 @@
 //! The first members of a row.
-ghost use Rattle.std.specs.Prelude.{◌++◌, ◌∷◌, [], ◌≡◌, ◌+◌, ◌-◌, ◌≤◌, ◌<◌, length, drop, IfOk, filter, OnOk, MatchOption};
-ghost use Rattle.jtree.specs.Nodes.{node_count};
-ghost use Rattle.jtree.specs.Order.{tree_cmp};
+ghost use Rattle.std.specs.Prelude.{◌++◌, ◌∷◌, [], ◌+◌, ◌-◌, ◌≤◌, ◌<◌, length, drop, MatchOption};
 ghost use Rattle.jtree.specs.View.{data_of};
-ghost use Rattle.plan.specs.Samples.Candidates.{sort_of};
-ghost use Rattle.plan.specs.Samples.NoDeadEnd.{is_key, HasFree};
-ghost use Rattle.plan.specs.Samples.Part.{IsPart};
 ghost use Rattle.plan.specs.Sets.{IsLeastFrom, IsEmptyFrom};
-ghost use Rattle.enumerate.specs.Least.{IsLeast};
+ghost use Rattle.enumerate.specs.Internal.Answers.{AddsMembers, FindsFirst, GrowsAt};
 ghost use Rattle.enumerate.specs.Internal.Candidates.{used_rows, stack_of};
-ghost use Rattle.enumerate.specs.Internal.Following.{Continue, MembersContinue, MembersContinueAt, GrownContinueAt};
-ghost use Rattle.enumerate.specs.Internal.Nodes.{site, IsNodeOf, Costs, HasSizeAt};
-ghost use Rattle.enumerate.specs.Internal.Rows.{slots_from, row_demand, IsOpen, IsRow, CostsSlots, used_keys, slots_at, slot_there, IsRowSlot, IsOpenAt, AddsFirstAt, IsGrownAt, IsValueAt, AddsFirstAfter, IsOpenAfter, AreUsedAt, CostsAfter, FitsAt};
-ghost use Rattle.enumerate.specs.Internal.Steps.{KeepsMeter};
+ghost use Rattle.enumerate.specs.Internal.Following.{CanPut};
+ghost use Rattle.enumerate.specs.Internal.Nodes.{IsNodeOfSort, Costs};
+ghost use Rattle.enumerate.specs.Internal.Rows.{CanHave, HasRoom, slots_from, row_demand, IsOpen, IsRow, CostsSlots, slots_at, IsRowSlot, IsOpenAt, AddsFirstAt, IsValueAt, AddsFirstAfter, CostsAfter, FitsAt};
 ghost use Rattle.plan.specs.declared.sort.Sort.TheVariants as sort;
 
 use crate::names::take_name;
@@ -22,7 +16,7 @@ use crate::siblings::{Chosen, Rows, still_used};
 use crate::sizes::least_split;
 use crate::walk::{NextParts, Scratch, Walk};
 use jtree::{Member, Members, Tree};
-use plan::{PlanNode, SizeSet};
+use plan::{Meter, PlanNode, SizeSet};
 use std::alloc::AllocError;
 
 impl<'p, Z: SizeSet> Walk<'p, Z> {
@@ -34,15 +28,13 @@ impl<'p, Z: SizeSet> Walk<'p, Z> {
         size: u32,
         used: &Rows<'_>,
         scratch: &mut Scratch<'p>,
+        meter: &mut Meter,
     ) -> Result<Tree, AllocError>
-        requires node { IsNodeOf self.now.plan.now node }
-        requires row { sort_of (site self.now.plan.now node) ≡ sort.Row }
+        requires node { IsNodeOfSort self.now.plan.now node sort.Row }
         requires some { 1 ≤ size }
         requires limit { size ≤ self.now.plan.now.limit }
         requires open { IsOpen self.now.plan.now.pools (slots_from self.now.plan.now node 0) (row_demand self.now.plan.now node (size - 1) (used_rows used.now)) }
-        ensures ok { IfOk result (λ v. IsLeast tree_cmp (IsRow self.now.plan.now node (size - 1) (used_rows used.now)) (data_of v)) }
-        ensures following { IfOk result (λ v. Continue (IsRow self.now.plan.now node (size - 1) (used_rows used.now)) (data_of v) (stack_of scratch.new.following.items)) }
-        ensures steps { Costs self.now.plan.now scratch.old.meter scratch.new.meter size }
+        ensures { FindsFirst result (IsRow self.now.plan.now node (size - 1) (used_rows used.now)) scratch.new.following.items (Costs self.now.plan.now meter.old meter.new size) }
     {
         self.laws_of(node);
         scratch.following.clear();
@@ -60,6 +52,7 @@ impl<'p, Z: SizeSet> Walk<'p, Z> {
             },
             &mut members,
             scratch,
+            meter,
         )?;
         Ok(Tree::Object(Members { members }))
     }
@@ -74,17 +67,16 @@ impl<'p, Z: SizeSet> Walk<'p, Z> {
         ahead: &Ahead<'_>,
         members: &mut Vec<Member>,
         scratch: &mut Scratch<'p>,
+        meter: &mut Meter,
     ) -> Result<(), AllocError>
-        requires node { IsNodeOf self.now.plan.now node }
-        requires row { sort_of (site self.now.plan.now node) ≡ sort.Row }
+        requires node { IsNodeOfSort self.now.plan.now node sort.Row }
         requires some { 1 ≤ ahead.now.room }
         requires open { IsOpenAt self.now.plan.now node place ahead.now }
-        ensures ok { OnOk result (AddsFirstAt self.now.plan.now node place ahead.now members.old.items members.new.items) }
-        ensures following { OnOk result (MembersContinue self.now.plan.now.pools (slots_from self.now.plan.now node place) (used_rows ahead.now.used) (drop (length members.old.items) members.new.items) (stack_of scratch.new.following.items)) }
-        ensures steps { CostsSlots self.now.plan.now node place scratch.old.meter scratch.new.meter ahead.now.room }
+        ensures { AddsMembers result self.now.plan.now (AddsFirstAt self.now.plan.now node place ahead.now members.old.items members.new.items)
+            (slots_from self.now.plan.now node place) (used_rows ahead.now.used) (drop (length members.old.items) members.new.items) scratch.new.following.items (CostsSlots self.now.plan.now node place meter.old meter.new ahead.now.room) }
     {
         self.laws_of(node);
-        let Some(slot) = self.plan.slot(node, place, &mut scratch.meter) else {
+        let Some(slot) = self.plan.slot(node, place, meter) else {
             return Ok(());
         };
         let here = RowSlot { node, place, slot };
@@ -94,9 +86,9 @@ impl<'p, Z: SizeSet> Walk<'p, Z> {
                 .rest(self.plan, node, place + 1)
                 .has(ahead.room)
         {
-            return self.first_members(node, place + 1, ahead, members, scratch);
+            return self.first_members(node, place + 1, ahead, members, scratch, meter);
         }
-        self.grow_members(&here, ahead, 0, members, scratch)?;
+        self.grow_members(&here, ahead, 0, members, scratch, meter)?;
         Ok(())
     }
 
@@ -111,13 +103,11 @@ impl<'p, Z: SizeSet> Walk<'p, Z> {
         from: u32,
         members: &mut Vec<Member>,
         scratch: &mut Scratch<'p>,
+        meter: &mut Meter,
     ) -> Result<NextParts, AllocError>
         requires here { IsRowSlot self.now.plan.now here.now }
         requires open { IsOpenAt self.now.plan.now here.now.node here.now.place ahead.now }
-        ensures ok { IfOk result (λ next. IsGrownAt next self.now.plan.now here.now ahead.now from members.old.items members.new.items) }
-        ensures following { IfOk result (λ next. GrownContinueAt next self.now.plan.now here.now (used_rows ahead.now.used) (drop (length members.old.items) members.new.items) (stack_of scratch.new.following.items)) }
-        ensures steps { CostsAfter self.now.plan.now here.now scratch.old.meter scratch.new.meter ahead.now.room }
-        ensures last { IfOk result (λ next. KeepsMeter next scratch.old.meter scratch.new.meter) }
+        ensures { GrowsAt result self.now.plan.now here.now ahead.now from members.old.items members.new.items scratch.new.following.items meter.old meter.new }
     {
         self.laws_of(here.node);
         if from > ahead.room {
@@ -128,7 +118,7 @@ impl<'p, Z: SizeSet> Walk<'p, Z> {
         };
         // Before the value is made: the names inside it were kept before this one, so they lie below it.
         let name = take_name(self.alloc, here.slot.name, &mut scratch.spare)?;
-        let tree = self.first_value(here, size, &ahead.used, scratch)?;
+        let tree = self.first_value(here, size, &ahead.used, scratch, meter)?;
         self.put_member(
             here,
             &Ahead {
@@ -139,6 +129,7 @@ impl<'p, Z: SizeSet> Walk<'p, Z> {
             Member { name, tree },
             members,
             scratch,
+            meter,
         )?;
         Ok(NextParts::Made(0))
     }
@@ -151,21 +142,16 @@ impl<'p, Z: SizeSet> Walk<'p, Z> {
         size: u32,
         used: &Rows<'_>,
         scratch: &mut Scratch<'p>,
+        meter: &mut Meter,
     ) -> Result<Tree, AllocError>
-        requires here { IsRowSlot self.now.plan.now here.now }
-        requires size { HasSizeAt self.now.plan.now here.now.slot.node size }
-        requires limit { size ≤ self.now.plan.now.limit }
-        requires known { AreUsedAt self.now.plan.now here.now (used_rows used.now) }
-        requires free { HasFree self.now.plan.now.pools (filter is_key (slots_at self.now.plan.now here.now)) (used_keys (slots_at self.now.plan.now here.now) (used_rows used.now)) [] }
-        ensures ok { IfOk result (λ v. IsLeast tree_cmp (IsValueAt self.now.plan.now here.now (used_rows used.now) size) (data_of v)) }
-        ensures following { IfOk result (λ v. Continue (IsValueAt self.now.plan.now here.now (used_rows used.now) size) (data_of v) (stack_of scratch.new.following.items)) }
-        ensures steps { Costs self.now.plan.now scratch.old.meter scratch.new.meter size }
+        requires { CanHave self.now.plan.now here.now (used_rows used.now) size }
+        ensures { FindsFirst result (IsValueAt self.now.plan.now here.now (used_rows used.now) size) scratch.new.following.items (Costs self.now.plan.now meter.old meter.new size) }
     {
         self.laws_of(here.node);
         if here.slot.key {
-            return self.first_key(&here.slot, size, used, scratch);
+            return self.first_key(&here.slot, size, used, scratch, meter);
         }
-        self.first_part(here.slot.node, size, scratch)
+        self.first_part(here.slot.node, size, scratch, meter)
     }
 
     /// Appends a member, and the first members of `room` nodes after it.
@@ -177,16 +163,11 @@ impl<'p, Z: SizeSet> Walk<'p, Z> {
         member: Member,
         members: &mut Vec<Member>,
         scratch: &mut Scratch<'p>,
+        meter: &mut Meter,
     ) -> Result<(), AllocError>
-        requires here { IsRowSlot self.now.plan.now here.now }
-        requires name { member.name ≡ (slot_there self.now.plan.now here.now).name }
-        requires part { IsPart self.now.plan.now.pools (slot_there self.now.plan.now here.now).site (data_of member.tree) }
-        requires following { Continue (IsValueAt self.now.plan.now here.now (used_rows ahead.now.used) (node_count (data_of member.tree))) (data_of member.tree) (stack_of scratch.old.following.items) }
-        requires open { IsOpenAfter self.now.plan.now here.now (data_of member.tree) ahead.now }
-        ensures ok { OnOk result (AddsFirstAfter self.now.plan.now here.now (data_of member.tree) ahead.now
-            (members.old.items ++ member ∷ []) members.new.items) }
-        ensures following { OnOk result (MembersContinueAt self.now.plan.now here.now (used_rows ahead.now.used) (drop (length members.old.items) members.new.items) (stack_of scratch.new.following.items)) }
-        ensures steps { CostsAfter self.now.plan.now here.now scratch.old.meter scratch.new.meter ahead.now.room }
+        requires { CanPut self.now.plan.now here.now ahead.now member (stack_of scratch.old.following.items) }
+        ensures { AddsMembers result self.now.plan.now (AddsFirstAfter self.now.plan.now here.now (data_of member.tree) ahead.now (members.old.items ++ member ∷ []) members.new.items)
+            (slots_at self.now.plan.now here.now) (used_rows ahead.now.used) (drop (length members.old.items) members.new.items) scratch.new.following.items (CostsAfter self.now.plan.now here.now meter.old meter.new ahead.now.room) }
     {
         self.laws_of(here.node);
         if ahead.room == 0 {
@@ -207,6 +188,7 @@ impl<'p, Z: SizeSet> Walk<'p, Z> {
             },
             members,
             scratch,
+            meter,
         )
     }
 
@@ -219,9 +201,7 @@ impl<'p, Z: SizeSet> Walk<'p, Z> {
         room: u32,
         from: u32,
     ) -> Option<u32>
-        requires here { IsRowSlot self.now.plan.now here.now }
-        requires count { before.count ≤ here.now.place }
-        requires limit { before.count + room < self.now.plan.now.limit }
+        requires { HasRoom self.now.plan.now here.now before room }
         ensures { MatchOption result (IsEmptyFrom (FitsAt self.now.plan.now here.now before room) from) (IsLeastFrom (FitsAt self.now.plan.now here.now before room) from) }
     {
         self.laws_of(here.node);

@@ -1,19 +1,18 @@
 //! The next members of a row.
-ghost use Rattle.std.specs.Prelude.{◌++◌, ◌∷◌, [], ◌≡◌, ◌+◌, ◌-◌, ◌≤◌, ◌<◌, ℕ, List, length, drop, IfOk, ◌*◌, Option, Some, ◌↔◌, IsTrue, IfSome, true, None, ◌≢◌, IfNone, All};
+ghost use Rattle.std.specs.Prelude.{◌≡◌, ◌+◌, ◌-◌, ◌≤◌, ◌<◌, ℕ, ◌*◌, Option, Some, ◌↔◌, IsTrue, IfSome, true, None, ◌≢◌, IfNone, All};
 ghost use Rattle.jtree.specs.Data.{Data, Members as MembersData, object as object_data};
 ghost use Rattle.jtree.specs.Nodes.{node_count, members_count};
 ghost use Rattle.jtree.specs.View.{data_of, members_of};
-ghost use Rattle.plan.specs.Samples.Candidates.{sort_of};
 ghost use Rattle.plan.specs.Samples.Part.{IsPart};
 ghost use Rattle.enumerate.specs.Page.{IsPast};
-ghost use Rattle.enumerate.specs.Internal.Candidates.{used_rows, stack_of};
-ghost use Rattle.enumerate.specs.Internal.Following.{GrownContinueAt, ContinueNext, GrownContinue};
-ghost use Rattle.enumerate.specs.Internal.Moves.{IsNextTree, AreInSlots, demand_of, MovesMembers, MovesMember, WasAt};
-ghost use Rattle.enumerate.specs.Internal.Nodes.{site, IsNodeOf};
+ghost use Rattle.enumerate.specs.Internal.Answers.{MovesRemoved, MovesRow, FindsNext, GrowsAt, MovesAt};
+ghost use Rattle.enumerate.specs.Internal.Candidates.{used_rows};
+ghost use Rattle.enumerate.specs.Internal.Moves.{AreMembersOf, WasAt};
+ghost use Rattle.enumerate.specs.Internal.Nodes.{IsNodeOfSort, site};
 ghost use Rattle.enumerate.specs.Internal.Prefixes.{EndsIn};
-ghost use Rattle.enumerate.specs.Internal.Rows.{slots_from, IsRow, slot_there, IsRowSlot, IsOpenAt, IsGrownAt, IsValueAt, AreUsedAt, CostsAfter, AreUsed, FitsAt, larger};
-ghost use Rattle.enumerate.specs.Internal.Steps.{KeepsMeter, CostsMembers, CostsTree, CostsMember};
-ghost use Rattle.enumerate.specs.Internal.Walks.{IsWalkedTo, AreLeft, MovesSlot, CostsSlot};
+ghost use Rattle.enumerate.specs.Internal.Rows.{HasRoom, slots_from, IsRow, slot_there, IsRowSlot, IsOpenAt, IsValueAt, AreUsedAt, AreUsed, FitsAt, larger};
+ghost use Rattle.enumerate.specs.Internal.Steps.{CostsTree};
+ghost use Rattle.enumerate.specs.Internal.Walks.{IsReached, CostsSlot};
 ghost use Rattle.plan.specs.declared.sort.Sort.TheVariants as sort;
 
 use crate::names::keep_name;
@@ -35,21 +34,19 @@ impl<'p, Z: SizeSet> Walk<'p, Z> {
         tree: Tree,
         used: &Rows<'_>,
         scratch: &mut Scratch<'p>,
+        meter: &mut Meter,
     ) -> Result<NextTree, AllocError>
-        requires node { IsNodeOf self.now.plan.now node }
-        requires sort { sort_of (site self.now.plan.now node) ≡ sort.Row }
+        requires node { IsNodeOfSort self.now.plan.now node sort.Row }
         requires known { AreUsed self.now.plan.now.pools (slots_from self.now.plan.now node 0) (used_rows used.now) }
         requires row { IsRow self.now.plan.now node (node_count (data_of tree) - 1) (used_rows used.now) (data_of tree) }
         requires limit { node_count (data_of tree) ≤ self.now.plan.now.limit }
-        ensures ok { IfOk result (λ next. IsNextTree (IsRow self.now.plan.now node (node_count (data_of tree) - 1) (used_rows used.now)) (data_of tree) next) }
-        ensures following { IfOk result (λ next. ContinueNext (IsRow self.now.plan.now node (node_count (data_of tree) - 1) (used_rows used.now)) next (stack_of scratch.new.following.items)) }
-        ensures steps { CostsTree result self.now.plan.now scratch.old.meter scratch.new.meter (node_count (data_of tree)) }
+        ensures { FindsNext result (IsRow self.now.plan.now node (node_count (data_of tree) - 1) (used_rows used.now)) (data_of tree) scratch.new.following.items (CostsTree result self.now.plan.now meter.old meter.new (node_count (data_of tree))) }
     {
         self.laws_of(node);
         let Some(mut members) = into_members(tree) else {
             unreachable!()
         };
-        match self.next_members(node, used, &mut members, scratch)? {
+        match self.next_members(node, used, &mut members, scratch, meter)? {
             NextParts::Made(depth) => Ok(NextTree::To(Tree::Object(Members { members }), depth)),
             NextParts::Last(room) => Ok(NextTree::Last(room + 1)),
         }
@@ -64,15 +61,10 @@ impl<'p, Z: SizeSet> Walk<'p, Z> {
         used: &Rows<'_>,
         members: &mut Vec<Member>,
         scratch: &mut Scratch<'p>,
+        meter: &mut Meter,
     ) -> Result<NextParts, AllocError>
-        requires node { IsNodeOf self.now.plan.now node }
-        requires row { sort_of (site self.now.plan.now node) ≡ sort.Row }
-        requires used { AreUsed self.now.plan.now.pools (slots_from self.now.plan.now node 0) (used_rows used.now) }
-        requires in_slots { (gs : List (Option Data)) × AreInSlots self.now.plan.now.pools (slots_from self.now.plan.now node 0) (demand_of self.now.plan.now node (used_rows used.now) gs) members.old.items gs }
-        requires limit { members_count (members_of members.old.items) < self.now.plan.now.limit }
-        ensures ok { IfOk result (λ next. MovesMembers next self.now.plan.now node (used_rows used.now) members.old.items members.new.items) }
-        ensures following { IfOk result (λ next. GrownContinue next self.now.plan.now.pools (slots_from self.now.plan.now node 0) (used_rows used.now) members.new.items (stack_of scratch.new.following.items)) }
-        ensures steps { CostsMembers result self.now.plan.now node scratch.old.meter scratch.new.meter (members_count (members_of members.old.items)) }
+        requires { AreMembersOf self.now.plan.now node (used_rows used.now) members.old.items }
+        ensures { MovesRow result self.now.plan.now node (used_rows used.now) members.old.items members.new.items scratch.new.following.items meter.old meter.new }
     {
         self.laws_of(node);
         let mut removed = Removed {
@@ -82,9 +74,9 @@ impl<'p, Z: SizeSet> Walk<'p, Z> {
         let mut place = self.plan.slot_count(node);
         while place > 0 {
             place -= 1;
-            let slot = self.slot_at(node, place, &mut scratch.meter);
+            let slot = self.slot_at(node, place, meter);
             let here = RowSlot { node, place, slot };
-            match self.next_at_slot(&here, &mut removed, used, members, scratch)? {
+            match self.next_at_slot(&here, &mut removed, used, members, scratch, meter)? {
                 NextParts::Made(depth) => return Ok(NextParts::Made(depth)),
                 NextParts::Last(nodes) => removed.room = nodes,
             }
@@ -102,63 +94,51 @@ impl<'p, Z: SizeSet> Walk<'p, Z> {
         used: &Rows<'_>,
         members: &mut Vec<Member>,
         scratch: &mut Scratch<'p>,
+        meter: &mut Meter,
     ) -> Result<NextParts, AllocError>
-        requires here { IsRowSlot self.now.plan.now here.now }
-        requires used { AreUsed self.now.plan.now.pools (slots_from self.now.plan.now here.now.node 0) (used_rows used.now) }
-        requires walked { (gs : List (Option Data)) × IsWalkedTo self.now.plan.now here.now.node (here.now.place + 1) removed.old (used_rows used.now) members.old.items gs }
-        requires limit { members_count (members_of members.old.items) + removed.old.room < self.now.plan.now.limit }
-        ensures ok { IfOk result (λ next. MovesSlot next self.now.plan.now here.now removed.old (used_rows used.now) members.old.items removed.new members.new.items) }
-        ensures following { IfOk result (λ next. GrownContinue next self.now.plan.now.pools (slots_from self.now.plan.now here.now.node 0) (used_rows used.now) members.new.items (stack_of scratch.new.following.items)) }
-        ensures steps { CostsSlot result self.now.plan.now here.now.node removed.old.room scratch.old.meter scratch.new.meter (3 * members_count (members_of members.old.items) + removed.old.room) }
+        requires { IsReached self.now.plan.now here.now removed.old (used_rows used.now) members.old.items }
+        ensures { MovesAt result self.now.plan.now here.now removed.old (used_rows used.now) members.old.items removed.new members.new.items scratch.new.following.items (CostsSlot result self.now.plan.now here.now.node removed.old.room meter.old meter.new (3 * members_count (members_of members.old.items) + removed.old.room)) }
     {
         self.laws_of(here.node);
-        match pop_named(members, here.slot.name) {
-            Some(member) => self.next_filled_slot(here, removed, used, member, members, scratch),
-            None => self.next_empty_slot(here, removed, used, members, scratch),
+        if ends_in(members.as_slice(), here.slot.name) {
+            return self.next_filled_slot(here, removed, used, members, scratch, meter);
         }
+        self.next_empty_slot(here, removed, used, members, scratch, meter)
     }
 
-    /// The same where this member was in the slot and is removed already.
+    /// The same where a member is in the slot.
     #[cycle(next)]
     fn next_filled_slot(
         &self,
         here: &RowSlot<'_>,
         removed: &mut Removed,
         used: &Rows<'_>,
-        member: Member,
         members: &mut Vec<Member>,
         scratch: &mut Scratch<'p>,
+        meter: &mut Meter,
     ) -> Result<NextParts, AllocError>
-        requires here { IsRowSlot self.now.plan.now here.now }
-        requires used { AreUsed self.now.plan.now.pools (slots_from self.now.plan.now here.now.node 0) (used_rows used.now) }
-        requires name { member.name ≡ (slot_there self.now.plan.now here.now).name }
-        requires walked { (gs : List (Option Data)) × IsWalkedTo self.now.plan.now here.now.node (here.now.place + 1) removed.old (used_rows used.now) (members.old.items ++ member ∷ []) gs }
-        requires limit { members_count (members_of members.old.items) + (removed.old.room + node_count (data_of member.tree)) < self.now.plan.now.limit }
-        ensures ok { IfOk result (λ next. MovesSlot next self.now.plan.now here.now removed.old (used_rows used.now) (members.old.items ++ member ∷ []) removed.new members.new.items) }
-        ensures following { IfOk result (λ next. GrownContinue next self.now.plan.now.pools (slots_from self.now.plan.now here.now.node 0) (used_rows used.now) members.new.items (stack_of scratch.new.following.items)) }
-        ensures steps { CostsSlot result self.now.plan.now here.now.node removed.old.room scratch.old.meter scratch.new.meter (3 * node_count (data_of member.tree) + removed.old.room) }
+        requires reached { IsReached self.now.plan.now here.now removed.old (used_rows used.now) members.old.items }
+        requires filled { EndsIn (slot_there self.now.plan.now here.now).name members.old.items }
+        ensures { MovesAt result self.now.plan.now here.now removed.old (used_rows used.now) members.old.items removed.new members.new.items scratch.new.following.items (CostsSlot result self.now.plan.now here.now.node removed.old.room meter.old meter.new (3 * members_count (members_of members.old.items) + removed.old.room)) }
     {
         self.laws_of(here.node);
-        if self.is_last_key(here, &member.tree, &mut scratch.meter) {
+        let Some(member) = members.pop() else {
+            unreachable!()
+        };
+        if self.is_last_key(here, &member.tree, meter) {
             removed.before = Before::unnamed(members.len() as u32);
             let Member { name, tree: _ } = member;
             keep_name(&mut scratch.spare, name);
             return Ok(NextParts::Last(removed.room + 1));
         }
-        let prefix = self.prefix_at(
-            here.node,
-            here.place,
-            members.as_slice(),
-            used,
-            &mut scratch.meter,
-        )?;
+        let prefix = self.prefix_at(here.node, here.place, members.as_slice(), used, meter)?;
         removed.before = prefix.before;
         let ahead = Ahead {
             before: prefix.before,
             room: removed.room,
             used: prefix.rows(used),
         };
-        self.next_member(here, &ahead, member, members, scratch)
+        self.next_member(here, &ahead, member, members, scratch, meter)
     }
 
     /// The same where the slot is empty: a first part that fits is put in it, and the first members after it.
@@ -169,33 +149,23 @@ impl<'p, Z: SizeSet> Walk<'p, Z> {
         used: &Rows<'_>,
         members: &mut Vec<Member>,
         scratch: &mut Scratch<'p>,
+        meter: &mut Meter,
     ) -> Result<NextParts, AllocError>
-        requires here { IsRowSlot self.now.plan.now here.now }
-        requires used { AreUsed self.now.plan.now.pools (slots_from self.now.plan.now here.now.node 0) (used_rows used.now) }
-        requires out { EndsIn (slot_there self.now.plan.now here.now).name members.old.items → ⊥ }
-        requires walked { (gs : List (Option Data)) × IsWalkedTo self.now.plan.now here.now.node (here.now.place + 1) removed.now (used_rows used.now) members.old.items gs }
-        requires limit { members_count (members_of members.old.items) + removed.now.room < self.now.plan.now.limit }
-        ensures ok { IfOk result (λ next. MovesSlot next self.now.plan.now here.now removed.now (used_rows used.now) members.old.items removed.now members.new.items) }
-        ensures following { IfOk result (λ next. GrownContinue next self.now.plan.now.pools (slots_from self.now.plan.now here.now.node 0) (used_rows used.now) members.new.items (stack_of scratch.new.following.items)) }
-        ensures steps { CostsSlot result self.now.plan.now here.now.node removed.now.room scratch.old.meter scratch.new.meter removed.now.room }
+        requires reached { IsReached self.now.plan.now here.now removed.now (used_rows used.now) members.old.items }
+        requires empty { EndsIn (slot_there self.now.plan.now here.now).name members.old.items → ⊥ }
+        ensures { MovesAt result self.now.plan.now here.now removed.now (used_rows used.now) members.old.items removed.now members.new.items scratch.new.following.items (CostsSlot result self.now.plan.now here.now.node removed.now.room meter.old meter.new removed.now.room) }
     {
         self.laws_of(here.node);
         if removed.room == 0 || !self.fits(here, removed.before, removed.room) {
             return Ok(NextParts::Last(removed.room));
         }
-        let prefix = self.prefix_at(
-            here.node,
-            here.place,
-            members.as_slice(),
-            used,
-            &mut scratch.meter,
-        )?;
+        let prefix = self.prefix_at(here.node, here.place, members.as_slice(), used, meter)?;
         let ahead = Ahead {
             before: removed.before,
             room: removed.room,
             used: prefix.rows(used),
         };
-        match self.grow_members(here, &ahead, 0, members, scratch)? {
+        match self.grow_members(here, &ahead, 0, members, scratch, meter)? {
             NextParts::Made(depth) => Ok(NextParts::Made(depth)),
             NextParts::Last(_) => unreachable!(),
         }
@@ -203,9 +173,7 @@ impl<'p, Z: SizeSet> Walk<'p, Z> {
 
     /// Whether a part in the slot, and those after it, can have so many nodes together.
     fn fits(&self, here: &RowSlot<'_>, before: Before, room: u32) -> bool
-        requires here { IsRowSlot self.now.plan.now here.now }
-        requires count { before.count ≤ here.now.place }
-        requires limit { before.count + room < self.now.plan.now.limit }
+        requires { HasRoom self.now.plan.now here.now before room }
         ensures { IsTrue result ↔ ((n : ℕ) × FitsAt self.now.plan.now here.now before room n) }
     {
         self.least_value(here, before, room, 0).is_some()
@@ -221,25 +189,23 @@ impl<'p, Z: SizeSet> Walk<'p, Z> {
         member: Member,
         members: &mut Vec<Member>,
         scratch: &mut Scratch<'p>,
+        meter: &mut Meter,
     ) -> Result<NextParts, AllocError>
         requires here { IsRowSlot self.now.plan.now here.now }
         requires member { WasAt self.now.plan.now here.now ahead.now members.old.items member }
-        ensures ok { IfOk result (λ next. MovesMember next self.now.plan.now here.now ahead.now member members.old.items members.new.items) }
-        ensures left { IfOk result (λ next. AreLeft next members.old.items members.new.items) }
-        ensures following { IfOk result (λ next. GrownContinueAt next self.now.plan.now here.now (used_rows ahead.now.used) (drop ahead.now.before.count members.new.items) (stack_of scratch.new.following.items)) }
-        ensures steps { CostsMember result self.now.plan.now here.now ahead.now.room scratch.old.meter scratch.new.meter (node_count (data_of member.tree)) }
+        ensures { MovesRemoved result self.now.plan.now here.now ahead.now member members.old.items members.new.items scratch.new.following.items meter.old meter.new }
     {
         self.laws_of(here.node);
         let Member { name, tree } = member;
-        match self.next_value(here, tree, &ahead.used, scratch)? {
+        match self.next_value(here, tree, &ahead.used, scratch, meter)? {
             NextTree::To(tree, depth) => {
                 let depth = below(ahead.room, depth);
-                self.put_member(here, ahead, Member { name, tree }, members, scratch)?;
+                self.put_member(here, ahead, Member { name, tree }, members, scratch, meter)?;
                 Ok(NextParts::Made(depth))
             }
             NextTree::Last(size) => {
                 keep_name(&mut scratch.spare, name);
-                self.grow_larger_members(here, ahead, size, members, scratch)
+                self.grow_larger_members(here, ahead, size, members, scratch, meter)
             }
         }
     }
@@ -252,20 +218,19 @@ impl<'p, Z: SizeSet> Walk<'p, Z> {
         tree: Tree,
         used: &Rows<'_>,
         scratch: &mut Scratch<'p>,
+        meter: &mut Meter,
     ) -> Result<NextTree, AllocError>
         requires here { IsRowSlot self.now.plan.now here.now }
         requires known { AreUsedAt self.now.plan.now here.now (used_rows used.now) }
         requires value { IsValueAt self.now.plan.now here.now (used_rows used.now) (node_count (data_of tree)) (data_of tree) }
         requires limit { node_count (data_of tree) ≤ self.now.plan.now.limit }
-        ensures ok { IfOk result (λ next. IsNextTree (IsValueAt self.now.plan.now here.now (used_rows used.now) (node_count (data_of tree))) (data_of tree) next) }
-        ensures following { IfOk result (λ next. ContinueNext (IsValueAt self.now.plan.now here.now (used_rows used.now) (node_count (data_of tree))) next (stack_of scratch.new.following.items)) }
-        ensures steps { CostsTree result self.now.plan.now scratch.old.meter scratch.new.meter (node_count (data_of tree)) }
+        ensures { FindsNext result (IsValueAt self.now.plan.now here.now (used_rows used.now) (node_count (data_of tree))) (data_of tree) scratch.new.following.items (CostsTree result self.now.plan.now meter.old meter.new (node_count (data_of tree))) }
     {
         self.laws_of(here.node);
         if here.slot.key {
-            return self.next_key(&here.slot, tree, used, scratch);
+            return self.next_key(&here.slot, tree, used, scratch, meter);
         }
-        self.next_part(here.slot.node, tree, scratch)
+        self.next_part(here.slot.node, tree, scratch, meter)
     }
 
     /// Appends the first part of more than `size` nodes for the slot, and the first members after it, of `ahead.room` and `size` nodes
@@ -278,13 +243,11 @@ impl<'p, Z: SizeSet> Walk<'p, Z> {
         size: u32,
         members: &mut Vec<Member>,
         scratch: &mut Scratch<'p>,
+        meter: &mut Meter,
     ) -> Result<NextParts, AllocError>
         requires here { IsRowSlot self.now.plan.now here.now }
         requires open { IsOpenAt self.now.plan.now here.now.node here.now.place (larger ahead.now size) }
-        ensures ok { IfOk result (λ next. IsGrownAt next self.now.plan.now here.now (larger ahead.now size) (size + 1) members.old.items members.new.items) }
-        ensures following { IfOk result (λ next. GrownContinueAt next self.now.plan.now here.now (used_rows ahead.now.used) (drop (length members.old.items) members.new.items) (stack_of scratch.new.following.items)) }
-        ensures steps { CostsAfter self.now.plan.now here.now scratch.old.meter scratch.new.meter (ahead.now.room + size) }
-        ensures last { IfOk result (λ next. KeepsMeter next scratch.old.meter scratch.new.meter) }
+        ensures { GrowsAt result self.now.plan.now here.now (larger ahead.now size) (size + 1) members.old.items members.new.items scratch.new.following.items meter.old meter.new }
     {
         self.laws_of(here.node);
         let larger = Ahead {
@@ -292,7 +255,7 @@ impl<'p, Z: SizeSet> Walk<'p, Z> {
             room: ahead.room + size,
             used: ahead.used,
         };
-        self.grow_members(here, &larger, size + 1, members, scratch)
+        self.grow_members(here, &larger, size + 1, members, scratch, meter)
     }
 
     /// Whether the slot is a key without a later candidate, and no field is named: then it has no next value, whatever is before it.
@@ -327,15 +290,13 @@ fn into_members(tree: Tree) -> Option<Vec<Member>>
     }
 }
 
-/// Removes the last member, where it has the name.
+/// Whether the last member has the name.
 #[inline(always)]
-fn pop_named(members: &mut Vec<Member>, name: &str) -> Option<Member>
-    ensures some { IfSome result (λ one. (members.old.items ≡ members.new.items ++ one ∷ []) × (one.name ≡ name.now)) }
-    ensures none { IfNone result ((members.new.items ≡ members.old.items) × (EndsIn name.now members.old.items → ⊥)) }
-    ensures fewer { length members.new.items ≤ length members.old.items }
+fn ends_in(members: &[Member], name: &str) -> bool
+    ensures { IsTrue result ↔ EndsIn name.now members.now }
 {
     match members.last() {
-        Some(last) if last.name.as_str() == name => members.pop(),
-        _ => None,
+        Some(last) => last.name.as_str() == name,
+        None => false,
     }
 }

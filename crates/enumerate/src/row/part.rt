@@ -1,12 +1,12 @@
 //! Whether a tree is a row.
-ghost use Rattle.std.specs.Prelude.{[], ◌≡◌, ◌+◌, ◌≤◌, ◌<◌, length, drop, IfOk, ◌↔◌, IsTrue, IfSome, ◌≢◌, IfNone};
+ghost use Rattle.std.specs.Prelude.{[], ◌≡◌, ◌+◌, ◌≤◌, ◌<◌, length, drop, ◌↔◌, IsTrue, IfSome, ◌≢◌, IfNone};
 ghost use Rattle.jtree.specs.Data.{Data, member as member_data, Members as MembersData};
 ghost use Rattle.jtree.specs.Nodes.{node_count, members_count};
 ghost use Rattle.jtree.specs.View.{data_of, members_of};
-ghost use Rattle.plan.specs.Samples.Candidates.{sort_of};
+ghost use Rattle.enumerate.specs.Internal.Answers.{Decides};
 ghost use Rattle.enumerate.specs.Internal.Candidates.{used_rows};
 ghost use Rattle.enumerate.specs.Internal.Membership.{MakeUnusedRow, IsUnusedRow};
-ghost use Rattle.enumerate.specs.Internal.Nodes.{site, IsNodeOf, Costs};
+ghost use Rattle.enumerate.specs.Internal.Nodes.{IsNodeOfSort, Costs};
 ghost use Rattle.enumerate.specs.Internal.Rows.{slots_from, ending_at, CostsSlots};
 ghost use Rattle.plan.specs.declared.sort.Sort.TheVariants as sort;
 
@@ -27,11 +27,9 @@ impl<'p, Z: SizeSet> Walk<'p, Z> {
         used: &Rows<'_>,
         meter: &mut Meter,
     ) -> Result<bool, AllocError>
-        requires node { IsNodeOf self.now.plan.now node }
-        requires row { sort_of (site self.now.plan.now node) ≡ sort.Row }
+        requires node { IsNodeOfSort self.now.plan.now node sort.Row }
         requires limit { node_count (data_of tree.now) ≤ self.now.plan.now.limit }
-        ensures ok { IfOk result (λ is. IsTrue is ↔ IsUnusedRow self.now.plan.now node (used_rows used.now) (data_of tree.now)) }
-        ensures steps { Costs self.now.plan.now meter.old meter.new (node_count (data_of tree.now)) }
+        ensures { Decides result (IsUnusedRow self.now.plan.now node (used_rows used.now) (data_of tree.now)) (Costs self.now.plan.now meter.old meter.new (node_count (data_of tree.now))) }
     {
         match tree {
             Tree::Object(object) => self.make_unused_row(
@@ -58,13 +56,11 @@ impl<'p, Z: SizeSet> Walk<'p, Z> {
         members: &[Member],
         meter: &mut Meter,
     ) -> Result<bool, AllocError>
-        requires node { IsNodeOf self.now.plan.now node }
-        requires row { sort_of (site self.now.plan.now node) ≡ sort.Row }
+        requires node { IsNodeOfSort self.now.plan.now node sort.Row }
         requires place { place ≤ length (slots_from self.now.plan.now node 0) }
         requires count { before.count ≤ place }
         requires limit { before.count + members_count (members_of members.now) < self.now.plan.now.limit }
-        ensures ok { IfOk result (λ is. IsTrue is ↔ MakeUnusedRow self.now.plan.now.pools (slots_from self.now.plan.now node place) (ending_at self.now.plan.now node) before (used_rows used.now) (members_of members.now)) }
-        ensures steps { CostsSlots self.now.plan.now node place meter.old meter.new (members_count (members_of members.now)) }
+        ensures { Decides result (MakeUnusedRow self.now.plan.now.pools (slots_from self.now.plan.now node place) (ending_at self.now.plan.now node) before (used_rows used.now) (members_of members.now)) (CostsSlots self.now.plan.now node place meter.old meter.new (members_count (members_of members.now))) }
     {
         self.laws_of(node);
         let Some(slot) = self.plan.slot(node, place, meter) else {
@@ -103,8 +99,7 @@ impl<'p, Z: SizeSet> Walk<'p, Z> {
         used: &Rows<'_>,
         members: &[Member],
     ) -> bool
-        requires node { IsNodeOf self.now.plan.now node }
-        requires row { sort_of (site self.now.plan.now node) ≡ sort.Row }
+        requires node { IsNodeOfSort self.now.plan.now node sort.Row }
         requires place { place ≡ length (slots_from self.now.plan.now node 0) }
         requires count { before.count ≤ place }
         ensures { IsTrue result ↔ MakeUnusedRow self.now.plan.now.pools [] (ending_at self.now.plan.now node) before (used_rows used.now) (members_of members.now) }

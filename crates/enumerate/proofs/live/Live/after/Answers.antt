@@ -11,10 +11,10 @@ pub returns-in_err-copy-clause-steps : goal.returns-in_err-copy-clause-steps
 returns-in_err-copy-clause-steps g c = λ w wide. omega (arith, c.is_sample.ensures.steps w wide)
 
 pub returns-in_err-next-clause-steps : goal.returns-in_err-next-clause-steps
-returns-in_err-next-clause-steps g c = λ w wide. omega (arith, c.is_sample.ensures.steps w wide, c.next_sample-next.ensures.steps w wide, c.swap.ensures, c.swap-2.ensures)
+returns-in_err-next-clause-steps g c = λ w wide. omega (arith, c.is_sample.ensures.steps w wide, c.next_sample.ensures.steps w wide)
 
 pub returns-in-To-clause-steps : goal.returns-in-To-clause-steps
-returns-in-To-clause-steps g c = λ w wide. omega (arith, c.is_sample.ensures.steps w wide, c.next_sample-next.ensures.steps w wide, c.swap.ensures, c.swap-2.ensures)
+returns-in-To-clause-steps g c = λ w wide. omega (arith, c.is_sample.ensures.steps w wide, c.next_sample.ensures.steps w wide)
 
 pub returns-clause-steps : goal.returns-clause-steps
-returns-clause-steps g c = λ w wide. omega (arith, c.is_sample.ensures.steps w wide, c.next_sample-next.ensures.steps w wide, c.swap.ensures, c.swap-2.ensures)
+returns-clause-steps g c = λ w wide. omega (arith, c.is_sample.ensures.steps w wide, c.next_sample.ensures.steps w wide)

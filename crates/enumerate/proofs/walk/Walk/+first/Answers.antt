@@ -34,8 +34,8 @@ first_row-first_members-requires = first_row.first_members-requires
 pub first_row-invariant_of-result : goal.first_row-invariant_of-result
 first_row-invariant_of-result = first_row.invariant_of-result
 
-pub first_row-returns-then-size-eq1-clause-ok : goal.first_row-returns-then-size-eq1-clause-ok
-first_row-returns-then-size-eq1-clause-ok = first_row.returns-then-size-eq1-clause-ok
+pub first_row-returns-then-size-eq1 : goal.first_row-returns-then-size-eq1
+first_row-returns-then-size-eq1 = first_row.returns-then-size-eq1
 
 pub first_row-invariant_of-result-2 : goal.first_row-invariant_of-result-2
 first_row-invariant_of-result-2 = first_row.invariant_of-result-2
@@ -43,8 +43,8 @@ first_row-invariant_of-result-2 = first_row.invariant_of-result-2
 pub first_row-returns : goal.first_row-returns
 first_row-returns = first_row.returns
 
-pub first_row-returns-in_err-first_members-clause-steps : goal.first_row-returns-in_err-first_members-clause-steps
-first_row-returns-in_err-first_members-clause-steps = first_row.returns-in_err-first_members-clause-steps
+pub first_row-returns-in_err-first_members : goal.first_row-returns-in_err-first_members
+first_row-returns-in_err-first_members = first_row.returns-in_err-first_members
 
 pub first_members-returns-in_default : goal.first_members-returns-in_default
 first_members-returns-in_default = first_members.returns-in_default
@@ -58,8 +58,8 @@ first_members-returns-then-has = first_members.returns-then-has
 pub first_members-grow_members-requires : goal.first_members-grow_members-requires
 first_members-grow_members-requires = first_members.grow_members-requires
 
-pub first_members-returns-in_err-grow_members-clause-steps : goal.first_members-returns-in_err-grow_members-clause-steps
-first_members-returns-in_err-grow_members-clause-steps = first_members.returns-in_err-grow_members-clause-steps
+pub first_members-returns-in_err-grow_members : goal.first_members-returns-in_err-grow_members
+first_members-returns-in_err-grow_members = first_members.returns-in_err-grow_members
 
 pub first_members-returns : goal.first_members-returns
 first_members-returns = first_members.returns
@@ -76,11 +76,11 @@ grow_members-put_member-requires = grow_members.put_member-requires
 pub grow_members-returns : goal.grow_members-returns
 grow_members-returns = grow_members.returns
 
-pub grow_members-returns-in_err-tree-clause-steps : goal.grow_members-returns-in_err-tree-clause-steps
-grow_members-returns-in_err-tree-clause-steps = grow_members.returns-in_err-tree-clause-steps
+pub grow_members-returns-in_err-tree : goal.grow_members-returns-in_err-tree
+grow_members-returns-in_err-tree = grow_members.returns-in_err-tree
 
-pub grow_members-returns-in_err-put_member-clause-steps : goal.grow_members-returns-in_err-put_member-clause-steps
-grow_members-returns-in_err-put_member-clause-steps = grow_members.returns-in_err-put_member-clause-steps
+pub grow_members-returns-in_err-put_member : goal.grow_members-returns-in_err-put_member
+grow_members-returns-in_err-put_member = grow_members.returns-in_err-put_member
 
 pub first_value-first_key-requires : goal.first_value-first_key-requires
 first_value-first_key-requires = first_value.first_key-requires
@@ -109,8 +109,8 @@ first_list-unreachable-requires = first_list.unreachable-requires
 pub first_list-first_items-requires : goal.first_list-first_items-requires
 first_list-first_items-requires = first_list.first_items-requires
 
-pub first_list-returns-in_err-first_items-clause-steps : goal.first_list-returns-in_err-first_items-clause-steps
-first_list-returns-in_err-first_items-clause-steps = first_list.returns-in_err-first_items-clause-steps
+pub first_list-returns-in_err-first_items : goal.first_list-returns-in_err-first_items
+first_list-returns-in_err-first_items = first_list.returns-in_err-first_items
 
 pub first_list-returns : goal.first_list-returns
 first_list-returns = first_list.returns
@@ -124,14 +124,14 @@ first_items-returns-else-room-gt0 = first_items.returns-else-room-gt0
 pub grow_items-returns-in_default : goal.grow_items-returns-in_default
 grow_items-returns-in_default = grow_items.returns-in_default
 
-pub grow_items-returns-in_err-item-clause-steps : goal.grow_items-returns-in_err-item-clause-steps
-grow_items-returns-in_err-item-clause-steps = grow_items.returns-in_err-item-clause-steps
+pub grow_items-returns-in_err-item : goal.grow_items-returns-in_err-item
+grow_items-returns-in_err-item = grow_items.returns-in_err-item
 
-pub grow_items-returns-in_err-push-clause-steps : goal.grow_items-returns-in_err-push-clause-steps
-grow_items-returns-in_err-push-clause-steps = grow_items.returns-in_err-push-clause-steps
+pub grow_items-returns-in_err-push : goal.grow_items-returns-in_err-push
+grow_items-returns-in_err-push = grow_items.returns-in_err-push
 
-pub grow_items-returns-in_err-first_items-clause-steps : goal.grow_items-returns-in_err-first_items-clause-steps
-grow_items-returns-in_err-first_items-clause-steps = grow_items.returns-in_err-first_items-clause-steps
+pub grow_items-returns-in_err-first_items : goal.grow_items-returns-in_err-first_items
+grow_items-returns-in_err-first_items = grow_items.returns-in_err-first_items
 
 pub grow_items-returns : goal.grow_items-returns
 grow_items-returns = grow_items.returns

@@ -31,8 +31,8 @@ next_row-unreachable-requires = next_row.unreachable-requires
 pub next_row-next_members-requires : goal.next_row-next_members-requires
 next_row-next_members-requires = next_row.next_members-requires
 
-pub next_row-returns-in_err-depth-clause-steps : goal.next_row-returns-in_err-depth-clause-steps
-next_row-returns-in_err-depth-clause-steps = next_row.returns-in_err-depth-clause-steps
+pub next_row-returns-in_err-depth : goal.next_row-returns-in_err-depth
+next_row-returns-in_err-depth = next_row.returns-in_err-depth
 
 pub next_row-invariant_of-result : goal.next_row-invariant_of-result
 next_row-invariant_of-result = next_row.invariant_of-result
@@ -52,8 +52,8 @@ next_members-next_at_slot-requires = next_members.next_at_slot-requires
 pub next_members-returns-in-Made : goal.next_members-returns-in-Made
 next_members-returns-in-Made = next_members.returns-in-Made
 
-pub next_members-returns-in_err-depth-clause-steps : goal.next_members-returns-in_err-depth-clause-steps
-next_members-returns-in_err-depth-clause-steps = next_members.returns-in_err-depth-clause-steps
+pub next_members-returns-in_err-depth : goal.next_members-returns-in_err-depth
+next_members-returns-in_err-depth = next_members.returns-in_err-depth
 
 pub next_members-loop-place-preserved : goal.next_members-loop-place-preserved
 next_members-loop-place-preserved = next_members.loop-place-preserved
@@ -64,23 +64,20 @@ next_members-returns = next_members.returns
 pub next_at_slot-next_filled_slot-requires : goal.next_at_slot-next_filled_slot-requires
 next_at_slot-next_filled_slot-requires = next_at_slot.next_filled_slot-requires
 
-pub next_at_slot-next_empty_slot-requires : goal.next_at_slot-next_empty_slot-requires
-next_at_slot-next_empty_slot-requires = next_at_slot.next_empty_slot-requires
+pub next_at_slot-returns : goal.next_at_slot-returns
+next_at_slot-returns = next_at_slot.returns
 
-pub next_at_slot-returns-in-Some-clause-steps : goal.next_at_slot-returns-in-Some-clause-steps
-next_at_slot-returns-in-Some-clause-steps = next_at_slot.returns-in-Some-clause-steps
-
-pub next_at_slot-returns-in-None-clause-steps : goal.next_at_slot-returns-in-None-clause-steps
-next_at_slot-returns-in-None-clause-steps = next_at_slot.returns-in-None-clause-steps
+pub next_filled_slot-unreachable-requires : goal.next_filled_slot-unreachable-requires
+next_filled_slot-unreachable-requires = next_filled_slot.unreachable-requires
 
 pub next_filled_slot-overflow_cast-len : goal.next_filled_slot-overflow_cast-len
 next_filled_slot-overflow_cast-len = next_filled_slot.overflow_cast-len
 
-pub next_filled_slot-returns-then-is_last_key-clause-ok : goal.next_filled_slot-returns-then-is_last_key-clause-ok
-next_filled_slot-returns-then-is_last_key-clause-ok = next_filled_slot.returns-then-is_last_key-clause-ok
+pub next_filled_slot-returns-then-is_last_key : goal.next_filled_slot-returns-then-is_last_key
+next_filled_slot-returns-then-is_last_key = next_filled_slot.returns-then-is_last_key
 
-pub next_filled_slot-prefix_at-requires-clause-limit : goal.next_filled_slot-prefix_at-requires-clause-limit
-next_filled_slot-prefix_at-requires-clause-limit = next_filled_slot.prefix_at-requires-clause-limit
+pub next_filled_slot-prefix_at-requires : goal.next_filled_slot-prefix_at-requires
+next_filled_slot-prefix_at-requires = next_filled_slot.prefix_at-requires
 
 pub next_filled_slot-next_member-requires : goal.next_filled_slot-next_member-requires
 next_filled_slot-next_member-requires = next_filled_slot.next_member-requires
@@ -88,8 +85,8 @@ next_filled_slot-next_member-requires = next_filled_slot.next_member-requires
 pub next_filled_slot-returns : goal.next_filled_slot-returns
 next_filled_slot-returns = next_filled_slot.returns
 
-pub next_member-returns-in_err-tree-clause-steps : goal.next_member-returns-in_err-tree-clause-steps
-next_member-returns-in_err-tree-clause-steps = next_member.returns-in_err-tree-clause-steps
+pub next_member-returns-in_err-tree : goal.next_member-returns-in_err-tree
+next_member-returns-in_err-tree = next_member.returns-in_err-tree
 
 pub next_member-put_member-requires : goal.next_member-put_member-requires
 next_member-put_member-requires = next_member.put_member-requires
@@ -127,8 +124,8 @@ next_list-unreachable-requires-in_default-item = next_list.unreachable-requires-
 pub next_list-next_items-requires : goal.next_list-next_items-requires
 next_list-next_items-requires = next_list.next_items-requires
 
-pub next_list-returns-in_err-depth-clause-steps : goal.next_list-returns-in_err-depth-clause-steps
-next_list-returns-in_err-depth-clause-steps = next_list.returns-in_err-depth-clause-steps
+pub next_list-returns-in_err-depth : goal.next_list-returns-in_err-depth
+next_list-returns-in_err-depth = next_list.returns-in_err-depth
 
 pub next_list-returns-in-Made : goal.next_list-returns-in-Made
 next_list-returns-in-Made = next_list.returns-in-Made
@@ -142,8 +139,8 @@ next_items-loop-item-init = next_items.loop-item-init
 pub next_items-next_item-requires : goal.next_items-next_item-requires
 next_items-next_item-requires = next_items.next_item-requires
 
-pub next_items-returns-in_err-next-clause-steps : goal.next_items-returns-in_err-next-clause-steps
-next_items-returns-in_err-next-clause-steps = next_items.returns-in_err-next-clause-steps
+pub next_items-returns-in_err-next : goal.next_items-returns-in_err-next
+next_items-returns-in_err-next = next_items.returns-in_err-next
 
 pub next_items-returns-in-To : goal.next_items-returns-in-To
 next_items-returns-in-To = next_items.returns-in-To
@@ -151,8 +148,8 @@ next_items-returns-in-To = next_items.returns-in-To
 pub next_items-grow_larger_items-requires : goal.next_items-grow_larger_items-requires
 next_items-grow_larger_items-requires = next_items.grow_larger_items-requires
 
-pub next_items-returns-in_err-depth-in-Last-clause-steps : goal.next_items-returns-in_err-depth-in-Last-clause-steps
-next_items-returns-in_err-depth-in-Last-clause-steps = next_items.returns-in_err-depth-in-Last-clause-steps
+pub next_items-returns-in_err-depth-in-Last : goal.next_items-returns-in_err-depth-in-Last
+next_items-returns-in_err-depth-in-Last = next_items.returns-in_err-depth-in-Last
 
 pub next_items-returns-in-Made : goal.next_items-returns-in-Made
 next_items-returns-in-Made = next_items.returns-in-Made
@@ -187,11 +184,11 @@ next_item-returns-in-Keys = next_item.returns-in-Keys
 pub next_member-below-depth-requires : goal.next_member-below-depth-requires
 next_member-below-depth-requires = next_member.below-depth-requires
 
-pub next_member-returns-in_err-put_member-in-To-clause-steps : goal.next_member-returns-in_err-put_member-in-To-clause-steps
-next_member-returns-in_err-put_member-in-To-clause-steps = next_member.returns-in_err-put_member-in-To-clause-steps
+pub next_member-returns-in_err-put_member-in-To : goal.next_member-returns-in_err-put_member-in-To
+next_member-returns-in_err-put_member-in-To = next_member.returns-in_err-put_member-in-To
 
 pub next_items-below-depth-requires : goal.next_items-below-depth-requires
 next_items-below-depth-requires = next_items.below-depth-requires
 
-pub next_items-returns-in_err-put_item-in-To-clause-steps : goal.next_items-returns-in_err-put_item-in-To-clause-steps
-next_items-returns-in_err-put_item-in-To-clause-steps = next_items.returns-in_err-put_item-in-To-clause-steps
+pub next_items-returns-in_err-put_item-in-To : goal.next_items-returns-in_err-put_item-in-To
+next_items-returns-in_err-put_item-in-To = next_items.returns-in_err-put_item-in-To

@@ -32,7 +32,7 @@ abbrev pub invariant-next_members-loop-place : goal.invariant-next_members-loop-
 invariant-next_members-loop-place g l = record {
   within : l.place ≤ length (slots_from l.self.plan.now l.node 0);
   walked : (gs : List (Option Data)) → AreInSlots l.self.plan.now.pools (slots_from l.self.plan.now l.node 0) (demand_of l.self.plan.now l.node (used_rows l.used) gs) l.initial.members.items gs → IsWalkedTo l.self.plan.now l.node l.place l.removed (used_rows l.used) l.members.items gs;
-  steps : (w : ℕ) → IsWidth l.self.plan.now.pools l.self.plan.now.root w → l.scratch.meter + l.place ≤ l.initial.scratch.meter + length (slots_from l.self.plan.now l.node 0) + (w + 1) * (2 * l.removed.room);
+  steps : (w : ℕ) → IsWidth l.self.plan.now.pools l.self.plan.now.root w → l.meter + l.place ≤ l.initial.meter + length (slots_from l.self.plan.now l.node 0) + (w + 1) * (2 * l.removed.room);
 }
 
 abbrev pub decreases-next_members-loop-place : goal.decreases-next_members-loop-place
@@ -53,7 +53,7 @@ decreases-next_item g l = weight l.self.now.plan.now l.list.now.node + 2
 abbrev pub invariant-next_items-loop-item : goal.invariant-next_items-loop-item
 invariant-next_items-loop-item g l = record {
   last : WereLast l.self.plan.now l.list.node l.room (items_of l.initial.items.items) (items_of l.items.items);
-  steps : Costs l.self.plan.now l.initial.scratch.meter l.scratch.meter (2 * l.room);
+  steps : Costs l.self.plan.now l.initial.meter l.meter (2 * l.room);
 }
 
 abbrev pub decreases-next_items-loop-item : goal.decreases-next_items-loop-item

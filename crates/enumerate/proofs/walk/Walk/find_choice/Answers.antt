@@ -52,12 +52,12 @@ returns-then-is_choice_past-clause-ok g c =
 
 pub returns-in_err-push-clause-steps : goal.returns-in_err-push-clause-steps
 returns-in_err-push-clause-steps g c w width =
-    let within = count_within c.args.self.now.plan.now c.args.node c.requires.node c.requires.leaf c.count-place-end.result c.count-place-end.ensures w width in
+    let within = count_within c.args.self.now.plan.now c.args.node c.requires.node c.requires.sort c.count-place-end.result c.count-place-end.ensures w width in
     omega (arith, within, c.loop-place.invariant.steps, c.candidate.ensures.step)
 
 pub returns-then-is_choice_past-clause-steps : goal.returns-then-is_choice_past-clause-steps
 returns-then-is_choice_past-clause-steps g c w width =
-    let within = count_within c.args.self.now.plan.now c.args.node c.requires.node c.requires.leaf c.count-place-end.result c.count-place-end.ensures w width in
+    let within = count_within c.args.self.now.plan.now c.args.node c.requires.node c.requires.sort c.count-place-end.result c.count-place-end.ensures w width in
     omega (arith, within, c.loop-place.invariant.steps, c.candidate.ensures.step)
 
 pub returns-clause-ok : goal.returns-clause-ok
@@ -71,5 +71,5 @@ returns-clause-ok g c =
 
 pub returns-clause-steps : goal.returns-clause-steps
 returns-clause-steps g c w width =
-    let within = count_within c.args.self.now.plan.now c.args.node c.requires.node c.requires.leaf c.count-place-end.result c.count-place-end.ensures w width in
+    let within = count_within c.args.self.now.plan.now c.args.node c.requires.node c.requires.sort c.count-place-end.result c.count-place-end.ensures w width in
     omega (arith, within, c.loop-place.invariant.steps)

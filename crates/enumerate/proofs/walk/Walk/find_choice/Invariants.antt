@@ -8,5 +8,5 @@ abbrev pub invariant-loop-place : goal.invariant-loop-place
 invariant-loop-place g l = record {
   none : NoneBefore l.self.plan.now l.node (IsChoice l.self.plan.now l.node l.size (resume_point l.after) l.used) (λ u c. c.part.part) l.place;
   empty : l.scratch.following.items ≡ [];
-  steps : l.scratch.meter ≤ l.initial.scratch.meter + l.place;
+  steps : l.meter ≤ l.initial.meter + l.place;
 }

@@ -95,15 +95,15 @@ returns-clause-ok g c =
 
 pub returns-in_default-clause-steps : goal.returns-in_default-clause-steps
 returns-in_default-clause-steps g c w width =
-    let within = count_within c.args.self.now.plan.now c.args.node c.requires.node c.requires.leaf c.count-place.result c.count-place.ensures w width in
+    let within = count_within c.args.self.now.plan.now c.args.node c.requires.node c.requires.sort c.count-place.result c.count-place.ensures w width in
     omega (arith, within, c.loop-place.invariant.steps, c.candidate.ensures.step, c.loop-place-test.true)
 
 pub returns-then-not-is_past-clause-steps : goal.returns-then-not-is_past-clause-steps
 returns-then-not-is_past-clause-steps g c w width =
-    let within = count_within c.args.self.now.plan.now c.args.node c.requires.node c.requires.leaf c.count-place.result c.count-place.ensures w width in
+    let within = count_within c.args.self.now.plan.now c.args.node c.requires.node c.requires.sort c.count-place.result c.count-place.ensures w width in
     omega (arith, within, c.loop-place.invariant.steps, c.candidate.ensures.step, c.loop-place-test.true)
 
 pub returns-clause-steps : goal.returns-clause-steps
 returns-clause-steps g c w width =
-    let within = count_within c.args.self.now.plan.now c.args.node c.requires.node c.requires.leaf c.count-place.result c.count-place.ensures w width in
+    let within = count_within c.args.self.now.plan.now c.args.node c.requires.node c.requires.sort c.count-place.result c.count-place.ensures w width in
     omega (arith, within, c.loop-place.invariant.steps)

@@ -9,7 +9,7 @@ invariant-loop-place g l = record {
   chosen : Chosen l.self.plan.now l.node (IsChoice l.self.plan.now l.node l.size (resume_point l.after) l.used) (λ u c. c.part.part) (stack_of l.scratch.following.items) l.place;
   within : l.place ≤ l.initial.place;
   room : vec_len l.scratch.following + l.place ≤ vec_capacity l.scratch.following;
-  steps : l.scratch.meter + l.place ≤ l.initial.scratch.meter + l.initial.place;
+  steps : l.meter + l.place ≤ l.initial.meter + l.initial.place;
 }
 
 abbrev pub decreases-loop-place : goal.decreases-loop-place

@@ -9,7 +9,7 @@ use Rattle.enumerate.proofs.samples.Lemmas.{found_from, none_from}
 use Rattle.enumerate.proofs.walk.Walk.first_from.Goals as goal
 
 pub returns-in_err-first_part-in-Some-clause-steps : goal.returns-in_err-first_part-in-Some-clause-steps
-returns-in_err-first_part-in-Some-clause-steps g c = costs_within c.args.self.now.plan.now c.args.scratch.now.meter c.first_part.new.scratch.meter c.in-Some.size c.args.self.now.plan.now.limit ((c.sizes.ensures c.in-Some.size).0 c.in-Some.ensures.1).0 c.first_part.ensures.steps
+returns-in_err-first_part-in-Some-clause-steps g c = costs_within c.args.self.now.plan.now c.args.meter.now c.first_part.new.meter c.in-Some.size c.args.self.now.plan.now.limit ((c.sizes.ensures c.in-Some.size).0 c.in-Some.ensures.1).0 c.first_part.ensures.steps
 
 pub returns-in_ok-first_part-in-Some-clause-ok : goal.returns-in_ok-first_part-in-Some-clause-ok
 returns-in_ok-first_part-in-Some-clause-ok g c =
@@ -17,7 +17,7 @@ returns-in_ok-first_part-in-Some-clause-ok g c =
     (g.Z.SizeSet.holds c.sizes.result) c.sizes.ensures c.args.from c.in-Some.size (data_of c.in_ok-first_part-in-Some.field-0) c.in-Some.ensures c.in_ok-first_part-in-Some.ensures.ok
 
 pub returns-in_ok-first_part-in-Some-clause-steps : goal.returns-in_ok-first_part-in-Some-clause-steps
-returns-in_ok-first_part-in-Some-clause-steps g c = costs_within c.args.self.now.plan.now c.args.scratch.now.meter c.first_part.new.scratch.meter c.in-Some.size c.args.self.now.plan.now.limit ((c.sizes.ensures c.in-Some.size).0 c.in-Some.ensures.1).0 c.first_part.ensures.steps
+returns-in_ok-first_part-in-Some-clause-steps g c = costs_within c.args.self.now.plan.now c.args.meter.now c.first_part.new.meter c.in-Some.size c.args.self.now.plan.now.limit ((c.sizes.ensures c.in-Some.size).0 c.in-Some.ensures.1).0 c.first_part.ensures.steps
 
 pub returns-in-None-clause-ok : goal.returns-in-None-clause-ok
 returns-in-None-clause-ok g c =

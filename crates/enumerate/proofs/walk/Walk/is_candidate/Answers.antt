@@ -22,7 +22,7 @@ returns-then-eq-clause-is g c =
 
 pub returns-then-eq-clause-steps : goal.returns-then-eq-clause-steps
 returns-then-eq-clause-steps g c w width =
-    let within = count_within c.args.self.now.plan.now c.args.node c.requires.node c.requires.leaf c.count-place-end.result c.count-place-end.ensures w width in
+    let within = count_within c.args.self.now.plan.now c.args.node c.requires.node c.requires.sort c.count-place-end.result c.count-place-end.ensures w width in
     omega (arith, within, c.loop-place.invariant.steps, c.candidate.ensures.step)
 
 pub loop-place-preserved : goal.loop-place-preserved
@@ -57,5 +57,5 @@ returns-clause-is g c =
 
 pub returns-clause-steps : goal.returns-clause-steps
 returns-clause-steps g c w width =
-    let within = count_within c.args.self.now.plan.now c.args.node c.requires.node c.requires.leaf c.count-place-end.result c.count-place-end.ensures w width in
+    let within = count_within c.args.self.now.plan.now c.args.node c.requires.node c.requires.sort c.count-place-end.result c.count-place-end.ensures w width in
     omega (arith, within, c.loop-place.invariant.steps)

@@ -20,17 +20,17 @@ use Rattle.enumerate.proofs.walk.Walk.next_sample.Goals.{After-first_from, In_ok
 
 pub returns-in_err-next-clause-steps : goal.returns-in_err-next-clause-steps
 returns-in_err-next-clause-steps g c =
-    costs_thrice_within c.args.self.now.plan.now c.args.scratch.now.meter c.next_part.new.scratch.meter (node_count (data_of c.args.tree)) c.args.self.now.plan.now.limit (few c.args.self.now.plan.now (data_of c.args.tree) (omega (arith, c.limit-limit.type_inv, c.limit-limit.ensures)) c.requires.sample) c.next_part.ensures.steps.0
+    costs_thrice_within c.args.self.now.plan.now c.args.meter.now c.next_part.new.meter (node_count (data_of c.args.tree)) c.args.self.now.plan.now.limit (few c.args.self.now.plan.now (data_of c.args.tree) (omega (arith, c.limit-limit.type_inv, c.limit-limit.ensures)) c.requires.sample) c.next_part.ensures.steps.0
 
 pub returns-in-To-clause-steps : goal.returns-in-To-clause-steps
 returns-in-To-clause-steps g c =
-    costs_thrice_within c.args.self.now.plan.now c.args.scratch.now.meter c.next_part.new.scratch.meter (node_count (data_of c.args.tree)) c.args.self.now.plan.now.limit (few c.args.self.now.plan.now (data_of c.args.tree) (omega (arith, c.limit-limit.type_inv, c.limit-limit.ensures)) c.requires.sample) c.next_part.ensures.steps.0
+    costs_thrice_within c.args.self.now.plan.now c.args.meter.now c.next_part.new.meter (node_count (data_of c.args.tree)) c.args.self.now.plan.now.limit (few c.args.self.now.plan.now (data_of c.args.tree) (omega (arith, c.limit-limit.type_inv, c.limit-limit.ensures)) c.requires.sample) c.next_part.ensures.steps.0
 
 -- what it took to find the first one of more nodes
-later_cost : (g : Over) (c : After-first_from g) → Costs c.args.self.now.plan.now c.args.scratch.now.meter c.first_from.new.scratch.meter (3 * c.args.self.now.plan.now.limit)
+later_cost : (g : Over) (c : After-first_from g) → Costs c.args.self.now.plan.now c.args.meter.now c.first_from.new.meter (3 * c.args.self.now.plan.now.limit)
 later_cost g c =
-    costs_then c.args.self.now.plan.now c.args.scratch.now.meter c.next_part.new.scratch.meter c.first_from.new.scratch.meter (node_count (data_of c.args.tree)) c.args.self.now.plan.now.limit (few c.args.self.now.plan.now (data_of c.args.tree) (omega (arith, c.limit-limit.type_inv, c.limit-limit.ensures)) c.requires.sample)
-    (subst (λ m. CostsLast m c.args.self.now.plan.now c.args.scratch.now.meter c.next_part.new.scratch.meter (node_count (data_of c.args.tree))) c.in-Last.is c.in_ok-next.ensures.steps.1) c.first_from.ensures.steps
+    costs_then c.args.self.now.plan.now c.args.meter.now c.next_part.new.meter c.first_from.new.meter (node_count (data_of c.args.tree)) c.args.self.now.plan.now.limit (few c.args.self.now.plan.now (data_of c.args.tree) (omega (arith, c.limit-limit.type_inv, c.limit-limit.ensures)) c.requires.sample)
+    (subst (λ m. CostsLast m c.args.self.now.plan.now c.args.meter.now c.next_part.new.meter (node_count (data_of c.args.tree))) c.in-Last.is c.in_ok-next.ensures.steps.1) c.first_from.ensures.steps
 
 pub returns-in_err-next-in-Last-clause-steps : goal.returns-in_err-next-in-Last-clause-steps
 returns-in_err-next-in-Last-clause-steps g c = later_cost g (goal.at.returns-in_err-next-in-Last-clause-steps g c).After-first_from
@@ -43,7 +43,7 @@ returns-in-None-clause-steps g c = later_cost g (goal.at.returns-in-None-clause-
 
 pub returns-else-size-limit-clause-steps : goal.returns-else-size-limit-clause-steps
 returns-else-size-limit-clause-steps g c =
-    costs_thrice_within c.args.self.now.plan.now c.args.scratch.now.meter c.next_part.new.scratch.meter (node_count (data_of c.args.tree)) c.args.self.now.plan.now.limit (few c.args.self.now.plan.now (data_of c.args.tree) (omega (arith, c.limit-limit.type_inv, c.limit-limit.ensures)) c.requires.sample) c.next_part.ensures.steps.0
+    costs_thrice_within c.args.self.now.plan.now c.args.meter.now c.next_part.new.meter (node_count (data_of c.args.tree)) c.args.self.now.plan.now.limit (few c.args.self.now.plan.now (data_of c.args.tree) (omega (arith, c.limit-limit.type_inv, c.limit-limit.ensures)) c.requires.sample) c.next_part.ensures.steps.0
 
 pub returns-in-To-clause-ok : goal.returns-in-To-clause-ok
 returns-in-To-clause-ok g c =

@@ -29,8 +29,7 @@ pub first_unused-requires : goal.first_item-first_unused-requires
 first_unused-requires g t c =
     let q = c.args.self.now.plan.now in
     record {
-      node = omega (arith, c.requires.list.child, c.requires.list.node);
-      leaf = (c.laws_of.ensures.sound.set (site q c.args.list.now.child) c.requires.first.item (sym c.distinct.ensures ∙ c.in-Whole.is)).leaf;
+      node = record { node = omega (arith, c.requires.list.child, c.requires.list.node); sort = (c.laws_of.ensures.sound.set (site q c.args.list.now.child) c.requires.first.item (sym c.distinct.ensures ∙ c.in-Whole.is)).leaf };
       free =
           set_free q c.args.list.now.node c.args.list.now.child (record { rule = c.laws_of.ensures.rule; ends = c.laws_of.ensures.completed; item = c.requires.first.item }) c.args.size c.args.items.now c.requires.first
           (c.laws_of.ensures.sound.set (site q c.args.list.now.child) c.requires.first.item (sym c.distinct.ensures ∙ c.in-Whole.is)) c.requires.size c.requires.more.0 c.requires.more.1;
@@ -70,7 +69,7 @@ returns-in-Whole g t c =
           let set = c.laws_of.ensures.sound.set (site q k) c.requires.first.item (sym c.distinct.ensures ∙ c.in-Whole.is) in
           IfOk-weaker c.first_unused.result _ _ (λ v h. continue_same (IsUnusedPart q k n (trees_of c.args.items.now)) (IsUnusedItem q i k n (items_of c.args.items.now)) (data_of v) (stack_of c.first_unused.new.scratch.following.items)
           (λ u p. (set_item_unused q i k n c.args.items.now u set).0 p) (λ u f. (set_item_unused q i k n c.args.items.now u set).1 f) h) c.first_unused.ensures.following;
-      steps = costs_within c.args.self.now.plan.now c.args.scratch.now.meter c.first_unused.new.scratch.meter 1 c.args.size (some_size c.requires.size) c.first_unused.ensures.steps;
+      steps = costs_within c.args.self.now.plan.now c.args.meter.now c.first_unused.new.meter 1 c.args.size (some_size c.requires.size) c.first_unused.ensures.steps;
     }
 
 pub first_row-requires : goal.first_item-first_row-requires
@@ -84,16 +83,13 @@ first_row-requires g t c κs within =
       (
         within,
         (
-          node,
+          record { node = node; sort = items.row },
           (
-            items.row,
+            some,
             (
-              some,
-              (
-                c.requires.limit,
-                (item_open q c.args.list.now.node c.args.list.now.child c.laws_of.ensures.rule c.laws_of-2.ensures.rule c.laws_of-2.ensures.sound items c.laws_of.ensures.free counts.0 counts.1 c.args.items.now c.args.size c.requires.more.0
-                    (omega (arith, c.laws_of.ensures.limit)) c.requires.first c.requires.more.1 c.requires.size),
-              ),
+              c.requires.limit,
+              (item_open q c.args.list.now.node c.args.list.now.child c.laws_of.ensures.rule c.laws_of-2.ensures.rule c.laws_of-2.ensures.sound items c.laws_of.ensures.free counts.0 counts.1 c.args.items.now c.args.size c.requires.more.0
+                  (omega (arith, c.laws_of.ensures.limit)) c.requires.first c.requires.more.1 c.requires.size),
             ),
           ),
         ),

@@ -1,6 +1,6 @@
 use Rattle.std.proofs.lemmas.Result.{on_ok_weaker}
 use Rattle.std.proofs.lemmas.List.{length-drop}
-use Rattle.std.proofs.Common.{drop, sym, subst, ◌∙◌, arith, ◌≡◌, ◌+◌, ℕ, length}
+use Rattle.std.proofs.Common.{rules, drop, sym, subst, ◌∙◌, arith, ◌≡◌, ◌+◌, ℕ, length}
 use Rattle.enumerate.proofs.samples.Following.{continue_out, grown_continues, no_room}
 use Rattle.enumerate.proofs.rows.Slots.{no_slots, slot_of, none_at, one_fewer, out_open, out_adds, grown_at}
 use Rattle.enumerate.proofs.walks.Costs.{costs_wider}
@@ -40,7 +40,7 @@ first_members-requires g t c κs within =
     let can = ((c.rest.ensures c.args.ahead.now.room).0 (c.has.ensures.0 c.if-has.true)).1 in
     let fewer = fewer_here g t (goal.at.first_members-first_members-requires g t c).In-Some in (
       omega (arith, c.decreases, fewer),
-      (within, (c.requires.node, (c.requires.row, (c.requires.some, record { count = omega (arith, c.requires.open.count); limit = c.requires.open.limit; can = out_open q c.args.node c.args.place sound s.first (demand_at q c.args.node c.args.ahead.now) free can c.requires.open.can })))),
+      (within, (c.requires.node, (c.requires.some, record { count = omega (arith, c.requires.open.count); limit = c.requires.open.limit; can = out_open q c.args.node c.args.place sound s.first (demand_at q c.args.node c.args.ahead.now) free can c.requires.open.can }))),
     )
 
 pub returns-then-has : goal.first_members-returns-then-has
@@ -54,7 +54,7 @@ returns-then-has g t c =
           on_ok_weaker c.first_members.result (λ a. out_adds q c.args.node c.args.place sound s.first (demand_at q c.args.node c.args.ahead.now) c.args.members.now.items c.first_members.new.members.items (omega (arith, c.requires.open.limit, c.laws_of.ensures.limit)) free a)
           c.first_members.ensures.ok;
       following = on_ok_weaker c.first_members.result (λ h. continue_out q c.args.node c.args.place s.first (used_rows c.args.ahead.now.used) (drop (length c.args.members.now.items) c.first_members.new.members.items) (stack_of c.first_members.new.scratch.following.items) free h) c.first_members.ensures.following;
-      steps = costs_wider c.args.self.now.plan.now c.args.node c.args.place c.args.scratch.now.meter c.slot.new.meter c.args.ahead.now.room c.slot.ensures.step (fewer_here g t (goal.at.first_members-returns-then-has g t c).In-Some) c.first_members.new.scratch.meter c.first_members.ensures.steps;
+      steps = costs_wider c.args.self.now.plan.now c.args.node c.args.place c.args.meter.now c.slot.new.meter c.args.ahead.now.room c.slot.ensures.step (fewer_here g t (goal.at.first_members-returns-then-has g t c).In-Some) c.first_members.new.meter c.first_members.ensures.steps;
     }
 
 pub grow_members-requires : goal.first_members-grow_members-requires
@@ -62,11 +62,11 @@ grow_members-requires g t c κs within =
     let q = c.args.self.now.plan.now in
     let s = slot_here g t (goal.at.first_members-grow_members-requires g t c).In-Some in
     let fewer = fewer_here g t (goal.at.first_members-grow_members-requires g t c).In-Some in
-    (omega (arith, c.decreases, fewer), (within, (record { node = c.requires.node; row = c.requires.row; within = omega (arith, fewer, length-drop c.args.place (slots_from q c.args.node 0)); slot = s }, c.requires.open)))
+    (omega (arith, c.decreases, fewer), (within, (record { node = c.requires.node.node; row = c.requires.node.sort; within = omega (arith, fewer, length-drop c.args.place (slots_from q c.args.node 0)); slot = s }, c.requires.open)))
 
-pub returns-in_err-grow_members-clause-steps : goal.first_members-returns-in_err-grow_members-clause-steps
-returns-in_err-grow_members-clause-steps g t c =
-    costs_wider c.args.self.now.plan.now c.args.node c.args.place c.args.scratch.now.meter c.slot.new.meter c.args.ahead.now.room c.slot.ensures.step (fewer_here g t (goal.at.first_members-returns-in_err-grow_members-clause-steps g t c).In-Some) c.grow_members.new.scratch.meter c.grow_members.ensures.steps
+pub returns-in_err-grow_members : goal.first_members-returns-in_err-grow_members
+returns-in_err-grow_members g t c =
+    record { ok = search rules; following = search rules; steps = costs_wider c.args.self.now.plan.now c.args.node c.args.place c.args.meter.now c.slot.new.meter c.args.ahead.now.room c.slot.ensures.step (fewer_here g t (goal.at.first_members-returns-in_err-grow_members g t c).In-Some) c.grow_members.new.meter c.grow_members.ensures.steps }
 
 pub returns : goal.first_members-returns
 returns g t c =
@@ -89,5 +89,5 @@ returns g t c =
             | first_members-else-not-here-via-then-not-here+else-has w ↦ let yes = w.has.ensures.1 ((w.rest.ensures c.args.ahead.now.room).1 (omega (arith, c.requires.open.limit), can)) in let no = sym yes ∙ w.if-has.false in cc
             | first_members-else-not-here-via-else-not-here w ↦ let yes = w.if-not-here.false in let no = sym yes ∙ s.must ∙ free in cc
           ]) c.requires.open.can.rest c.in_ok-grow_members.ensures.ok c.in_ok-grow_members.ensures.following;
-      steps = costs_wider c.args.self.now.plan.now c.args.node c.args.place c.args.scratch.now.meter c.slot.new.meter c.args.ahead.now.room c.slot.ensures.step (fewer_here g t (goal.at.first_members-returns g t c).In-Some) c.grow_members.new.scratch.meter c.grow_members.ensures.steps;
+      steps = costs_wider c.args.self.now.plan.now c.args.node c.args.place c.args.meter.now c.slot.new.meter c.args.ahead.now.room c.slot.ensures.step (fewer_here g t (goal.at.first_members-returns g t c).In-Some) c.grow_members.new.meter c.grow_members.ensures.steps;
     }

@@ -26,18 +26,15 @@ first_row-requires g t c κs within =
       (
         within,
         (
-          c.requires.node,
+          record { node = c.requires.node; sort = row },
           (
-            row,
+            some,
             (
-              some,
-              (
-                c.requires.limit,
-                plain_open q c.args.node c.laws_of.ensures.rule row c.args.size (keys_at q c.args.node 0 c.laws_of.ensures.sound) (elim c.if-size-eq1.branch [
-                  | first_part-then-size-eq1+else-null_ok w ↦ λ e. sym w.null_ok.ensures ∙ w.if-null_ok.false
-                  | first_part-else-size-eq1 w ↦ λ e. absurd (omega (arith, w.if-size-eq1.false, e))
-                ]) c.requires.size,
-              ),
+              c.requires.limit,
+              plain_open q c.args.node c.laws_of.ensures.rule row c.args.size (keys_at q c.args.node 0 c.laws_of.ensures.sound) (elim c.if-size-eq1.branch [
+                | first_part-then-size-eq1+else-null_ok w ↦ λ e. sym w.null_ok.ensures ∙ w.if-null_ok.false
+                | first_part-else-size-eq1 w ↦ λ e. absurd (omega (arith, w.if-size-eq1.false, e))
+              ]) c.requires.size,
             ),
           ),
         ),
@@ -51,16 +48,13 @@ first_list-requires g t c κs within =
       (
         within,
         (
-          c.requires.node,
+          record { node = c.requires.node; sort = sym c.in-List.ensures },
           (
-            sym c.in-List.ensures,
-            (
-              elim c.if-size-eq1.branch [
-                | first_part-then-size-eq1+else-null_ok w ↦ λ e. sym w.null_ok.ensures ∙ w.if-null_ok.false
-                | first_part-else-size-eq1 w ↦ λ e. absurd (omega (arith, w.if-size-eq1.false, e))
-              ],
-              (c.requires.size, c.requires.limit),
-            ),
+            elim c.if-size-eq1.branch [
+              | first_part-then-size-eq1+else-null_ok w ↦ λ e. sym w.null_ok.ensures ∙ w.if-null_ok.false
+              | first_part-else-size-eq1 w ↦ λ e. absurd (omega (arith, w.if-size-eq1.false, e))
+            ],
+            (c.requires.size, c.requires.limit),
           ),
         ),
       ),
@@ -105,5 +99,5 @@ returns-in-Leaf g t c =
           let q = c.args.self.now.plan.now in
           let n = c.args.size in
           IfOk-weaker c.first_unused.result _ _ (λ v h. continue_same (IsUnusedPart q c.args.node n []) (IsPartOf q c.args.node n) (data_of v) (stack_of c.first_unused.new.scratch.following.items) (λ u p. p.0) (λ u p. (p, λ k. contained [] _ k)) h) c.first_unused.ensures.following;
-      steps = costs_within c.args.self.now.plan.now c.args.scratch.now.meter c.first_unused.new.scratch.meter 1 c.args.size (some_size c.requires.size) c.first_unused.ensures.steps;
+      steps = costs_within c.args.self.now.plan.now c.args.meter.now c.first_unused.new.meter 1 c.args.size (some_size c.requires.size) c.first_unused.ensures.steps;
     }

@@ -1,5 +1,5 @@
-use Rattle.std.proofs.Common.{List, drop, sym, ap, subst, ◌∙◌, arith, ◌≡◌, ◌-◌, [], ℕ, length}
-use Rattle.enumerate.specs.Internal.Following.{MembersContinue}
+use Rattle.std.proofs.Common.{rules, List, drop, sym, ap, subst, ◌∙◌, arith, ◌≡◌, ◌-◌, [], ℕ, length}
+use Rattle.enumerate.specs.Internal.Following.{Continue, MembersContinue}
 use Rattle.jtree.specs.declared.value.Member.{Member}
 use Rattle.plan.specs.Samples.Keys.{HasSoundParts}
 use Rattle.plan.specs.Samples.Question.{Question}
@@ -27,9 +27,9 @@ row_adds g t c =
     subst (λ old. AddsFirst q.pools (slots_from q c.args.node 0) d old c.first_members.new.members.items) c.new-members.ensures.items
     (subst (λ x. AddsFirst q.pools (slots_from q c.args.node 0) (record d { before = x }) c.new-members.result.items c.first_members.new.members.items) c.nothing.ensures c.in_ok-first_members.ensures.ok)
 
-row_cost : (g : Over) (t : ℕ) (c : first_row-After-first_members g t) → Costs c.args.self.now.plan.now c.args.scratch.now.meter c.first_members.new.scratch.meter c.args.size
+row_cost : (g : Over) (t : ℕ) (c : first_row-After-first_members g t) → Costs c.args.self.now.plan.now c.args.meter.now c.first_members.new.meter c.args.size
 row_cost g t c =
-    costs_row c.args.self.now.plan.now c.args.node c.args.scratch.now.meter c.first_members.new.scratch.meter (c.args.size - 1) c.args.size c.requires.node c.requires.row (omega (arith, c.requires.some)) c.first_members.ensures.steps
+    costs_row c.args.self.now.plan.now c.args.node c.args.meter.now c.first_members.new.meter (c.args.size - 1) c.args.size c.requires.node.node c.requires.node.sort (omega (arith, c.requires.some)) c.first_members.ensures.steps
 
 pub first_members-requires : goal.first_row-first_members-requires
 first_members-requires g t c κs within =
@@ -37,7 +37,7 @@ first_members-requires g t c κs within =
     let count = ap (λ (x : Before). x.count) c.nothing.ensures in
     let d = row_demand q c.args.node (c.args.size - 1) (used_rows c.args.used.now) in
     let can = subst (λ x. IsOpen q.pools (slots_from q c.args.node 0) (record d { before = x })) (sym c.nothing.ensures) c.requires.open in
-    (omega (arith, c.decreases), (within, (c.requires.node, (c.requires.row, (omega (arith, c.requires.some, c.if-size-eq1.false), record { count = omega (arith, count); limit = omega (arith, c.requires.some, c.requires.limit, count); can = can })))))
+    (omega (arith, c.decreases), (within, (c.requires.node, (omega (arith, c.requires.some, c.if-size-eq1.false), record { count = omega (arith, count); limit = omega (arith, c.requires.some, c.requires.limit, count); can = can }))))
 
 -- without nodes the first row is empty
 empty_adds : (q : Question) (i m : ℕ) (used : List Data) (members : List Member) → HasSoundParts q.pools (site q i) → members ≡ [] → m ≡ 0 → IsOpen q.pools (slots_from q i 0) (row_demand q i m used) → AddsFirst q.pools (slots_from q i 0) (row_demand q i m used) [] members
@@ -52,12 +52,18 @@ invariant_of-result g t c =
     let adds = empty_adds q c.args.node (c.args.size - 1) (used_rows c.args.used.now) c.new-members.result.items sound c.new-members.ensures.items (omega (arith, c.if-size-eq1.true)) c.requires.open in
     subst AreMembers (sym (ap members_of adds.is ∙ adds.are)) (in_members q.pools (slots_from q c.args.node 0) adds.fillings sound.order adds.least.is.are)
 
-pub returns-then-size-eq1-clause-ok : goal.first_row-returns-then-size-eq1-clause-ok
-returns-then-size-eq1-clause-ok g t c =
+pub returns-then-size-eq1 : goal.first_row-returns-then-size-eq1
+returns-then-size-eq1 g t c =
     let q = c.args.self.now.plan.now in
+    let n = c.args.size - 1 in
+    let used = used_rows c.args.used.now in
     let sound = c.laws_of.ensures.sound in
-    let adds = empty_adds q c.args.node (c.args.size - 1) (used_rows c.args.used.now) c.new-members.result.items sound c.new-members.ensures.items (omega (arith, c.if-size-eq1.true)) c.requires.open in
-    subst (λ ms. IsLeast tree_cmp (IsRow q c.args.node (c.args.size - 1) (used_rows c.args.used.now)) (object_data ms)) (sym (ap members_of adds.is ∙ adds.are)) (row_least q c.args.node (c.args.size - 1) (used_rows c.args.used.now) sound.order adds.fillings adds.least)
+    let adds = empty_adds q c.args.node n used c.new-members.result.items sound c.new-members.ensures.items (omega (arith, c.if-size-eq1.true)) c.requires.open in
+    record {
+      ok = subst (λ ms. IsLeast tree_cmp (IsRow q c.args.node n used) (object_data ms)) (sym (ap members_of adds.is ∙ adds.are)) (row_least q c.args.node n used sound.order adds.fillings adds.least);
+      following = subst (λ l. Continue (IsRow q c.args.node n used) (object_data (members_of c.new-members.result.items)) (stack_of l)) (sym c.clear.ensures.items) tt;
+      steps = λ w wide. omega arith;
+    }
 
 pub invariant_of-result-2 : goal.first_row-invariant_of-result-2
 invariant_of-result-2 g t c =
@@ -88,6 +94,6 @@ returns g t c =
       steps = row_cost g t (goal.at.first_row-returns g t c).After-first_members;
     }
 
-pub returns-in_err-first_members-clause-steps : goal.first_row-returns-in_err-first_members-clause-steps
-returns-in_err-first_members-clause-steps g t c =
-    row_cost g t (goal.at.first_row-returns-in_err-first_members-clause-steps g t c).After-first_members
+pub returns-in_err-first_members : goal.first_row-returns-in_err-first_members
+returns-in_err-first_members g t c =
+    record { ok = search rules; following = search rules; steps = row_cost g t (goal.at.first_row-returns-in_err-first_members g t c).After-first_members }

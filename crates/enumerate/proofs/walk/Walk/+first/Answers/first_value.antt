@@ -32,8 +32,7 @@ first_key-requires g t c =
     let used = used_rows c.args.used.now in
     let k = key_here g t (goal.at.first_value-first_key-requires g t c).Then-here in
     record {
-      node = omega (arith, c.requires.here.slot.below, c.requires.here.node);
-      leaf = ap (λ x. sort_of x) k.node ∙ k.slot.leaf;
+      node = record { node = omega (arith, c.requires.here.slot.below, c.requires.here.node); sort = ap (λ x. sort_of x) k.node ∙ k.slot.leaf };
       free =
           let size = subst (λ x. HasSize q.pools x c.args.size) k.node c.requires.size in
           let free = subst (λ ss. HasFree q.pools (filter is_key ss) (used_keys ss used) []) c.requires.here.slot.first c.requires.free in
@@ -56,7 +55,7 @@ returns-then-here g t c =
           let cs = stack_of c.first_key.new.scratch.following.items in
           IfOk-weaker c.first_key.result _ _ (λ v h. continue_same (IsFreeKey q s.node n here.name used s.later) (IsValue q.pools here after used n) (data_of v) cs (λ u. (law u).0) (λ u. (law u).1)
           (subst (λ l. Continue (IsFreeKey q s.node n l used s.later) (data_of v) cs) c.requires.here.slot.name h)) c.first_key.ensures.following;
-      steps = costs_within q c.args.scratch.now.meter c.first_key.new.scratch.meter 1 c.args.size (some_size c.requires.size) c.first_key.ensures.steps;
+      steps = costs_within q c.args.meter.now c.first_key.new.meter 1 c.args.size (some_size c.requires.size) c.first_key.ensures.steps;
     }
 
 pub first_part-requires : goal.first_value-first_part-requires

@@ -1,7 +1,7 @@
 use Rattle.enumerate.specs.Internal.Following.{Continue}
 use Rattle.enumerate.proofs.samples.Following.{item_continues}
 use Rattle.enumerate.proofs.walks.Costs.{part_within, costs_within, costs_both}
-use Rattle.std.proofs.Common.{ℕ, refl, subst, arith, ◌-◌, ◌≤◌, length}
+use Rattle.std.proofs.Common.{rules, ℕ, refl, subst, arith, ◌-◌, ◌≤◌, length}
 use Rattle.enumerate.specs.Internal.Lists.{FitsItem, IsUnusedItem, AddsItems}
 use Rattle.enumerate.proofs.lists.Lemmas.{some_nodes, follow_item}
 use Rattle.jtree.specs.Order.{tree_cmp}
@@ -15,11 +15,11 @@ use Rattle.enumerate.proofs.walk.Walk.+first.Goals.{grow_items-After-first_item,
 use Rattle.plan.specs.Sets.{IsLeastFrom, IsEmptyFrom}
 
 -- the item, and those after it
-item_cost : (g : Over) (t : ℕ) (c : grow_items-After-first_item g t) → Costs c.args.self.now.plan.now c.args.scratch.now.meter c.first_item.new.scratch.meter c.args.room
-item_cost g t c = costs_within c.args.self.now.plan.now c.args.scratch.now.meter c.first_item.new.scratch.meter c.in-Some.size c.args.room (part_within c.in-Some.size c.in-Some.ensures.1.1.0 c.args.room c.in-Some.ensures.1.1.1.1) c.first_item.ensures.steps
+item_cost : (g : Over) (t : ℕ) (c : grow_items-After-first_item g t) → Costs c.args.self.now.plan.now c.args.meter.now c.first_item.new.meter c.args.room
+item_cost g t c = costs_within c.args.self.now.plan.now c.args.meter.now c.first_item.new.meter c.in-Some.size c.args.room (part_within c.in-Some.size c.in-Some.ensures.1.1.0 c.args.room c.in-Some.ensures.1.1.1.1) c.first_item.ensures.steps
 
-items_cost : (g : Over) (t : ℕ) (c : grow_items-After-first_items g t) → Costs c.args.self.now.plan.now c.args.scratch.now.meter c.first_items.new.scratch.meter c.args.room
-items_cost g t c = costs_both c.args.self.now.plan.now c.args.scratch.now.meter c.first_item.new.scratch.meter c.first_items.new.scratch.meter c.in-Some.size c.args.room (part_within c.in-Some.size c.in-Some.ensures.1.1.0 c.args.room c.in-Some.ensures.1.1.1.1) c.first_item.ensures.steps c.first_items.ensures.steps
+items_cost : (g : Over) (t : ℕ) (c : grow_items-After-first_items g t) → Costs c.args.self.now.plan.now c.args.meter.now c.first_items.new.meter c.args.room
+items_cost g t c = costs_both c.args.self.now.plan.now c.args.meter.now c.first_item.new.meter c.first_items.new.meter c.in-Some.size c.args.room (part_within c.in-Some.size c.in-Some.ensures.1.1.0 c.args.room c.in-Some.ensures.1.1.1.1) c.first_item.ensures.steps c.first_items.ensures.steps
 
 pub returns-in_default : goal.grow_items-returns-in_default
 returns-in_default g t c =
@@ -30,17 +30,17 @@ returns-in_default g t c =
       last = refl;
     }
 
-pub returns-in_err-item-clause-steps : goal.grow_items-returns-in_err-item-clause-steps
-returns-in_err-item-clause-steps g t c =
-    item_cost g t (goal.at.grow_items-returns-in_err-item-clause-steps g t c).After-first_item
+pub returns-in_err-item : goal.grow_items-returns-in_err-item
+returns-in_err-item g t c =
+    record { ok = search rules; following = search rules; steps = item_cost g t (goal.at.grow_items-returns-in_err-item g t c).After-first_item; last = search rules }
 
-pub returns-in_err-push-clause-steps : goal.grow_items-returns-in_err-push-clause-steps
-returns-in_err-push-clause-steps g t c =
-    item_cost g t (goal.at.grow_items-returns-in_err-push-clause-steps g t c).After-first_item
+pub returns-in_err-push : goal.grow_items-returns-in_err-push
+returns-in_err-push g t c =
+    record { ok = search rules; following = search rules; steps = item_cost g t (goal.at.grow_items-returns-in_err-push g t c).After-first_item; last = search rules }
 
-pub returns-in_err-first_items-clause-steps : goal.grow_items-returns-in_err-first_items-clause-steps
-returns-in_err-first_items-clause-steps g t c =
-    items_cost g t (goal.at.grow_items-returns-in_err-first_items-clause-steps g t c).After-first_items
+pub returns-in_err-first_items : goal.grow_items-returns-in_err-first_items
+returns-in_err-first_items g t c =
+    record { ok = search rules; following = search rules; steps = items_cost g t (goal.at.grow_items-returns-in_err-first_items g t c).After-first_items; last = search rules }
 
 pub returns : goal.grow_items-returns
 returns g t c =
@@ -75,4 +75,4 @@ first_items-requires g t c κs within =
     let follow = follow_item q c.args.list.now.node c.args.list.now.child c.args.room c.in-Some.size old c.push.new.self.items c.in_ok-item.item c.requires.first c.requires.within fit first.is c.in_ok-push.ensures.items in
     let cs = stack_of c.first_item.new.scratch.following.items in
     let continue = subst (λ l. Continue (IsUnusedItem q c.args.list.now.node c.args.list.now.child c.in-Some.size (items_of l)) (data_of c.in_ok-item.item) cs) same c.in_ok-item.ensures.following in
-    (omega (arith, c.decreases, some, few), (within, (c.requires.list, (follow, item_continues q c.args.list.now c.in-Some.size old c.push.new.self.items c.in_ok-item.item cs c.in_ok-push.ensures.items first.is.part.nodes_are continue))))
+    (omega (arith, c.decreases, some, few), (within, record { list = c.requires.list; follow = follow; following = item_continues q c.args.list.now c.in-Some.size old c.push.new.self.items c.in_ok-item.item cs c.in_ok-push.ensures.items first.is.part.nodes_are continue }))

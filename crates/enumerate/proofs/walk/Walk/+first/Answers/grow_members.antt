@@ -3,7 +3,7 @@ use Rattle.enumerate.specs.Internal.Rows.{IsValue, demand_at, slots_from, slot_i
 use Rattle.enumerate.proofs.walks.Costs.{part_within, costs_slots, costs_both_slots}
 use Rattle.plan.specs.Samples.Sizes.{HasSize}
 use Rattle.enumerate.proofs.rows.Slots.{after_open}
-use Rattle.std.proofs.Common.{refl, sym, subst, ◌∙◌, arith, ◌+◌, ◌≤◌}
+use Rattle.std.proofs.Common.{rules, refl, sym, subst, ◌∙◌, arith, ◌+◌, ◌≤◌}
 use Rattle.enumerate.proofs.lists.Lemmas.{some_nodes}
 use Rattle.jtree.specs.View.{data_of}
 use Rattle.enumerate.specs.Internal.Candidates.{stack_of, used_rows}
@@ -21,7 +21,7 @@ returns-in_default g t c =
 pub first_value-requires : goal.grow_members-first_value-requires
 first_value-requires g t c κs within =
     let sum = c.in-Some.ensures.1.1.1.1 in
-    (omega (arith, c.decreases), (within, (c.requires.here, (subst (λ s. HasSize c.args.self.now.plan.now.pools s c.in-Some.size) (sym c.requires.here.slot.node) c.in-Some.ensures.1.0, (omega (arith, sum, c.requires.open.limit), (c.requires.open.can.known, c.requires.open.can.free))))))
+    (omega (arith, c.decreases), (within, record { here = c.requires.here; size = subst (λ s. HasSize c.args.self.now.plan.now.pools s c.in-Some.size) (sym c.requires.here.slot.node) c.in-Some.ensures.1.0; limit = omega (arith, sum, c.requires.open.limit); known = c.requires.open.can.known; free = c.requires.open.can.free }))
 
 pub put_member-requires : goal.grow_members-put_member-requires
 put_member-requires g t c κs within =
@@ -33,23 +33,19 @@ put_member-requires g t c κs within =
       omega (arith, c.decreases),
       (
         within,
-        (
-          c.requires.here,
-          (
-            c.in_ok-name.ensures ∙ c.requires.here.slot.name,
-            (
-              value.part,
-              (
-                subst (λ n. Continue (IsValue q.pools (slot_in q c.args.here.now.node c.args.here.now.place) (slots_from q c.args.here.now.node (c.args.here.now.place + 1)) (used_rows c.args.ahead.now.used) n) (data_of c.in_ok-tree.tree) (stack_of c.first_value.new.scratch.following.items)) (sym value.nodes_are) c.in_ok-tree.ensures.following,
-                record {
-                  count = c.requires.open.count;
-                  limit = omega (arith, c.requires.open.limit, some, few);
-                  can = after_open q c.args.here.now.node c.args.here.now.place sound c.requires.here.slot.first (demand_at q c.args.here.now.node c.args.ahead.now) c.in-Some.size (data_of c.in_ok-tree.tree) c.requires.open.can.known c.in-Some.ensures.1 value;
-                },
-              ),
-            ),
-          ),
-        ),
+        record {
+          here = c.requires.here;
+          name = c.in_ok-name.ensures ∙ c.requires.here.slot.name;
+          part = value.part;
+          following =
+              subst (λ n. Continue (IsValue q.pools (slot_in q c.args.here.now.node c.args.here.now.place) (slots_from q c.args.here.now.node (c.args.here.now.place + 1)) (used_rows c.args.ahead.now.used) n) (data_of c.in_ok-tree.tree) (stack_of c.first_value.new.scratch.following.items)) (sym value.nodes_are) c.in_ok-tree.ensures.following;
+          ahead =
+              record {
+                count = c.requires.open.count;
+                limit = omega (arith, c.requires.open.limit, some, few);
+                can = after_open q c.args.here.now.node c.args.here.now.place sound c.requires.here.slot.first (demand_at q c.args.here.now.node c.args.ahead.now) c.in-Some.size (data_of c.in_ok-tree.tree) c.requires.open.can.known c.in-Some.ensures.1 value;
+              };
+        },
       ),
     )
 
@@ -68,14 +64,14 @@ returns g t c =
         refl,
       );
       following = c.in_ok-put_member.ensures.following;
-      steps = costs_both_slots c.args.self.now.plan.now c.args.here.now.node (c.args.here.now.place + 1) c.args.scratch.now.meter c.first_value.new.scratch.meter c.put_member.new.scratch.meter c.in-Some.size c.args.ahead.now.room (part_within c.in-Some.size c.in-Some.ensures.1.1.0 c.args.ahead.now.room c.in-Some.ensures.1.1.1.1) c.first_value.ensures.steps c.put_member.ensures.steps;
+      steps = costs_both_slots c.args.self.now.plan.now c.args.here.now.node (c.args.here.now.place + 1) c.args.meter.now c.first_value.new.meter c.put_member.new.meter c.in-Some.size c.args.ahead.now.room (part_within c.in-Some.size c.in-Some.ensures.1.1.0 c.args.ahead.now.room c.in-Some.ensures.1.1.1.1) c.first_value.ensures.steps c.put_member.ensures.steps;
       last = tt;
     }
 
-pub returns-in_err-tree-clause-steps : goal.grow_members-returns-in_err-tree-clause-steps
-returns-in_err-tree-clause-steps g t c =
-    costs_slots c.args.self.now.plan.now c.args.here.now.node (c.args.here.now.place + 1) c.args.scratch.now.meter c.first_value.new.scratch.meter c.in-Some.size c.args.ahead.now.room (part_within c.in-Some.size c.in-Some.ensures.1.1.0 c.args.ahead.now.room c.in-Some.ensures.1.1.1.1) c.first_value.ensures.steps
+pub returns-in_err-tree : goal.grow_members-returns-in_err-tree
+returns-in_err-tree g t c =
+    record { ok = search rules; following = search rules; steps = costs_slots c.args.self.now.plan.now c.args.here.now.node (c.args.here.now.place + 1) c.args.meter.now c.first_value.new.meter c.in-Some.size c.args.ahead.now.room (part_within c.in-Some.size c.in-Some.ensures.1.1.0 c.args.ahead.now.room c.in-Some.ensures.1.1.1.1) c.first_value.ensures.steps; last = search rules }
 
-pub returns-in_err-put_member-clause-steps : goal.grow_members-returns-in_err-put_member-clause-steps
-returns-in_err-put_member-clause-steps g t c =
-    costs_both_slots c.args.self.now.plan.now c.args.here.now.node (c.args.here.now.place + 1) c.args.scratch.now.meter c.first_value.new.scratch.meter c.put_member.new.scratch.meter c.in-Some.size c.args.ahead.now.room (part_within c.in-Some.size c.in-Some.ensures.1.1.0 c.args.ahead.now.room c.in-Some.ensures.1.1.1.1) c.first_value.ensures.steps c.put_member.ensures.steps
+pub returns-in_err-put_member : goal.grow_members-returns-in_err-put_member
+returns-in_err-put_member g t c =
+    record { ok = search rules; following = search rules; steps = costs_both_slots c.args.self.now.plan.now c.args.here.now.node (c.args.here.now.place + 1) c.args.meter.now c.first_value.new.meter c.put_member.new.meter c.in-Some.size c.args.ahead.now.room (part_within c.in-Some.size c.in-Some.ensures.1.1.0 c.args.ahead.now.room c.in-Some.ensures.1.1.1.1) c.first_value.ensures.steps c.put_member.ensures.steps; last = search rules }

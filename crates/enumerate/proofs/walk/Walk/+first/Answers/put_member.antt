@@ -29,8 +29,8 @@ first_members-requires g t c κs within =
     let q = c.args.self.now.plan.now in
     let here = c.args.here.now in
     let count = ap (λ (x : Before). x.count) c.fill.ensures in
-    let can = subst (IsOpen q.pools (slots_after q here)) (asked_past q here (data_of c.args.member.tree) c.args.ahead.now c.fill.result (rows_of c.as_slice.result.now) c.requires.here.slot c.fill.ensures (ap rows_of c.as_slice.ensures.value ∙ c.in_ok-same.ensures)) c.requires.open.can in
-    (omega (arith, c.decreases), (within, (c.requires.here.node, (c.requires.here.row, (omega (arith, c.if-ahead-eq0.false), record { count = omega (arith, c.requires.open.count, count); limit = omega (arith, c.requires.open.limit, count); can = can })))))
+    let can = subst (IsOpen q.pools (slots_after q here)) (asked_past q here (data_of c.args.member.tree) c.args.ahead.now c.fill.result (rows_of c.as_slice.result.now) c.requires.here.slot c.fill.ensures (ap rows_of c.as_slice.ensures.value ∙ c.in_ok-same.ensures)) c.requires.ahead.can in
+    (omega (arith, c.decreases), (within, (record { node = c.requires.here.node; sort = c.requires.here.row }, (omega (arith, c.if-ahead-eq0.false), record { count = omega (arith, c.requires.ahead.count, count); limit = omega (arith, c.requires.ahead.limit, count); can = can }))))
 
 pub returns : goal.put_member-returns
 returns g t c =
@@ -60,11 +60,11 @@ returns-then-ahead-eq0 g t c =
     let d = demand_past q here (data_of one.tree) c.args.ahead.now in
     let none : c.args.ahead.now.room ≡ 0 = omega (arith, c.if-ahead-eq0.true) in
     record {
-      ok = subst (λ old. AddsFirst q.pools (slots_after q here) d old c.push.new.self.items) c.in_ok-push.ensures.items (adds_nothing q.pools (slots_after q here) d c.push.new.self.items (keys_at q here.node (here.place + 1) c.laws_of.ensures.sound) none c.requires.open.can);
+      ok = subst (λ old. AddsFirst q.pools (slots_after q here) d old c.push.new.self.items) c.in_ok-push.ensures.items (adds_nothing q.pools (slots_after q here) d c.push.new.self.items (keys_at q here.node (here.place + 1) c.laws_of.ensures.sound) none c.requires.ahead.can);
       following =
           let old = c.args.members.now.items in
           let cs = stack_of c.args.scratch.now.following.items in
-          let can = subst (λ m. CanFill q.pools (slots_after q here) d.ending d.before m) none c.requires.open.can.rest in
+          let can = subst (λ m. CanFill q.pools (slots_after q here) d.ending d.before m) none c.requires.ahead.can.rest in
           let put : drop (length old) c.push.new.self.items ≡ one ∷ [] = ap (drop (length old)) c.in_ok-push.ensures.items ∙ drop_at old (one ∷ []) (length old) refl in
           subst (λ ms. MembersContinue q.pools (slots_at q here) (used_rows c.args.ahead.now.used) ms cs) (sym put)
           (continue_here q here.node here.place c.requires.here.slot.first d.before (used_rows c.args.ahead.now.used) one cs c.requires.name c.requires.part can c.requires.following);

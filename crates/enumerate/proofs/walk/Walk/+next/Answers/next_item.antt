@@ -31,7 +31,7 @@ next_row-requires g t c κs within =
     let sound = c.laws_of-2.ensures.sound in
     let known = items_used q i k rule sound items c.args.items.now (omega (arith, few_items (items_of c.args.items.now), counted c.args.items.now, c.requires.within, c.laws_of.ensures.limit)) c.requires.first.are c.requires.first.apart in
     let row = unused_row q i k rule sound items c.args.items.now n (data_of c.args.item) c.requires.first.are c.requires.item in
-    (omega (arith, c.decreases, row_lighter q k i c.requires.list.child), (within, (node, (items.row, (known, (row, omega (arith, c.requires.within)))))))
+    (omega (arith, c.decreases, row_lighter q k i c.requires.list.child), (within, (record { node = node; sort = items.row }, (known, (row, omega (arith, c.requires.within))))))
 
 pub next_part-requires : goal.next_item-next_part-requires
 next_part-requires g t c κs within =
@@ -43,13 +43,15 @@ next_part-requires g t c κs within =
 pub next_unused-requires : goal.next_item-next_unused-requires
 next_unused-requires g t c =
     record {
-      node = omega (arith, c.requires.list.child, c.requires.list.node);
-      leaf =
-          let q = c.args.self.now.plan.now in
-          let i = c.args.list.now.node in
-          let k = c.args.list.now.child in
-          let whole : distinct_of (site q i) ≡ distinct.Whole = sym c.distinct.ensures ∙ c.in-Whole.is in
-          (c.laws_of.ensures.sound.set (site q k) c.requires.first.item whole).leaf;
+      node = record {
+        node = omega (arith, c.requires.list.child, c.requires.list.node);
+        sort =
+            let q = c.args.self.now.plan.now in
+            let i = c.args.list.now.node in
+            let k = c.args.list.now.child in
+            let whole : distinct_of (site q i) ≡ distinct.Whole = sym c.distinct.ensures ∙ c.in-Whole.is in
+            (c.laws_of.ensures.sound.set (site q k) c.requires.first.item whole).leaf;
+      };
       limit = omega (arith, c.requires.within, c.laws_of.ensures.limit);
     }
 
@@ -78,7 +80,7 @@ returns-in-Whole g t c =
           (λ u p. (set_item_unused q i k n c.args.items.now u set).0 p) (λ u f. (set_item_unused q i k n c.args.items.now u set).1 f) h) c.next_unused.ensures.ok;
       following = IfOk-weaker c.next_unused.result _ _ (λ m h. moved_continues_same (IsUnusedPart q k n (trees_of c.args.items.now)) (IsUnusedItem q i k n (items_of c.args.items.now)) m (stack_of c.next_unused.new.scratch.following.items)
           (λ u p. (set_item_unused q i k n c.args.items.now u set).0 p) (λ u f. (set_item_unused q i k n c.args.items.now u set).1 f) h) c.next_unused.ensures.following;
-      steps = (costs_thrice c.args.self.now.plan.now c.args.scratch.now.meter c.next_unused.new.scratch.meter (node_count (data_of c.args.item)) (some_nodes (data_of c.args.item)) c.next_unused.ensures.steps, IfOk-weaker c.next_unused.result _ _ (λ m h. costs_less c.args.self.now.plan.now m c.args.scratch.now.meter c.next_unused.new.scratch.meter (node_count (data_of c.args.item)) (some_nodes (data_of c.args.item)) c.next_unused.ensures.steps) c.next_unused.ensures.ok);
+      steps = (costs_thrice c.args.self.now.plan.now c.args.meter.now c.next_unused.new.meter (node_count (data_of c.args.item)) (some_nodes (data_of c.args.item)) c.next_unused.ensures.steps, IfOk-weaker c.next_unused.result _ _ (λ m h. costs_less c.args.self.now.plan.now m c.args.meter.now c.next_unused.new.meter (node_count (data_of c.args.item)) (some_nodes (data_of c.args.item)) c.next_unused.ensures.steps) c.next_unused.ensures.ok);
     }
 
 pub returns-in-Keys : goal.next_item-returns-in-Keys

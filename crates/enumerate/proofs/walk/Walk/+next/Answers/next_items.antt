@@ -58,7 +58,7 @@ walked_here g t c st now grown =
     front_walked q i k (record { rule = c.laws_of.ensures.rule; ends = c.laws_of.ensures.completed; item = c.requires.item }) old c.requires.part within top c.loop-item.room c.loop-item.items.items c.pop.new.self.items c.in-Some.item c.in-Some.ensures.items c.loop-item.invariant.last last.0 st c.in-Last.size now last.1 grown
 
 -- a move of the item leaves as much as it takes to grow other items in its place
-item_cost : (g : Over) (t : ℕ) (c : next_items-After-next_item g t) (w : ℕ) → IsWidth c.args.self.now.plan.now.pools c.args.self.now.plan.now.root w → c.next_item.new.scratch.meter + (w + 1) * c.loop-item.room ≤ c.args.scratch.now.meter + (w + 1) * (3 * items_count (items_of c.args.items.now.items))
+item_cost : (g : Over) (t : ℕ) (c : next_items-After-next_item g t) (w : ℕ) → IsWidth c.args.self.now.plan.now.pools c.args.self.now.plan.now.root w → c.next_item.new.meter + (w + 1) * c.loop-item.room ≤ c.args.meter.now + (w + 1) * (3 * items_count (items_of c.args.items.now.items))
 item_cost g t c w wide =
     let n = node_count (data_of c.in-Some.item) in
     let room = c.loop-item.room in
@@ -67,17 +67,17 @@ item_cost g t c w wide =
     omega (arith, cost_within w (3 * n + (2 * room + room)) (3 * all) (omega (arith, nodes)), split_cost w (3 * n) (2 * room + room) (3 * n + (2 * room + room)) refl, split_cost w (2 * room) room (2 * room + room) refl, c.loop-item.invariant.steps w wide, c.next_item.ensures.steps.0 w wide)
 
 -- where it has none, so much was spent on it and those after it
-last_cost : (g : Over) (t : ℕ) (c : next_items-In-Last g t) (w : ℕ) → IsWidth c.args.self.now.plan.now.pools c.args.self.now.plan.now.root w → c.next_item.new.scratch.meter ≤ c.args.scratch.now.meter + (w + 1) * (2 * (c.loop-item.room + c.in-Last.size))
+last_cost : (g : Over) (t : ℕ) (c : next_items-In-Last g t) (w : ℕ) → IsWidth c.args.self.now.plan.now.pools c.args.self.now.plan.now.root w → c.next_item.new.meter ≤ c.args.meter.now + (w + 1) * (2 * (c.loop-item.room + c.in-Last.size))
 last_cost g t c w wide =
     let q = c.args.self.now.plan.now in
     let n = node_count (data_of c.in-Some.item) in
     let room = c.loop-item.room in
     let last = last_here g t c in
-    let cost = subst (λ m. CostsLast m q c.loop-item.scratch.meter c.next_item.new.scratch.meter n) c.in-Last.is c.in_ok-next.ensures.steps.1 in
+    let cost = subst (λ m. CostsLast m q c.loop-item.meter c.next_item.new.meter n) c.in-Last.is c.in_ok-next.ensures.steps.1 in
     omega (arith, cost_within w (2 * room + (2 * n - 1)) (2 * (room + c.in-Last.size)) (omega (arith, last.1)), split_cost w (2 * room) (2 * n - 1) (2 * room + (2 * n - 1)) refl, c.loop-item.invariant.steps w wide, cost w wide)
 
 -- and what grows in their place
-grown_cost : (g : Over) (t : ℕ) (c : next_items-In-Last g t) (after w : ℕ) → IsWidth c.args.self.now.plan.now.pools c.args.self.now.plan.now.root w → after ≤ c.next_item.new.scratch.meter + (w + 1) * (c.loop-item.room + c.in-Last.size) → after ≤ c.args.scratch.now.meter + (w + 1) * (3 * items_count (items_of c.args.items.now.items))
+grown_cost : (g : Over) (t : ℕ) (c : next_items-In-Last g t) (after w : ℕ) → IsWidth c.args.self.now.plan.now.pools c.args.self.now.plan.now.root w → after ≤ c.next_item.new.meter + (w + 1) * (c.loop-item.room + c.in-Last.size) → after ≤ c.args.meter.now + (w + 1) * (3 * items_count (items_of c.args.items.now.items))
 grown_cost g t c after w wide grown =
     let room = c.loop-item.room + c.in-Last.size in
     let all = items_count (items_of c.args.items.now.items) in
@@ -116,9 +116,9 @@ next_item-requires g t c κs within-it =
       ),
     )
 
-pub returns-in_err-next-clause-steps : goal.next_items-returns-in_err-next-clause-steps
-returns-in_err-next-clause-steps g t c =
-    (λ w wide. omega (arith, item_cost g t (goal.at.next_items-returns-in_err-next-clause-steps g t c).After-next_item w wide), search rules)
+pub returns-in_err-next : goal.next_items-returns-in_err-next
+returns-in_err-next g t c =
+    record { ok = search rules; following = search rules; steps = (λ w wide. omega (arith, item_cost g t (goal.at.next_items-returns-in_err-next g t c).After-next_item w wide), search rules) }
 
 -- the next item, after the same items
 next_here : (g : Over) (t : ℕ) (c : next_items-In-To g t) → IsNextTree (IsUnusedItem c.args.self.now.plan.now c.args.list.now.node c.args.list.now.child (node_count (data_of c.in-Some.item)) (items_of c.pop.new.self.items)) (data_of c.in-Some.item) (tree_next.To c.in-To.next c.in-To.depth)
@@ -153,9 +153,9 @@ put_item-requires g t c =
           item_continues q c.args.list.now (node_count one) front (front ++ next ∷ []) next cs refl to.0.is.0.part.nodes_are continue;
     }
 
-pub returns-in_err-put_item-in-To-clause-steps : goal.next_items-returns-in_err-put_item-in-To-clause-steps
-returns-in_err-put_item-in-To-clause-steps g t c =
-    (λ w wide. omega (arith, item_cost g t (goal.at.next_items-returns-in_err-put_item-in-To-clause-steps g t c).After-next_item w wide, c.put_item.ensures.steps w wide), search rules)
+pub returns-in_err-put_item-in-To : goal.next_items-returns-in_err-put_item-in-To
+returns-in_err-put_item-in-To g t c =
+    record { ok = search rules; following = search rules; steps = (λ w wide. omega (arith, item_cost g t (goal.at.next_items-returns-in_err-put_item-in-To g t c).After-next_item w wide, c.put_item.ensures.steps w wide), search rules) }
 
 pub returns-in-To : goal.next_items-returns-in-To
 returns-in-To g t c =
@@ -201,9 +201,9 @@ grow_larger_items-requires g t c =
           omega (arith, nodes, last.1, within);
     }
 
-pub returns-in_err-depth-in-Last-clause-steps : goal.next_items-returns-in_err-depth-in-Last-clause-steps
-returns-in_err-depth-in-Last-clause-steps g t c =
-    (λ w wide. grown_cost g t (goal.at.next_items-returns-in_err-depth-in-Last-clause-steps g t c).In-Last c.grow_larger_items.new.scratch.meter w wide (c.grow_larger_items.ensures.steps w wide), search rules)
+pub returns-in_err-depth-in-Last : goal.next_items-returns-in_err-depth-in-Last
+returns-in_err-depth-in-Last g t c =
+    record { ok = search rules; following = search rules; steps = (λ w wide. grown_cost g t (goal.at.next_items-returns-in_err-depth-in-Last g t c).In-Last c.grow_larger_items.new.meter w wide (c.grow_larger_items.ensures.steps w wide), search rules) }
 
 pub returns-in-Made : goal.next_items-returns-in-Made
 returns-in-Made g t c =
@@ -218,7 +218,7 @@ returns-in-Made g t c =
           let new = list_data (items_of now) in
           (walked.0, subst (λ n. DiffersAt n old new) (sym walked.1) (differs old new));
       following = subst (λ s. GrownItemsContinue s q c.args.list.now.node c.args.list.now.child (items_of c.grow_larger_items.new.items.items) (stack_of c.grow_larger_items.new.scratch.following.items)) c.in-Made.is c.in_ok-depth-in-Last.ensures.following;
-      steps = (λ w wide. grown_cost g t (goal.at.next_items-returns-in-Made g t c).In-Last c.grow_larger_items.new.scratch.meter w wide (c.grow_larger_items.ensures.steps w wide), tt);
+      steps = (λ w wide. grown_cost g t (goal.at.next_items-returns-in-Made g t c).In-Last c.grow_larger_items.new.meter w wide (c.grow_larger_items.ensures.steps w wide), tt);
     }
 
 pub loop-item-preserved : goal.next_items-loop-item-preserved
@@ -229,11 +229,11 @@ loop-item-preserved g t c =
     let old = items_of c.args.items.now.items in
     let now = c.grow_larger_items.new.items.items in
     let grown = subst (λ s. AreGrown s q i c.args.list.now.child (c.loop-item.room + size) (size + 1) c.pop.new.self.items now) c.in-Last-2.is c.in_ok-depth-in-Last.ensures.ok in
-    let kept = subst (λ s. KeepsMeter s c.next_item.new.scratch.meter c.grow_larger_items.new.scratch.meter) c.in-Last-2.is c.in_ok-depth-in-Last.ensures.last in
+    let kept = subst (λ s. KeepsMeter s c.next_item.new.meter c.grow_larger_items.new.meter) c.in-Last-2.is c.in_ok-depth-in-Last.ensures.last in
     let walked = walked_here g t (goal.at.next_items-loop-item-preserved g t c).In-Last (parts.Last c.in-Last-2.nodes) now grown in
     record {
       last = subst (λ n. WereLast q i n old (items_of now)) (sym grown.2) walked.1;
-      steps = subst (λ n. Costs q c.args.scratch.now.meter c.grow_larger_items.new.scratch.meter (2 * n)) (sym grown.2) (λ w wide. omega (arith, last_cost g t (goal.at.next_items-loop-item-preserved g t c).In-Last w wide, kept));
+      steps = subst (λ n. Costs q c.args.meter.now c.grow_larger_items.new.meter (2 * n)) (sym grown.2) (λ w wide. omega (arith, last_cost g t (goal.at.next_items-loop-item-preserved g t c).In-Last w wide, kept));
     }
 
 pub returns : goal.next_items-returns
@@ -243,5 +243,5 @@ returns g t c =
     record {
       ok = all;
       following = tt;
-      steps = (λ w wide. omega (arith, cost_within w (2 * c.loop-item.room) (3 * items_count (items_of c.args.items.now.items)) (omega (arith, all.1)), c.loop-item.invariant.steps w wide), subst (λ n. Costs c.args.self.now.plan.now c.args.scratch.now.meter c.loop-item.scratch.meter (2 * n)) (sym all.1) c.loop-item.invariant.steps);
+      steps = (λ w wide. omega (arith, cost_within w (2 * c.loop-item.room) (3 * items_count (items_of c.args.items.now.items)) (omega (arith, all.1)), c.loop-item.invariant.steps w wide), subst (λ n. Costs c.args.self.now.plan.now c.args.meter.now c.loop-item.meter (2 * n)) (sym all.1) c.loop-item.invariant.steps);
     }

@@ -31,9 +31,9 @@ no_value_here : (g : Over) (t : ℕ) (c : next_member-In-Last g t) → IsNextTre
 no_value_here g t c =
     subst (λ m. IsNextTree (IsValueAt c.args.self.now.plan.now c.args.here.now (used_rows c.args.ahead.now.used) (node_count (data_of c.args.member.tree))) (data_of c.args.member.tree) m) c.in-Last.is c.in_ok-tree.ensures.ok
 
-pub returns-in_err-tree-clause-steps : goal.next_member-returns-in_err-tree-clause-steps
-returns-in_err-tree-clause-steps g t c =
-    (costs_slots c.args.self.now.plan.now c.args.here.now.node (c.args.here.now.place + 1) c.args.scratch.now.meter c.next_value.new.scratch.meter (3 * node_count (data_of c.args.member.tree)) (3 * node_count (data_of c.args.member.tree) + c.args.ahead.now.room) (omega arith) c.next_value.ensures.steps.0, search rules)
+pub returns-in_err-tree : goal.next_member-returns-in_err-tree
+returns-in_err-tree g t c =
+    record { ok = search rules; left = search rules; following = search rules; steps = (costs_slots c.args.self.now.plan.now c.args.here.now.node (c.args.here.now.place + 1) c.args.meter.now c.next_value.new.meter (3 * node_count (data_of c.args.member.tree)) (3 * node_count (data_of c.args.member.tree) + c.args.ahead.now.room) (omega arith) c.next_value.ensures.steps.0, search rules) }
 
 pub below-depth-requires : goal.next_member-below-depth-requires
 below-depth-requires g t c =
@@ -56,7 +56,7 @@ put_member-requires g t c =
           let cs = stack_of c.next_value.new.scratch.following.items in
           let continue = subst (λ m. ContinueNext (C (node_count old)) m cs) c.in-To.is c.in_ok-tree.ensures.following in
           subst (λ n. Continue (C n) (data_of c.in-To.tree) cs) (sym next.0.is.0.nodes_are) continue;
-      «open» =
+      ahead =
           let sound = c.laws_of.ensures.sound in
           record {
             count = c.requires.member.slots.count;
@@ -69,11 +69,12 @@ put_member-requires g t c =
           };
     }
 
-put_cost : (g : Over) (t : ℕ) (c : next_member-After-put_member g t) → CostsAfter c.args.self.now.plan.now c.args.here.now c.args.scratch.now.meter c.put_member.new.scratch.meter (3 * node_count (data_of c.args.member.tree) + c.args.ahead.now.room)
+put_cost : (g : Over) (t : ℕ) (c : next_member-After-put_member g t) → CostsAfter c.args.self.now.plan.now c.args.here.now c.args.meter.now c.put_member.new.meter (3 * node_count (data_of c.args.member.tree) + c.args.ahead.now.room)
 put_cost g t c = let n = 3 * node_count (data_of c.args.member.tree) in λ w wide. omega (arith, split_cost w n c.args.ahead.now.room (n + c.args.ahead.now.room) (omega arith), c.next_value.ensures.steps.0 w wide, c.put_member.ensures.steps w wide)
 
-pub returns-in_err-put_member-in-To-clause-steps : goal.next_member-returns-in_err-put_member-in-To-clause-steps
-returns-in_err-put_member-in-To-clause-steps g t c = (put_cost g t (goal.at.next_member-returns-in_err-put_member-in-To-clause-steps g t c).After-put_member, search rules)
+pub returns-in_err-put_member-in-To : goal.next_member-returns-in_err-put_member-in-To
+returns-in_err-put_member-in-To g t c =
+    record { ok = search rules; left = search rules; following = search rules; steps = (put_cost g t (goal.at.next_member-returns-in_err-put_member-in-To g t c).After-put_member, search rules) }
 
 pub returns-in_ok-put_member-in-To : goal.next_member-returns-in_ok-put_member-in-To
 returns-in_ok-put_member-in-To g t c =
@@ -117,7 +118,7 @@ pub returns-in-Last : goal.next_member-returns-in-Last
 returns-in-Last g t c =
     let q = c.args.self.now.plan.now in
     let n = node_count (data_of c.args.member.tree) in
-    let last = subst (λ m. CostsLast m q c.args.scratch.now.meter c.next_value.new.scratch.meter n) c.in-Last.is c.in_ok-tree.ensures.steps.1 in
+    let last = subst (λ m. CostsLast m q c.args.meter.now c.next_value.new.meter n) c.in-Last.is c.in_ok-tree.ensures.steps.1 in
     let here = c.args.here.now in
     let a = c.args.ahead.now in
     let size = c.in-Last.size in
@@ -137,6 +138,6 @@ returns-in-Last g t c =
         let none = no_value_here g t (goal.at.next_member-returns-in-Last g t c).In-Last in
             let few : 2 * n - 1 + (c.args.ahead.now.room + c.in-Last.size) ≤ 3 * n + c.args.ahead.now.room = omega (arith, none.1) in
             λ w wide. omega (arith, cost_within w (2 * n - 1 + (c.args.ahead.now.room + c.in-Last.size)) (3 * n + c.args.ahead.now.room) few, split_cost w (2 * n - 1) (c.args.ahead.now.room + c.in-Last.size) (2 * n - 1 + (c.args.ahead.now.room + c.in-Last.size)) refl, last w wide, c.grow_larger_members.ensures.steps w wide),
-        IfOk-weaker c.grow_larger_members.result _ _ (λ st k. parts_kept st q c.args.scratch.now.meter c.next_value.new.scratch.meter c.grow_larger_members.new.scratch.meter (2 * n - 1) last k) c.grow_larger_members.ensures.last,
+        IfOk-weaker c.grow_larger_members.result _ _ (λ st k. parts_kept st q c.args.meter.now c.next_value.new.meter c.grow_larger_members.new.meter (2 * n - 1) last k) c.grow_larger_members.ensures.last,
       );
     }

@@ -16,13 +16,13 @@ use Rattle.enumerate.proofs.walk.Walk.+next.Given.{Over}
 use Rattle.enumerate.proofs.walk.Walk.+next.Goals as goal
 
 -- what it took to the slot, and at it
-cost_here : (g : Over) (t : ℕ) (c : next_members-After-next_at_slot g t) → CostsWalk c.args.self.now.plan.now c.args.node c.args.scratch.now.meter c.next_at_slot.new.scratch.meter (members_count (members_of c.args.members.now.items))
+cost_here : (g : Over) (t : ℕ) (c : next_members-After-next_at_slot g t) → CostsWalk c.args.self.now.plan.now c.args.node c.args.meter.now c.next_at_slot.new.meter (members_count (members_of c.args.members.now.items))
 cost_here g t c =
     let q = c.args.self.now.plan.now in
     let l = c.loop-place in
     let nodes = kept_nodes q c.args.node l.place l.removed (used_rows c.args.used.now) c.args.members.now.items l.members.items c.requires.in_slots.0 c.requires.in_slots.1 (l.invariant.walked c.requires.in_slots.0 c.requires.in_slots.1) in
-    let at_slot : CostsFrom q c.args.node l.scratch.meter c.next_at_slot.new.scratch.meter (3 * members_count (members_of l.members.items) + l.removed.room) = λ w wide. omega (arith, c.slot_at-slot.ensures.step, c.next_at_slot.ensures.steps.0 w wide) in
-    walk_cost q c.args.node c.args.scratch.now.meter l.scratch.meter c.next_at_slot.new.scratch.meter l.place l.removed.room (members_count (members_of l.members.items)) (members_count (members_of c.args.members.now.items)) nodes l.invariant.steps at_slot
+    let at_slot : CostsFrom q c.args.node l.meter c.next_at_slot.new.meter (3 * members_count (members_of l.members.items) + l.removed.room) = λ w wide. omega (arith, c.slot_at-slot.ensures.step, c.next_at_slot.ensures.steps.0 w wide) in
+    walk_cost q c.args.node c.args.meter.now l.meter c.next_at_slot.new.meter l.place l.removed.room (members_count (members_of l.members.items)) (members_count (members_of c.args.members.now.items)) nodes l.invariant.steps at_slot
 
 pub loop-place-init : goal.next_members-loop-place-init
 loop-place-init g t c =
@@ -46,12 +46,12 @@ next_at_slot-requires g t c κs within =
     let walked = subst (λ n. IsWalkedTo q i n c.loop-place.removed used c.loop-place.members.items gs) back there in
     let nodes = kept_nodes q i c.loop-place.place c.loop-place.removed used c.args.members.now.items c.loop-place.members.items gs c.requires.in_slots.1 there in
     let here : IsRowSlot q (record { node = i; place = c.loop-place.place - 1; slot = c.slot_at-slot.result }) = record {
-      node = c.requires.node;
-      row = c.requires.row;
+      node = c.requires.node.node;
+      row = c.requires.node.sort;
       within = omega (arith, c.loop-place-test.true, c.loop-place.invariant.within);
       slot = c.slot_at-slot.ensures.slot;
     } in
-    (omega (arith, c.decreases), (within, (here, (c.requires.used, ((gs, walked), omega (arith, nodes, c.requires.limit))))))
+    (omega (arith, c.decreases), (within, record { here = here; used = c.requires.used; walked = (gs, walked); limit = omega (arith, nodes, c.requires.limit) }))
 
 pub returns-in-Made : goal.next_members-returns-in-Made
 returns-in-Made g t c =
@@ -82,9 +82,9 @@ returns-in-Made g t c =
       steps = (cost_here g t (goal.at.next_members-returns-in-Made g t c).After-next_at_slot, tt);
     }
 
-pub returns-in_err-depth-clause-steps : goal.next_members-returns-in_err-depth-clause-steps
-returns-in_err-depth-clause-steps g t c =
-    (cost_here g t (goal.at.next_members-returns-in_err-depth-clause-steps g t c).After-next_at_slot, search rules)
+pub returns-in_err-depth : goal.next_members-returns-in_err-depth
+returns-in_err-depth g t c =
+    record { ok = search rules; following = search rules; steps = (cost_here g t (goal.at.next_members-returns-in_err-depth g t c).After-next_at_slot, search rules) }
 
 pub loop-place-preserved : goal.next_members-loop-place-preserved
 loop-place-preserved g t c =
@@ -93,7 +93,7 @@ loop-place-preserved g t c =
     let used = used_rows c.args.used.now in
     let l = c.loop-place in
     let back : l.place ≡ l.place - 1 + 1 = omega (arith, c.loop-place-test.true) in
-    let last = subst (λ st. CostsLastFrom st q l.removed.room c.slot_at-slot.new.meter c.next_at_slot.new.scratch.meter) c.in-Last.is c.in_ok-depth.ensures.steps.1 in
+    let last = subst (λ st. CostsLastFrom st q l.removed.room c.slot_at-slot.new.meter c.next_at_slot.new.meter) c.in-Last.is c.in_ok-depth.ensures.steps.1 in
     record {
       within = omega (arith, l.invariant.within);
       walked = λ gs h.

@@ -22,16 +22,13 @@ next_row-requires g t c κs within =
       (
         within,
         (
-          c.requires.node,
+          record { node = c.requires.node; sort = row },
           (
-            row,
+            record { few = omega arith; tuples = λ k d lt. absurd (omega (arith, lt)); apart = λ a b d lt inside. absurd (omega (arith, lt, inside)) },
             (
-              record { few = omega arith; tuples = λ k d lt. absurd (omega (arith, lt)); apart = λ a b d lt inside. absurd (omega (arith, lt, inside)) },
-              (
-                row_unless_null q c.args.node c.laws_of.ensures.rule row (node_count (data_of c.args.tree)) (data_of c.args.tree) (record { part = c.requires.part; nodes_are = refl })
-                    (λ is nullable. let yes = c.is_null.ensures.1 is in let no = c.if-is_null.false in cc),
-                c.requires.limit,
-              ),
+              row_unless_null q c.args.node c.laws_of.ensures.rule row (node_count (data_of c.args.tree)) (data_of c.args.tree) (record { part = c.requires.part; nodes_are = refl })
+                  (λ is nullable. let yes = c.is_null.ensures.1 is in let no = c.if-is_null.false in cc),
+              c.requires.limit,
             ),
           ),
         ),
@@ -41,7 +38,7 @@ next_row-requires g t c κs within =
 pub next_list-requires : goal.next_part-next_list-requires
 next_list-requires g t c κs within =
     let q = c.args.self.now.plan.now in
-    (omega (arith, c.decreases, weight_next q c.args.node), (within, (c.requires.node, (sym c.in-List.ensures, (c.requires.part, (λ is. let yes = c.is_null.ensures.1 is in let no = c.if-is_null.false in cc, c.requires.limit))))))
+    (omega (arith, c.decreases, weight_next q c.args.node), (within, (record { node = c.requires.node; sort = sym c.in-List.ensures }, (c.requires.part, (λ is. let yes = c.is_null.ensures.1 is in let no = c.if-is_null.false in cc, c.requires.limit)))))
 
 pub returns-in_default : goal.next_part-returns-in_default
 returns-in_default g t c =
@@ -50,7 +47,7 @@ returns-in_default g t c =
     record {
       ok = subst (λ v. IsNextTree (IsPartOf q c.args.node (node_count v)) v c.after_null.result) (sym null) c.after_null.ensures;
       following = none_continues (IsPartOf q c.args.node (node_count (data_of c.args.tree))) c.after_null.result (stack_of c.clear.new.self.items) (ap stack_of c.clear.ensures.items);
-      steps = (λ w wide. omega arith, costs_last c.after_null.result q c.args.scratch.now.meter c.args.scratch.now.meter (node_count (data_of c.args.tree)) (λ w wide. omega arith));
+      steps = (λ w wide. omega arith, costs_last c.after_null.result q c.args.meter.now c.args.meter.now (node_count (data_of c.args.tree)) (λ w wide. omega arith));
     }
 
 pub returns-in-Row : goal.next_part-returns-in-Row
@@ -70,5 +67,5 @@ returns-in-Leaf g t c =
     record {
       ok = IfOk-weaker c.next_unused.result _ _ (λ m h. moved_same (IsUnusedPart q c.args.node n []) (IsPartOf q c.args.node n) (data_of c.args.tree) m (λ u p. p.0) (λ u p. (p, λ k. contained [] _ k)) h) c.next_unused.ensures.ok;
       following = IfOk-weaker c.next_unused.result _ _ (λ m h. moved_continues_same (IsUnusedPart q c.args.node n []) (IsPartOf q c.args.node n) m (stack_of c.next_unused.new.scratch.following.items) (λ u p. p.0) (λ u p. (p, λ k. contained [] _ k)) h) c.next_unused.ensures.following;
-      steps = (costs_thrice c.args.self.now.plan.now c.args.scratch.now.meter c.next_unused.new.scratch.meter (node_count (data_of c.args.tree)) (some_nodes (data_of c.args.tree)) c.next_unused.ensures.steps, IfOk-weaker c.next_unused.result _ _ (λ m h. costs_less c.args.self.now.plan.now m c.args.scratch.now.meter c.next_unused.new.scratch.meter (node_count (data_of c.args.tree)) (some_nodes (data_of c.args.tree)) c.next_unused.ensures.steps) c.next_unused.ensures.ok);
+      steps = (costs_thrice c.args.self.now.plan.now c.args.meter.now c.next_unused.new.meter (node_count (data_of c.args.tree)) (some_nodes (data_of c.args.tree)) c.next_unused.ensures.steps, IfOk-weaker c.next_unused.result _ _ (λ m h. costs_less c.args.self.now.plan.now m c.args.meter.now c.next_unused.new.meter (node_count (data_of c.args.tree)) (some_nodes (data_of c.args.tree)) c.next_unused.ensures.steps) c.next_unused.ensures.ok);
     }

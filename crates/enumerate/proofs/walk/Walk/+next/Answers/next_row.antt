@@ -25,8 +25,8 @@ use Rattle.enumerate.proofs.walk.Walk.+next.Goals.{next_row-In-Some, next_row-Af
 row_here : (g : Over) (t : ℕ) (c : next_row-In-Some g t) → AreInSlots c.args.self.now.plan.now.pools (slots_from c.args.self.now.plan.now c.args.node 0) (demand_of c.args.self.now.plan.now c.args.node (used_rows c.args.used.now) c.requires.row.fillings) c.in-Some.members.items c.requires.row.fillings
 row_here g t c = row_in_slots c.args.self.now.plan.now c.args.node (node_count (data_of c.args.tree) - 1) (used_rows c.args.used.now) (data_of c.args.tree) c.in-Some.members.items c.requires.row c.in-Some.ensures.some
 
-row_cost : (g : Over) (t : ℕ) (c : next_row-After-next_members g t) → Costs c.args.self.now.plan.now c.args.scratch.now.meter c.next_members.new.scratch.meter (3 * node_count (data_of c.args.tree))
-row_cost g t c = members_row c.args.self.now.plan.now c.args.node c.args.scratch.now.meter c.next_members.new.scratch.meter (members_count (members_of c.in-Some.members.items)) (node_count (data_of c.args.tree)) c.requires.node c.requires.sort (ap node_count c.in-Some.ensures.some) c.next_members.ensures.steps.0
+row_cost : (g : Over) (t : ℕ) (c : next_row-After-next_members g t) → Costs c.args.self.now.plan.now c.args.meter.now c.next_members.new.meter (3 * node_count (data_of c.args.tree))
+row_cost g t c = members_row c.args.self.now.plan.now c.args.node c.args.meter.now c.next_members.new.meter (members_count (members_of c.in-Some.members.items)) (node_count (data_of c.args.tree)) c.requires.node.node c.requires.node.sort (ap node_count c.in-Some.ensures.some) c.next_members.ensures.steps.0
 
 -- the next ones
 row_next_here : (g : Over) (t : ℕ) (c : next_row-In-Made g t) → AreNext c.args.self.now.plan.now.pools (slots_from c.args.self.now.plan.now c.args.node 0) (demand_of c.args.self.now.plan.now c.args.node (used_rows c.args.used.now) c.requires.row.fillings) c.requires.row.fillings c.next_members.new.members.items
@@ -54,11 +54,11 @@ next_members-requires g t c κs within =
     let r = c.requires.row in
     let in_slots = row_here g t (goal.at.next_row-next_members-requires g t c).In-Some in
     let count : node_count (data_of c.args.tree) ≡ 1 + members_count (members_of c.in-Some.members.items) = ap node_count c.in-Some.ensures.some in
-    (omega (arith, c.decreases), (within, (c.requires.node, (c.requires.sort, (c.requires.known, ((r.fillings, in_slots), omega (arith, count, c.requires.limit)))))))
+    (omega (arith, c.decreases), (within, record { node = c.requires.node; used = c.requires.known; in_slots = (r.fillings, in_slots); limit = omega (arith, count, c.requires.limit) }))
 
-pub returns-in_err-depth-clause-steps : goal.next_row-returns-in_err-depth-clause-steps
-returns-in_err-depth-clause-steps g t c =
-    (row_cost g t (goal.at.next_row-returns-in_err-depth-clause-steps g t c).After-next_members, search rules)
+pub returns-in_err-depth : goal.next_row-returns-in_err-depth
+returns-in_err-depth g t c =
+    record { ok = search rules; following = search rules; steps = (row_cost g t (goal.at.next_row-returns-in_err-depth g t c).After-next_members, search rules) }
 
 pub invariant_of-result : goal.next_row-invariant_of-result
 invariant_of-result g t c =
@@ -102,7 +102,7 @@ returns-in-Last g t c =
         row_cost g t (goal.at.next_row-returns-in-Last g t c).After-next_members,
         let m = members_count (members_of c.in-Some.members.items) in
             let count : node_count (data_of c.args.tree) ≡ 1 + m = ap node_count c.in-Some.ensures.some in
-            costs_row c.args.self.now.plan.now c.args.node c.args.scratch.now.meter c.next_members.new.scratch.meter (2 * m) (2 * node_count (data_of c.args.tree) - 1) c.requires.node c.requires.sort (omega (arith, count))
-            (subst (λ st. CostsLastSlots st c.args.self.now.plan.now c.args.node 0 c.args.scratch.now.meter c.next_members.new.scratch.meter (2 * m)) c.in-Last.is c.in_ok-depth.ensures.steps.1),
+            costs_row c.args.self.now.plan.now c.args.node c.args.meter.now c.next_members.new.meter (2 * m) (2 * node_count (data_of c.args.tree) - 1) c.requires.node.node c.requires.node.sort (omega (arith, count))
+            (subst (λ st. CostsLastSlots st c.args.self.now.plan.now c.args.node 0 c.args.meter.now c.next_members.new.meter (2 * m)) c.in-Last.is c.in_ok-depth.ensures.steps.1),
       );
     }

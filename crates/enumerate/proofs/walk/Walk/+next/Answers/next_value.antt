@@ -30,8 +30,7 @@ pub next_key-requires : goal.next_value-next_key-requires
 next_key-requires g t c =
     let k = key_here g t (goal.at.next_value-next_key-requires g t c).Then-here in
     record {
-      node = omega (arith, c.requires.here.slot.below, c.requires.here.node);
-      leaf = ap (λ x. sort_of x) k.node ∙ k.slot.leaf;
+      node = record { node = omega (arith, c.requires.here.slot.below, c.requires.here.node); sort = ap (λ x. sort_of x) k.node ∙ k.slot.leaf };
       limit = omega (arith, c.requires.limit, c.laws_of.ensures.limit);
     }
 
@@ -52,7 +51,7 @@ returns-then-here g t c =
           let cs = stack_of c.next_key.new.scratch.following.items in
           IfOk-weaker c.next_key.result _ _ (λ m h. moved_continues_same (IsFreeKey q s.node n here.name used s.later) (IsValue q.pools here after used n) m cs (λ u. (law u).0) (λ u. (law u).1)
           (subst (λ l. ContinueNext (IsFreeKey q s.node n l used s.later) m cs) c.requires.here.slot.name h)) c.next_key.ensures.following;
-      steps = (costs_thrice q c.args.scratch.now.meter c.next_key.new.scratch.meter n (some_nodes v) c.next_key.ensures.steps, IfOk-weaker c.next_key.result _ _ (λ m h. costs_less q m c.args.scratch.now.meter c.next_key.new.scratch.meter n (some_nodes v) c.next_key.ensures.steps) c.next_key.ensures.ok);
+      steps = (costs_thrice q c.args.meter.now c.next_key.new.meter n (some_nodes v) c.next_key.ensures.steps, IfOk-weaker c.next_key.result _ _ (λ m h. costs_less q m c.args.meter.now c.next_key.new.meter n (some_nodes v) c.next_key.ensures.steps) c.next_key.ensures.ok);
     }
 
 pub next_part-requires : goal.next_value-next_part-requires

@@ -1,4 +1,4 @@
-use Rattle.std.proofs.Common.{◌≡◌, ◌≢◌, sym, ◌∙◌, arith}
+use Rattle.std.proofs.Common.{rules, ◌≡◌, ◌≢◌, sym, ◌∙◌, arith}
 use Rattle.jtree.specs.Data.{null as null_data}
 use Rattle.jtree.specs.Nodes.{node_count}
 use Rattle.jtree.specs.View.{data_of}
@@ -12,10 +12,10 @@ use Rattle.enumerate.proofs.rows.Parts.{weight_next}
 use Rattle.enumerate.proofs.walk.Walk.+part.Goals as goal
 
 pub is_unused_row-requires : goal.is_part-is_unused_row-requires
-is_unused_row-requires g t c κs within = (omega (arith, c.decreases, weight_next c.args.self.now.plan.now c.args.node), (within, (c.requires.node, (sym c.in-Row.ensures, c.requires.limit))))
+is_unused_row-requires g t c κs within = (omega (arith, c.decreases, weight_next c.args.self.now.plan.now c.args.node), (within, (record { node = c.requires.node; sort = sym c.in-Row.ensures }, c.requires.limit)))
 
 pub is_list-requires : goal.is_part-is_list-requires
-is_list-requires g t c κs within = (omega (arith, c.decreases, weight_next c.args.self.now.plan.now c.args.node), (within, (c.requires.node, (sym c.in-List.ensures, c.requires.limit))))
+is_list-requires g t c κs within = (omega (arith, c.decreases, weight_next c.args.self.now.plan.now c.args.node), (within, (record { node = c.requires.node; sort = sym c.in-List.ensures }, c.requires.limit)))
 
 pub returns-in_default : goal.is_part-returns-in_default
 returns-in_default g t c =
@@ -54,6 +54,6 @@ returns-in-List g t c =
       steps = c.is_list.ensures.steps;
     }
 
-pub returns-in-Leaf-clause-steps : goal.is_part-returns-in-Leaf-clause-steps
-returns-in-Leaf-clause-steps g t c =
-    costs_within c.args.self.now.plan.now c.args.meter.now c.is_candidate.new.meter 1 (node_count (data_of c.args.tree.now)) (some_nodes (data_of c.args.tree.now)) c.is_candidate.ensures.steps
+pub returns-in-Leaf : goal.is_part-returns-in-Leaf
+returns-in-Leaf g t c =
+    record { ok = search rules; steps = costs_within c.args.self.now.plan.now c.args.meter.now c.is_candidate.new.meter 1 (node_count (data_of c.args.tree.now)) (some_nodes (data_of c.args.tree.now)) c.is_candidate.ensures.steps }

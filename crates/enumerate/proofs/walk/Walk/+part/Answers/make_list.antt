@@ -1,4 +1,4 @@
-use Rattle.std.proofs.Common.{◌≡◌, ◌+◌, ◌≤◌, ◌*◌, sym, refl, subst, ◌∙◌, arith, take}
+use Rattle.std.proofs.Common.{rules, ◌≡◌, ◌+◌, ◌≤◌, ◌*◌, sym, refl, subst, ◌∙◌, arith, take}
 use Rattle.jtree.specs.Nodes.{node_count, items_count}
 use Rattle.jtree.specs.View.{data_of, items_of}
 use Rattle.enumerate.specs.Internal.Nodes.{Costs}
@@ -19,15 +19,19 @@ pub is_unused_item-requires : goal.make_list-is_unused_item-requires
 is_unused_item-requires g t c κs within =
     let x = c.index-items-place.result in
     let few = item_few c.args.items.now c.loop-place.place x (omega arith) (sym c.index-items-place.is) in
-    (omega (arith, c.decreases), (within, (record { node = c.requires.node; child = c.in-Some.ensures.below }, (c.loop-place.invariant.first, omega (arith, few, c.requires.limit)))))
+    (omega (arith, c.decreases), (within, (record { node = c.requires.node.node; child = c.in-Some.ensures.below }, (c.loop-place.invariant.first, omega (arith, few, c.requires.limit)))))
 
-pub returns-in_err-is_unused_item-clause-steps : goal.make_list-returns-in_err-is_unused_item-clause-steps
-returns-in_err-is_unused_item-clause-steps g t c w width =
-    let x = c.index-items-place.result in
-    let steps : c.is_unused_item.new.meter ≤ c.loop-place.meter + (w + 1) * node_count (data_of x) = c.is_unused_item.ensures.steps w width in
-    let before : c.loop-place.meter ≤ c.item.new.meter + (w + 1) * items_count (items_of (take c.loop-place.place c.args.items.now)) = c.loop-place.invariant.steps w width in
-    let cost = item_steps w c.args.items.now c.loop-place.place x (omega arith) (sym c.index-items-place.is) in
-    omega (arith, steps, before, cost, c.item.ensures.step)
+pub returns-in_err-is_unused_item : goal.make_list-returns-in_err-is_unused_item
+returns-in_err-is_unused_item g t c =
+    record {
+      ok = search rules;
+      steps = λ w width.
+          let x = c.index-items-place.result in
+          let steps : c.is_unused_item.new.meter ≤ c.loop-place.meter + (w + 1) * node_count (data_of x) = c.is_unused_item.ensures.steps w width in
+          let before : c.loop-place.meter ≤ c.item.new.meter + (w + 1) * items_count (items_of (take c.loop-place.place c.args.items.now)) = c.loop-place.invariant.steps w width in
+          let cost = item_steps w c.args.items.now c.loop-place.place x (omega arith) (sym c.index-items-place.is) in
+          omega (arith, steps, before, cost, c.item.ensures.step);
+    }
 
 pub returns-then-not-branch : goal.make_list-returns-then-not-branch
 returns-then-not-branch g t c =

@@ -1,4 +1,4 @@
-use Rattle.std.proofs.Common.{◌≡◌, ◌+◌, ℕ, drop, false, List, ap, sym, subst, ◌∙◌, arith}
+use Rattle.std.proofs.Common.{rules, ◌≡◌, ◌+◌, ℕ, drop, false, List, ap, sym, subst, ◌∙◌, arith}
 use Rattle.jtree.specs.Data.{Data, member as member_data}
 use Rattle.jtree.specs.Nodes.{node_count, members_count}
 use Rattle.jtree.specs.View.{data_of, members_of}
@@ -50,11 +50,11 @@ pub is_part-requires : goal.make_unused_row-is_part-requires
 is_part-requires g t c κs within =
     let count = ap members_count c.in-Some-value_under.ensures.some in
     let lighter_slot = lighter c.args.self.now.plan.now c.in-Some.slot.node c.args.node c.in-Some.ensures.below in
-    (omega (arith, c.decreases, lighter_slot), (within, (omega (arith, c.in-Some.ensures.below, c.requires.node), omega (arith, count, c.requires.limit))))
+    (omega (arith, c.decreases, lighter_slot), (within, (omega (arith, c.in-Some.ensures.below, c.requires.node.node), omega (arith, count, c.requires.limit))))
 
-pub returns-in_err-is_part-clause-steps : goal.make_unused_row-returns-in_err-is_part-clause-steps
-returns-in_err-is_part-clause-steps g t c =
-    part_cost g t (goal.at.make_unused_row-returns-in_err-is_part-clause-steps g t c).After-is_part
+pub returns-in_err-is_part : goal.make_unused_row-returns-in_err-is_part
+returns-in_err-is_part g t c =
+    record { ok = search rules; steps = part_cost g t (goal.at.make_unused_row-returns-in_err-is_part g t c).After-is_part }
 
 pub returns-then-not-branch : goal.make_unused_row-returns-then-not-branch
 returns-then-not-branch g t c =
@@ -73,9 +73,9 @@ returns-then-not-branch g t c =
       steps = part_cost g t (goal.at.make_unused_row-returns-then-not-branch g t c).After-is_part;
     }
 
-pub returns-in_err-same-clause-steps : goal.make_unused_row-returns-in_err-same-clause-steps
-returns-in_err-same-clause-steps g t c =
-    part_cost g t (goal.at.make_unused_row-returns-in_err-same-clause-steps g t c).After-is_part
+pub returns-in_err-same : goal.make_unused_row-returns-in_err-same
+returns-in_err-same g t c =
+    record { ok = search rules; steps = part_cost g t (goal.at.make_unused_row-returns-in_err-same g t c).After-is_part }
 
 pub make_unused_row-requires-2 : goal.make_unused_row-make_unused_row-requires-2
 make_unused_row-requires-2 g t c κs within =
@@ -85,7 +85,7 @@ make_unused_row-requires-2 g t c κs within =
     let less = one_slot_less q c.args.node c.args.place c.in-Some.slot c.in-Some.ensures.some in
     let rest = ap (λ ms. members_count (members_of ms)) c.after_first-after.ensures in
     let more = ap (λ (x : Before). x.count) c.fill.ensures in
-    (omega (arith, c.decreases, less), (within, (c.requires.node, (c.requires.row, (omega (arith, c.in-Some.ensures.within), (omega (arith, c.requires.count, more), omega (arith, count, some, rest, c.requires.limit, more)))))))
+    (omega (arith, c.decreases, less), (within, (c.requires.node, (omega (arith, c.in-Some.ensures.within), (omega (arith, c.requires.count, more), omega (arith, count, some, rest, c.requires.limit, more))))))
 
 pub returns : goal.make_unused_row-returns
 returns g t c =
@@ -113,4 +113,4 @@ returns g t c =
 pub make_unused_row-requires : goal.make_unused_row-make_unused_row-requires
 make_unused_row-requires g t c κs within =
     let less = one_slot_less c.args.self.now.plan.now c.args.node c.args.place c.in-Some.slot c.in-Some.ensures.some in
-    (omega (arith, c.decreases, less), (within, (c.requires.node, (c.requires.row, (omega (arith, c.in-Some.ensures.within), (omega (arith, c.requires.count), c.requires.limit))))))
+    (omega (arith, c.decreases, less), (within, (c.requires.node, (omega (arith, c.in-Some.ensures.within), (omega (arith, c.requires.count), c.requires.limit)))))
