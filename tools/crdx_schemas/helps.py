@@ -41,5 +41,5 @@ def command_help(own, said, name, arguments, without):
         f"{first}{USAGE}kubectl crdx {name} {usage}\n",
         "Arguments:", *(explained[word] for word in arguments),
         "\nOptions:", *(entry for option, entry in taken.items() if option not in without), "  -h, --help\n          Prints this text",
-        "\n`kubectl crdx --help` has examples, and what all commands share.", *ending,
+        "\n`kubectl crdx --help` has examples, and what all commands share.", *(f"\n{line}" for line in ending),
     ]) + "\n"
