@@ -26,10 +26,16 @@ low: json
 CRATES
 touch "$root"/crates/{low,left,right,crdx_cli,crdx_tests}/src/lib.rt
 
-# in place of rt: the crates of RT_MEET wait for one another, and that of RT_HANGS_AT goes on until it is stopped
+# in place of rt: it keeps others out of the crate and those below it, which have to be built; the crates of RT_MEET wait for one another, and
+# that of RT_HANGS_AT goes on until it is stopped
 cat >"$folder/bin/rt" <<'RT'
 #!/usr/bin/env bash
 name=$(basename "$PWD")
+for below in $(sed -n "s/^$name\b.*://p" ../../crates.txt | sed 's/#.*//') "$name"; do
+    [ -d "../$below/src" ] || continue
+    exec {lock}<"../$below" && flock "$lock"
+    [ "$below" = "$name" ] || [ -e "../$below/out/built" ] || { echo "$below is not built" && exit 1; }
+done
 echo "rt says a word$(cat)"
 echo "$name: $*" >>"$RT_NOTES/calls"
 echo "$name begins" >>"$RT_NOTES/steps"
@@ -41,6 +47,7 @@ done
 [ "$name" != "${RT_FAILS_AT-}" ] || exit 1
 [ -z "${RT_TOUCHES-}" ] || touch "$RT_TOUCHES"
 [ "$1" = lib ] || { mkdir -p out && cp "$RT_PROGRAM" out/crdx_cli; }
+mkdir -p out && echo "by $name" >out/built
 echo "$name ends" >>"$RT_NOTES/steps"
 RT
 cat >"$folder/program" <<'PROGRAM'
@@ -110,7 +117,11 @@ grep -E '^crdx: (crate|.* took)' "$folder/err" | sed -E 's/took [0-9]+ s$/took s
 asks 'standard error of a build' said 'crdx: crate 1 of 4: low' 'crdx: crate 2 of 4: left' 'crdx: crate 3 of 4: right' 'crdx: crate 4 of 4: crdx_cli' \
     'crdx: crdx_cli took some time' 'crdx: left took some time' 'crdx: low took some time' 'crdx: right took some time'
 [ "$(tail -n 1 "$folder/err")" = 'on standard error' ] || stop 'a build: the standard error of the program is lost'
-for name in low left right crdx_cli; do asks "the log of $name" "repository/out/build/$name.log" 'rt says a word'; done
+for name in low left right crdx_cli; do
+    asks "the log of $name" "repository/out/build/$name.log" 'rt says a word'
+    asks "what is built of $name" "repository/crates/$name/out/built" "by $name"
+done
+[ "$(cd "$root/out/build" && echo *)" = 'crdx_cli.log left.log low.log right.log' ] || stop 'a build leaves more than logs'
 
 # a later call builds nothing, also where what the program is not made of has changed
 builds_nothing 'a second call'
@@ -162,6 +173,7 @@ all_stopped() {
     while read -r number; do
         ! kill -0 "$number" 2>/dev/null || stop "$1: $number goes on"
     done <"$folder/numbers"
+    ! compgen -G "$root/out/build/*.tree" >/dev/null || stop "$1: a copy is left"
 }
 
 # a build that fails ends at once with status 70, what runs beside the crate that fails is stopped, and the program is not run
