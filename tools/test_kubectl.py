@@ -392,8 +392,6 @@ class Objects(Runs):
         self.file("all.json", definition(PLAIN), other, {"apiVersion": "v1", "kind": "Namespace"}, widget("a"), gadget, {"a": 1})
         given = self.given("validate", "-f", "all.json", "widgets.example.org", said=[said, "version v1, which the objects name"])
         self.assertEqual(json.loads(given[-1]), widget("a"))
-        given = self.given("validate", "-f", "all.json", "widgets.example.org", text=json.dumps(widget("b")), said=[said, "version v1, which the objects name"])
-        self.assertEqual(json.loads(given[-1]), widget("a"))
 
     def test_objects_of_another_kind(self):
         """None is judged, and none is left out."""
@@ -685,7 +683,9 @@ class Completions(Runs):
     def test_kubectl_asks_for_them(self):
         for program in [PLUGIN, self.COMPLETE]:
             (self.folder / "bin" / program.name).symlink_to(program)
-        for words, wanted in [(["va"], ["validate\tAbout validate", ":4"]), (["validate", "-f", "c"], [":0"]), (["leaves", "--li"], ["--lines", ":4"])]:
+        for words, wanted in [
+            (["va"], ["validate\tAbout validate", ":4"]), (["validate", "-f", "c"], [":0"]), (["leaves", "--li"], ["--lines", ":4"]),
+        ]:
             with self.subTest(words):
                 ran = subprocess.run(["kubectl", "__complete", "crdx", *words], capture_output=True, encoding="utf-8", cwd=self.folder,
                                      env=self.environment(), check=False)

@@ -109,12 +109,15 @@ low ends" ] || stop 'the first call: another crate begins before the lowest one 
 [ "$(tail -n 2 "$folder/steps")" = "crdx_cli begins
 crdx_cli ends" ] || stop 'the first call: the program begins before what it depends on has ended'
 asks 'standard output' out '<check><--help><two words><> and standard input'
-[ "$(head -n 2 "$folder/err")" = "crdx: proving and building the program, which takes 20 to 45 minutes where nothing is kept yet; rt writes to $root/out/build
-crdx: Ctrl-C stops the build, and the next call goes on from there" ] || stop 'a build: other first lines on standard error'
+head -n 2 "$folder/err" >"$folder/said"
+asks 'the first lines of a build' said \
+    "crdx: proving and building the program, which takes 20 to 45 minutes where nothing is kept yet; rt writes to $root/out/build" \
+    'crdx: Ctrl-C stops the build, and the next call goes on from there'
 grep -q "^    cd $root/crates/crdx_cli && rt try --data .* -- sample crd.json v1 --pools pools.json --limit 5\$" "$folder/err" ||
     stop 'a build: no word on a first look'
 grep -E '^crdx: (crate|.* took)' "$folder/err" | sed -E 's/took [0-9]+ s$/took some time/' | sort >"$folder/said"
-asks 'standard error of a build' said 'crdx: crate 1 of 4: low' 'crdx: crate 2 of 4: left' 'crdx: crate 3 of 4: right' 'crdx: crate 4 of 4: crdx_cli' \
+asks 'standard error of a build' said \
+    'crdx: crate 1 of 4: low' 'crdx: crate 2 of 4: left' 'crdx: crate 3 of 4: right' 'crdx: crate 4 of 4: crdx_cli' \
     'crdx: crdx_cli took some time' 'crdx: left took some time' 'crdx: low took some time' 'crdx: right took some time'
 [ "$(tail -n 1 "$folder/err")" = 'on standard error' ] || stop 'a build: the standard error of the program is lost'
 for name in low left right crdx_cli; do

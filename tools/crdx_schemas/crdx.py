@@ -40,8 +40,9 @@ class Crdx:
     def run(self, *words, **how):
         """Runs crdx with the files that are open, and answers how it ended; as a shell says it, where that was by a signal. A wrapper that
         would have to build it first says so instead."""
+        how = {"close_fds": False, "encoding": "utf-8", "check": False, "env": {**os.environ, "CRDX_BUILD": "no"}, **how}
         try:
-            ran = subprocess.run([self.program, *words], close_fds=False, encoding="utf-8", check=False, env={**os.environ, "CRDX_BUILD": "no"}, **how)
+            ran = subprocess.run([self.program, *words], **how)
         except OSError:
             raise Refusal("crdx cannot be run", 70) from None
         ran.returncode = ran.returncode if ran.returncode >= 0 else 128 - ran.returncode
