@@ -226,7 +226,7 @@ def styled(text):
     """A head or a usage: the names of values in italics, all else in bold."""
     words = []
     for word in text.split():
-        value = re.fullmatch(r"(\[?)<?([A-Z][A-Z_-]*)>?(\]?\.*)", word)
+        value = re.fullmatch(r"(\[?)<?([A-Z][A-Z_-]*)>?([].]*)", word)
         words.append(rf"{value[1]}\fI{escaped(value[2])}\fR{value[3]}" if value else rf"\fB{escaped(word)}\fR")
     return " ".join(words)
 

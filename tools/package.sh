@@ -57,7 +57,7 @@ tree=$stage/$name root=$stage/root
 # the folder that the .tar.gz has
 fill_tree() {
     install -D -m 755 "$program" "$tree/crdx"
-    install -m 755 tools/{crdx-relax,kubectl-crdx} "$tree"
+    install -m 755 tools/{crdx-relax,kubectl-crdx,kubectl_complete-crdx} "$tree"
     install -D -m 644 -t "$tree/crdx_schemas" tools/crdx_schemas/*.py
     tools/manual.py "$program" "$tree"
     install -m 644 LICENSE CHANGELOG.md "$tree"
@@ -80,6 +80,7 @@ fill_root() {
     place 755 crdx usr/bin/crdx
     place 755 crdx-relax usr/bin/crdx-relax
     place 755 kubectl-crdx usr/bin/kubectl-crdx
+    place 755 kubectl_complete-crdx usr/bin/kubectl_complete-crdx
     for module in "$tree"/crdx_schemas/*; do
         place 644 "crdx_schemas/${module##*/}" "usr/share/crdx/crdx_schemas/${module##*/}"
     done

@@ -8,6 +8,7 @@ place, which prints what it is given.
 """
 import json
 import os
+import pty
 import shutil
 import subprocess
 import sys
@@ -23,21 +24,30 @@ CERTIFICATE = ROOT / "examples" / "certificate"
 # in place of crdx: it prints its words, and what is in the files among them
 CRDX = """\
 #!/usr/bin/env python3
-import json, os, sys
+import json, os, re, sys
 OPTIONS = "Options:\\n      --large  Large\\n      --why    Why\\n  -h, --help   Help\\n"
 USAGES = {
     "check": "<CRD> <VERSION>", "explain": "<CRD> <VERSION> [PATH]", "validate": "<CRD> <VERSION> [OBJECT]", "pools": "<CRD> <VERSION>",
-    "sample": "<CRD> <VERSION>", "leaves": "<CRD> <VERSION> [OBJECT]",
+    "sample": "<CRD> <VERSION>", "leaves": "<CRD> <VERSION> [OBJECT]", "cover": "<CRD> <VERSION>",
 }
+SAMPLE = "      --pools <FILE>  Pools\\n      --limit <N>  Limit\\n      --all  All\\n"
 MORE = {
-    "sample": "      --pools <FILE>  Pools\\n      --limit <N>  Limit\\n      --all  All\\n", "leaves": "      --lines  Lines\\n",
-    "pools": "      --from <OBJECT>  Object\\n      --vary <PATH>  Path\\n",
+    "sample": SAMPLE, "cover": SAMPLE, "leaves": "      --lines  Lines\\n",
+    "pools": "      --from <OBJECT>  Object\\n      --vary <PATH>  Path\\n      --without <PATH>  Path\\n",
 }
+END = "\\nExample:\\n  ./crdx check crd.json v1\\n\\n`crdx --help` explains the codes, and the exit\\nstatus.\\n"
 command, *words = sys.argv[1:]
+if command == "--version":
+    sys.exit(print("crdx 9.9.9"))
+if command == "-h":
+    sys.exit(print("About crdx\\n\\nUsage: crdx <COMMAND>\\n\\nCommands:\\n" + "".join(f"  {name:9} About {name}\\n" for name in USAGES)))
 if command not in USAGES:
     sys.exit("error: unrecognized subcommand")
-if words == ["-h"]:
-    print(f"About\\n\\nUsage: crdx {command} [OPTIONS] {USAGES[command]}\\n\\n{OPTIONS}{MORE.get(command, '')}")
+if words in (["-h"], ["--help"]):
+    options = OPTIONS + MORE.get(command, "")
+    if words == ["--help"]:
+        options = re.sub(r"(?<=\\S)  +(?=\\S)", "\\n          ", options) + END
+    print(f"About {command}\\n\\nUsage: crdx {command} [OPTIONS] {USAGES[command]}\\n\\n{options}", end="")
     sys.exit()
 def seen(word):
     option, sign, file = word.rpartition("=")
@@ -120,12 +130,16 @@ class Runs(unittest.TestCase):
         texts = [one if isinstance(one, str) else json.dumps(one) + "\n" for one in documents]
         (self.folder / name).write_text("".join(texts), encoding="utf-8")
 
-    def run_plugin(self, *words, text="", path=None, **variables):
-        """The status, and what is on standard output and standard error."""
+    def environment(self, path=None, **variables):
+        """The variables, without those that are None."""
         path = f"{self.folder / 'bin'}:{os.environ['PATH'] if path is None else path}"
         variables = {**os.environ, "CRDX": str(self.folder / "bin" / "crdx"), **variables, "PATH": path}
-        ran = subprocess.run([sys.executable, PLUGIN, *words], input=text, capture_output=True, encoding="utf-8", cwd=self.folder,
-                             env=variables, check=False)
+        return {name: value for name, value in variables.items() if value is not None}
+
+    def run_plugin(self, *words, text="", path=None, plugin=PLUGIN, **variables):
+        """The status, and what is on standard output and standard error."""
+        ran = subprocess.run([sys.executable, plugin, *words], input=text, capture_output=True, encoding="utf-8", cwd=self.folder,
+                             env=self.environment(path, **variables), check=False)
         return ran.returncode, ran.stdout, ran.stderr
 
     def given(self, *words, said=(STORAGE,), **how):
@@ -175,6 +189,19 @@ class Definitions(Runs):
             with self.subTest(words):
                 self.assertEqual(self.given("check", "-f", "crd.json", *words, said=said)[-1], version)
 
+    def test_no_storage_version(self):
+        """The line calls a version the storage version where it is that alone."""
+        for flags, version, why in [
+            ([False, False], "v1", "the first one, as none is the storage version"), ([False, True], "v2", "the storage version"),
+            ([True, True], "v1", "the first of 2 storage versions"), ([], "v1", "as the definition names none"),
+        ]:
+            with self.subTest(flags):
+                document = definition(*[PLAIN for _ in flags])
+                for number, flag in enumerate(flags):
+                    document["spec"]["versions"][number]["storage"] = flag
+                self.file("crd.json", document)
+                self.assertEqual(self.given("check", "-f", "crd.json", said=[f"version {version}, {why}"])[-1], version)
+
     def test_what_cannot_be_relaxed_is_left_to_crdx(self):
         for name, document in [
             ("no definition at heart", {"kind": "CustomResourceDefinition"}), ("a version that is not there", definition(PLAIN)),
@@ -208,6 +235,45 @@ class Definitions(Runs):
         for words in [["validate", "v1"], ["validate", "v1", "-"], ["check", "-f", "-"], ["sample", "--pools", "-"]]:
             with self.subTest(words):
                 self.assertEqual(self.run_plugin(*words, "-f", "-", text=json.dumps(definition(PLAIN))), (2, "", line))
+
+    def test_a_file_in_place_of_a_name(self):
+        """It is no name to ask a cluster for."""
+        self.program("kubectl", KUBECTL)
+        self.file("crd.json", definition(PLAIN))
+        self.file("object.json", widget("a"))
+        for words in [["check", "crd.json"], ["check", "./crd.json", "v1"], ["relax", "crd.json"], ["validate", "crd.json", "object.json"],
+                      ["validate", "-f", "object.json", "crd.json"]]:
+            with self.subTest(words):
+                word = next(word for word in words if word.endswith("crd.json"))
+                self.assertEqual(self.run_plugin(*words), (2, "", lines(f"{word} is a file, and no name of a definition: use -f {word}")))
+        self.assertEqual(self.run_plugin("check", "./missing.json")[0], 3)
+        self.assertFalse((self.folder / "bin" / "calls").exists())
+
+    def terminal(self, *words, text):
+        """What is on standard error of a run whose standard input is a terminal at which the text is typed."""
+        typed, terminal = pty.openpty()
+        with os.fdopen(typed, "wb", buffering=0) as keyboard, os.fdopen(terminal, "rb") as standard_input:
+            keyboard.write(text.encode("utf-8") + b"\n\4")
+            ran = subprocess.run([sys.executable, PLUGIN, *words], stdin=standard_input, capture_output=True, encoding="utf-8", cwd=self.folder,
+                                 env=self.environment(POOLS="{}"), check=False, timeout=60)
+        return ran.stderr
+
+    def test_a_terminal(self):
+        """A run that reads from a terminal says so once."""
+        self.file("crd.json", definition(PLAIN))
+        self.file("object.json", widget("a"))
+        crd, one = json.dumps(definition(PLAIN)), json.dumps(widget("a"))
+        said, version = "reads from standard input", "version v1, which the objects name"
+        for words, text, wanted in [
+            (["check", "-f", "-"], crd, [said, STORAGE]), (["relax", "-f", "-"], crd, [said]),
+            (["validate", "-f", "crd.json"], one, [said, version]), (["validate", "-f", "crd.json", "-"], one, [said, version]),
+            (["validate", "-f", "crd.json", "object.json", "-"], one, [said, "object 1: object.json", "object 2: standard input", version]),
+            (["pools", "-f", "crd.json", "--from", "-"], one, [said, STORAGE]), (["sample", "-f", "crd.json", "--pools", "-"], "{}", [said, STORAGE]),
+            (["validate", "-f", "crd.json", "object.json"], "", [version]),
+        ]:
+            with self.subTest(words):
+                err = [line for line in self.terminal(*words, text=text).splitlines() if not line.startswith("kubectl-crdx: object 1 W")]
+                self.assertEqual([line for line in err if "object 2 W" not in line], lines(*wanted).splitlines())
 
     def test_files_that_cannot_be_read(self):
         self.assertEqual(self.run_plugin("check", "-f", "missing.json"), (4, "", lines("crd: read failed")))
@@ -270,7 +336,6 @@ class Objects(Runs):
             ([widget("a", "v2")], [], "v2", ["version v2, which the objects name"]),
             ([widget("a", "v2")], ["v1"], "v1", []),
             ([widget("a", "v3")], [], "v1", [STORAGE]),
-            ([{**widget("a"), "apiVersion": "other.org/v2"}], [], "v1", [STORAGE]),
             ([{"x": "a"}], [], "v1", [STORAGE]),
         ]:
             with self.subTest((objects, words)):
@@ -302,19 +367,56 @@ class Objects(Runs):
                 self.assertEqual([json.loads(line) for line in text.splitlines()], [widget("a"), widget("b")][:count])
         self.assertNotIn("--lines", self.given("leaves", "-f", "crd.json", "object.json", said=said))
 
-    def test_objects_beside_the_definition(self):
-        """Of the documents that come with the definition those of its kind are objects."""
-        self.file("all.json", definition(PLAIN), {"apiVersion": "v1", "kind": "Namespace"}, widget("a"))
-        self.assertEqual(json.loads(self.given("validate", "-f", "all.json", said=["version v1, which the objects name"])[-1]), widget("a"))
+    def test_files_of_objects(self):
+        """The objects of several files are judged one after another, and lines say which are in which file."""
+        self.file("a.json", widget("a"))
+        self.file("b.json", widget("b", name="b"), widget("c", name="c"))
+        said = ["version v1, which the objects name", "object 1 Widget a", "object 2 Widget b", "object 3 Widget c"]
+        for words in [["-f", "crd.json", "a.json", "b.json"], ["-f", "crd.json", "-f", "a.json", "b.json"],
+                      ["-f", "a.json", "-f", "crd.json", "-f", "b.json"]]:
+            with self.subTest(words):
+                calls = self.given("validate", *words, said=["object 1: a.json", "objects 2 to 3: b.json", *said])
+                self.assertEqual([json.loads(call[-1])["x"] for call in calls], ["a", "b", "c"])
+        given = self.given("leaves", "-f", "crd.json", "v1", "b.json", "a.json", said=["objects 1 to 2: b.json", "object 3: a.json"])
+        self.assertEqual([json.loads(line)["x"] for line in given[-1].splitlines()], ["b", "c", "a"])
+        self.assertEqual(self.run_plugin("validate", "-f", "crd.json", "a.json", "no.json"), (4, "", lines("object: no.json: read failed")))
+        self.assertEqual(self.run_plugin("validate", "-f", "crd.json", "-", "./-", "-"),
+                         (2, "", lines("the standard input can be only one of the inputs")))
 
-    def test_documents_of_other_kinds(self):
-        """In the file of objects they are left out, unless there are no others."""
-        space, said = {"apiVersion": "v1", "kind": "Namespace"}, "version v1, which the objects name"
-        self.file("objects.json", space, widget("a"), space)
-        given = self.given("validate", "-f", "crd.json", "objects.json", said=["2 documents of another kind left out", said])
+    def test_objects_beside_the_definition(self):
+        """Of the documents that come with the definition those of its kind are objects. A line has the kinds of the others."""
+        other = definition(PLAIN, name="gadgets.example.org")
+        other["spec"]["names"]["kind"] = "Gadget"
+        gadget = {"apiVersion": "example.org/v1", "kind": "Gadget"}
+        said = "3 documents of another kind beside the definition, not judged: Gadget, Namespace, none"
+        self.file("all.json", definition(PLAIN), other, {"apiVersion": "v1", "kind": "Namespace"}, widget("a"), gadget, {"a": 1})
+        given = self.given("validate", "-f", "all.json", "widgets.example.org", said=[said, "version v1, which the objects name"])
         self.assertEqual(json.loads(given[-1]), widget("a"))
-        self.file("objects.json", space)
-        self.assertEqual(json.loads(self.given("validate", "-f", "crd.json", "objects.json")[-1]), space)
+
+    def test_objects_of_another_kind(self):
+        """None is judged, and none is left out."""
+        space, gadget = {"apiVersion": "v1", "kind": "Namespace", "metadata": {"name": "a"}}, {"apiVersion": "example.org/v1", "kind": "Gadget"}
+        self.file("all.json", definition(PLAIN), widget("a"), gadget)
+        self.file("objects.json", space, widget("a"), gadget)
+        self.file("space.json", space)
+        self.file("far.json", {**widget("a"), "apiVersion": "other.org/v1"})
+        self.file("kind.json", {"kind": "Gadget", "x": 1})
+        refused = "object: not of the kind Widget of example.org\n    "
+        both = refused + "object 1 Namespace a of v1\n    object 3 Gadget of example.org/v1"
+        for words, text, said in [
+            (["-f", "crd.json", "objects.json"], "", both), (["-f", "crd.json", "-f", "objects.json"], "", both),
+            (["-f", "crd.json"], json.dumps(space), refused + "object 1 Namespace a of v1"),
+            (["-f", "crd.json", "-"], json.dumps(space), refused + "object 1 Namespace a of v1"),
+            (["-f", "crd.json", "v1", "far.json"], "", refused + "object 1 Widget a of other.org/v1"),
+            (["-f", "crd.json", "./kind.json"], "", refused + "object 1 Gadget of no group"),
+            (["-f", "all.json"], "", refused + "object 2 Gadget of example.org/v1"),
+        ]:
+            with self.subTest(words):
+                self.assertEqual(self.run_plugin("validate", *words, text=text), (3, "", lines(said)))
+        said = lines(STORAGE, refused + "object 1 Namespace a of v1")
+        self.assertEqual(self.run_plugin("pools", "-f", "crd.json", "--from", "space.json"), (3, "", said))
+        said = lines("object 1: space.json", "object 2: far.json", refused + "object 1 Namespace a of v1\n    object 2 Widget a of other.org/v1")
+        self.assertEqual(self.run_plugin("validate", "-f", "crd.json", "space.json", "far.json"), (3, "", said))
 
     def test_no_object(self):
         """What has no document at all is left to crdx."""
@@ -340,11 +442,38 @@ class Values(Runs):
     def test_lists_of_crdx(self):
         """Values that the pattern lets through come in place of those that crdx suggests, but for those of objects."""
         self.file("object.json", {"x": "v2"})
-        pools = {"POOLS": json.dumps({**self.SUGGESTED, "paths": {"/x": ["a"], "/y": [1]}})}
-        for words, values in [([], ["v1", "v1beta1"]), (["--from", "object.json"], ["a"])]:
+        self.file("empty.json", {})
+        pools = {"POOLS": json.dumps({**self.SUGGESTED, "paths": {"/x": ["v2", "a"], "/y": [1]}})}
+        for words, values in [([], ["v1", "v1beta1"]), (["--from", "object.json"], ["v2", "a"]), (["--from", "empty.json"], ["v1", "v1beta1"])]:
             with self.subTest(words):
                 _, out, _ = self.run_plugin("pools", "-f", "crd.json", *words, **pools)
                 self.assertEqual(json.loads(out)["paths"], {"/x": values, "/y": [1]})
+
+    def test_around_an_object(self):
+        """At a varied path the values of the object come first, and then those that the pattern lets through; other places do not vary."""
+        self.file("crd.json", definition({"type": "object", "properties": {
+            name: {"type": "array", "items": {"type": "string", "pattern": "^v[0-9]"}} for name in ["a", "b", "c/d"]}}))
+        self.file("object.json", {"a": ["v2", "v1"], "b": ["v3"], "c/d": ["v4"]})
+        pools = {"POOLS": json.dumps({**self.SUGGESTED, "paths": {"/a/[]": ["v2", "v1", "a"], "/c~1d/[]": ["v4"]}})}
+        words = ["--from", "object.json", "--vary", "/a", "--vary=/c~1d"]
+        _, out, _ = self.run_plugin("pools", "-f", "crd.json", *words, **pools)
+        self.assertEqual(json.loads(out)["paths"], {"/a/[]": ["v2", "v1", "v1beta1"], "/c~1d/[]": ["v4", "v1", "v1beta1"]})
+
+    def test_no_value_found(self):
+        """A line names each place for which no value is known."""
+        schema = {"type": "string", "pattern": "^zz[0-9]{9}$"}
+        self.file("crd.json", definition({"type": "object", "properties": {"x": schema, "y": with_field(schema)}}))
+        self.file("object.json", {"x": "zz123456789", "y": {}})
+        judged = "2 keywords at 2 places are not judged: pattern 2; kubectl crdx relax shows them"
+        x, y = 'pools: no value found for "/x"', 'pools: no value found for "/y/x"'
+        pools = {"POOLS": json.dumps({**self.SUGGESTED, "paths": {"/x": ["zz123456789"]}})}
+        for words, wanted in [
+            (["pools"], [x, y]), (["sample"], [x, y]), (["cover"], [x, y]), (["sample", "--pools", "p.json"], []), (["check"], []),
+            (["pools", "--from", "object.json"], [y]), (["pools", "--from=object.json", "--vary=/y"], [y]), (["pools", "--without", "/y"], [x]),
+        ]:
+            with self.subTest(words):
+                status, _, err = self.run_plugin(words[0], "-f", "crd.json", *words[1:], **pools)
+                self.assertEqual((status, err), (0, lines(STORAGE, judged, *wanted)))
 
     def test_objects(self):
         """Each object of --from is on a line of its own."""
@@ -401,10 +530,38 @@ class CommandLine(Runs):
         status, out, err = self.run_plugin("--help")
         self.assertEqual((status, err), (0, ""))
         self.assertIn("\nUsage: kubectl crdx COMMAND ", out)
-        self.assertEqual(self.run_plugin("check", "-h"), (0, out, ""))
+        self.assertEqual(self.run_plugin("-h", "check"), (0, out, ""))
+
+    def test_help_of_a_command(self):
+        """It has the usage of the plugin, the arguments and the options of both, and no example of crdx."""
+        _, general, _ = self.run_plugin("--help")
+        for words, usage in [
+            (["check", "--help"], "check [NAME] [VERSION] [OPTIONS]"), (["explain", "-h"], "explain [NAME] [VERSION] [PATH] [OPTIONS]"),
+            (["leaves", "-f", "x.yaml", "--help"], "leaves [NAME] [VERSION] [OBJECT]... [OPTIONS]"),
+        ]:
+            with self.subTest(words):
+                status, out, err = self.run_plugin(*words)
+                self.assertEqual((status, err), (0, ""))
+                self.assertEqual(out.split("\n\n")[:2], [f"About {words[0]}", out.split("\n\n")[1]])
+                self.assertIn(f"\n\nUsage: kubectl crdx {usage}\n\nArguments:\n  [NAME]\n          The name of the definition", out)
+                self.assertIn("\n\nOptions:\n  -f, --filename <FILE>\n          A file of JSON or YAML", out)
+                self.assertEqual("\n      --lines\n          Lines\n" in out, words[0] == "leaves")
+                for absent in ["--large", "--why", "--version", "./crdx", "Examples:", "<CRD>"]:
+                    self.assertNotIn(absent, out)
+                self.assertTrue(out.endswith("`crdx --help` explains the codes, and the exit\nstatus.\n"))
+                self.assertIn(out[out.index("  [VERSION]"):out.index("  [VERSION]") + 100], general)
+        status, out, err = self.run_plugin("relax", "--help", CRDX="/no/crdx")
+        self.assertEqual((status, err), (0, ""))
+        self.assertIn("\n\nUsage: kubectl crdx relax [NAME] [VERSION] [OPTIONS]\n\nArguments:\n", out)
+        self.assertEqual(self.run_plugin("what", "--help"), (1, "", "error: unrecognized subcommand\n"))
+
+    def test_version(self):
+        crdx = self.folder / "bin" / "crdx"
+        for flag in ["--version", "-V"]:
+            self.assertEqual(self.run_plugin(flag), (0, f"kubectl-crdx, which runs crdx 9.9.9 as {crdx}\n", ""))
 
     def test_words_that_are_refused(self):
-        for words in [[], ["--version"], ["-f", "crd.json", "check"]]:
+        for words in [[], ["-f", "crd.json", "check"]]:
             self.assertEqual(self.run_plugin(*words), (2, "", lines("there is no COMMAND: kubectl crdx --help says more")))
         self.file("crd.json", definition(PLAIN))
         for words in [["--what"], ["--limit", "5"], ["-f"], ["--context"]]:
@@ -433,6 +590,106 @@ class CommandLine(Runs):
     def test_no_crdx(self):
         self.file("crd.json", definition(PLAIN))
         self.assertEqual(self.run_plugin("check", "-f", "crd.json", CRDX="/no/crdx"), (70, "", lines("crdx cannot be run")))
+
+
+class Programs(Runs):
+    """Which crdx is run, in a copy of the repository with the real wrapper, and an `rt` that notes each call."""
+
+    def setUp(self):
+        super().setUp()
+        shutil.copytree(PLUGIN.parent / "crdx_schemas", self.folder / "repository" / "tools" / "crdx_schemas")
+        self.plugin = self.copy("tools/kubectl-crdx")
+        self.wrapper = self.copy("crdx")
+        self.copy("crates.txt")
+        self.file("crd.json", definition(PLAIN))
+        self.program("rt", '#!/usr/bin/env bash\necho "$*" >>"$(dirname "$0")/built"\nexit 1\n')
+
+    def copy(self, name):
+        shutil.copy(ROOT / name, self.folder / "repository" / name)
+        return self.folder / "repository" / name
+
+    def check(self, plugin):
+        return self.run_plugin("check", "-f", "crd.json", plugin=plugin, CRDX=None)
+
+    def test_the_path_before_the_wrapper(self):
+        self.assertEqual(self.check(self.plugin)[0], 0)
+        self.program("crdx", '#!/usr/bin/env bash\nexit 7\n')
+        self.assertEqual(self.check(self.plugin)[0], 7)
+
+    def test_what_is_beside_it_before_the_path(self):
+        """In a package the program is beside the plugin."""
+        (self.folder / "bin" / "crdx").rename(self.plugin.parent / "crdx")
+        self.program("crdx", '#!/usr/bin/env bash\nexit 7\n')
+        self.assertEqual(self.check(self.plugin)[0], 0)
+
+    def test_a_link(self):
+        """A link to the plugin leads to its modules, and to the wrapper of its repository."""
+        (self.folder / "bin" / "crdx").rename(self.wrapper)
+        (self.folder / "kubectl-crdx").symlink_to(self.plugin)
+        self.assertEqual(self.check(self.folder / "kubectl-crdx")[0], 0)
+
+    def test_nothing_is_built(self):
+        """The wrapper says what to do where it would have to build crdx, also where it is on the path."""
+        on_path = self.folder / "bin" / "crdx"
+        on_path.unlink()
+        self.is_refused()
+        on_path.symlink_to(self.wrapper)
+        self.is_refused()
+
+    def is_refused(self):
+        status, out, err = self.check(self.plugin)
+        self.assertEqual((status, out), (70, ""))
+        self.assertRegex(err, f"^crdx: the program is not built, .*: run {self.wrapper} --version once, [^\\n]*\\n$")
+        self.assertFalse((self.folder / "bin" / "built").exists())
+
+    def test_none(self):
+        (self.folder / "bin" / "crdx").unlink()
+        self.wrapper.unlink()
+        (self.folder / "bin" / "python3").symlink_to(sys.executable)
+        self.assertEqual(self.run_plugin("check", "-f", "crd.json", plugin=self.plugin, CRDX=None, path=""),
+                         (70, "", lines("there is no crdx beside this program or on the path")))
+
+
+class Completions(Runs):
+    """What kubectl_complete-crdx prints for words of which the last one is being typed."""
+
+    COMPLETE = PLUGIN.parent / "kubectl_complete-crdx"
+
+    def offers(self, *words):
+        status, out, err = self.run_plugin(*words, plugin=self.COMPLETE)
+        self.assertEqual((status, err), (0, ""))
+        *offered, directive = out.splitlines()
+        return offered, directive
+
+    def test_completions(self):
+        none, files = ":4", ":0"
+        options = ["--filename\tFILE", "--exact", "--context\tNAME", "--kubeconfig\tFILE", "--help", "-f\tFILE"]
+        for words, offered, directive in [
+            (["ch"], ["check\tAbout check"], none), (["re"], ["relax\tPrints a definition with a wider schema, which crdx accepts"], none),
+            (["x"], [], none), (["--"], ["--help", "--version"], none), (["help", "le"], ["leaves\tAbout leaves"], none),
+            (["check", "-"], options, none), (["relax", "--e"], ["--exact"], none), (["leaves", "--l"], ["--lines"], none),
+            (["sample", "v1", "--l"], ["--limit\tN"], none), (["sample", "--pools", ""], [], files), (["sample", "--pools=p"], [], files),
+            (["sample", "--limit", ""], [], none), (["sample", "--limit=1"], [], none), (["check", "-f", "c"], [], files),
+            (["check", "--filename", ""], [], files), (["check", "--context", ""], [], none), (["check", "--exact", ""], [], none),
+            (["pools", "--from", ""], [], files), (["validate", "-f", "crd.yaml", "o"], [], files), (["check", ""], [], none),
+            (["what", ""], [], none),
+        ]:
+            with self.subTest(words):
+                self.assertEqual(self.offers(*words), (offered, directive))
+        self.assertEqual([line.partition("\t")[0] for line in self.offers("")[0]],
+                         ["check", "explain", "validate", "pools", "sample", "leaves", "cover", "relax"])
+
+    @needs("kubectl")
+    def test_kubectl_asks_for_them(self):
+        for program in [PLUGIN, self.COMPLETE]:
+            (self.folder / "bin" / program.name).symlink_to(program)
+        for words, wanted in [
+            (["va"], ["validate\tAbout validate", ":4"]), (["validate", "-f", "c"], [":0"]), (["leaves", "--li"], ["--lines", ":4"]),
+        ]:
+            with self.subTest(words):
+                ran = subprocess.run(["kubectl", "__complete", "crdx", *words], capture_output=True, encoding="utf-8", cwd=self.folder,
+                                     env=self.environment(), check=False)
+                self.assertEqual((ran.returncode, ran.stdout.splitlines()), (0, wanted))
 
 
 # in place of either program of the name yq: it prints its words, and a definition
@@ -470,16 +727,16 @@ class Yaml(Runs):
             x: [~, 0.5, 9007199254740993, "no", no, *metadata]
             ---
             """), definition(PLAIN))
-        self.assertEqual(json.loads(self.given("validate", "-f", "all.yaml", said=["version v1, which the objects name"])[-1]), {
+        said = ["1 document of another kind beside the definition, not judged: Namespace", "version v1, which the objects name"]
+        self.assertEqual(json.loads(self.given("validate", "-f", "all.yaml", said=said)[-1]), {
             "apiVersion": "example.org/v1", "kind": "Widget", "metadata": {"name": "b"}, "x": [None, 0.5, 2**53 + 1, "no", False, {"name": "b"}]})
 
     @needs("kubectl")
     def test_a_plugin_of_kubectl(self):
         self.file("crd.yaml", "---\n", definition(PLAIN))
         (self.folder / "bin" / "kubectl-crdx").symlink_to(PLUGIN)
-        environment = {**os.environ, "CRDX": str(self.folder / "bin" / "crdx"), "PATH": f"{self.folder / 'bin'}:{os.environ['PATH']}"}
         ran = subprocess.run(["kubectl", "crdx", "check", "-f", "crd.yaml"], capture_output=True, encoding="utf-8", cwd=self.folder,
-                             env=environment, check=False)
+                             env=self.environment(), check=False)
         self.assertEqual((ran.returncode, ran.stderr), (0, lines(STORAGE)))
         self.assertEqual(json.loads(json.loads(ran.stdout)[-2]), definition(PLAIN))
 

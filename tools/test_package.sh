@@ -27,7 +27,7 @@ unset "${!GIT_@}"
 program=crates/crdx_cli/out/crdx_cli
 copy=$folder/repository
 mkdir "$copy"
-cp --parents .gitignore LICENSE CHANGELOG.md tools/{package.sh,manual.py,crdx-relax,kubectl-crdx} tools/crdx_schemas/*.py "$program" "$copy"
+cp --parents .gitignore LICENSE CHANGELOG.md tools/{package.sh,manual.py,crdx-relax,kubectl-crdx,kubectl_complete-crdx} tools/crdx_schemas/*.py "$program" "$copy"
 commit() { git -C "$copy" -c core.hooksPath=/dev/null -c user.name=Test -c user.email=test@example.org commit -q --allow-empty -m "$1"; }
 git init -q "$copy"
 git -C "$copy" add .
@@ -58,6 +58,7 @@ cat >"$places" <<'PLACES'
 crdx usr/bin/crdx
 crdx-relax usr/bin/crdx-relax
 kubectl-crdx usr/bin/kubectl-crdx
+kubectl_complete-crdx usr/bin/kubectl_complete-crdx
 crdx.1 usr/share/man/man1/crdx.1.gz
 kubectl-crdx.1 usr/share/man/man1/kubectl-crdx.1.gz
 completions/crdx.bash usr/share/bash-completion/completions/crdx
@@ -80,7 +81,7 @@ cut -d ' ' -f 2 "$places" | sort | diff - <(files_of "$root") || stop 'other fil
 
 # what is in them
 cmp "$tree/crdx" "$program"
-for tool in crdx-relax kubectl-crdx; do cmp "$tree/$tool" "tools/$tool"; done
+for tool in crdx-relax kubectl-crdx kubectl_complete-crdx; do cmp "$tree/$tool" "tools/$tool"; done
 for module in tools/crdx_schemas/*.py; do cmp "$tree/crdx_schemas/${module##*/}" "$module"; done
 cmp "$tree/LICENSE" LICENSE
 [ "$(cat "$tree/COMMIT")" = "$(git -C "$copy" rev-parse HEAD)" ] || stop 'COMMIT names another commit'
@@ -102,6 +103,7 @@ for place in "$tree" "$root/usr/bin"; do
         diff examples/widget/samples-of-4-nodes.txt - || stop "$place/crdx: sample"
     alone "$place/crdx-relax" examples/certificate/crd.json 2>"$folder/said" | diff examples/certificate/relaxed.json - || stop "$place/crdx-relax"
     [ "$(alone "$place/kubectl-crdx" check -f examples/certificate/crd.json 2>"$folder/said")" = structural ] || stop "$place/kubectl-crdx"
+    [ "$(alone "$place/kubectl_complete-crdx" cov)" = $'cover\tLists, for each field, the first sample that has it\n:4' ] || stop "$place/kubectl_complete-crdx"
 done
 
 # refuses NAME LINE: whether nothing is packed, with this line on standard error

@@ -2,5 +2,5 @@
 
 In reading order: `documents` (JSON with exact numbers), `keywords` (of schemas), `relaxing` (the wider schema), `changes` (in words),
 `judging` (values, and what crdx still refuses), `pool_values` (values for pools), `definitions` (all versions of one), `sources` (files of
-YAML, and clusters), `programs` (streams and statuses).
+YAML, and clusters), `programs` (streams and statuses), `helps` (of commands), `crdx` (the program), `completing` (completions in kubectl).
 """

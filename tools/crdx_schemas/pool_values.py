@@ -7,7 +7,7 @@ import os
 import re
 import warnings
 
-from .documents import GREATEST, LEAST, Refusal, has_decimal, in_text, is_small, read, shown
+from .documents import GREATEST, LEAST, Refusal, has_decimal, in_text, is_small, parts, read, shown
 from .judging import JUDGED, passes
 from .keywords import BOUNDS, ENVELOPE, branches_of, is_number, kind_of
 
@@ -148,6 +148,26 @@ def step_text(name):
     return name.replace("~", "~0").replace("/", "~1").replace("[", "~2").replace("{", "~3")
 
 
+def name_of_step(step):
+    """The name that a step of the path of a field is for."""
+    return step.replace("~3", "{").replace("~2", "[").replace("~1", "/").replace("~0", "~")
+
+
+def is_at_or_below(path, top):
+    return path == top or path.startswith(f"{top}/")
+
+
+def values_at(trees, path):
+    """What trees have at the path of a field, all items of a list and all values of a map together."""
+    for step in path.split("/")[1:]:
+        name = name_of_step(step)
+        if step in ("[]", "{}"):
+            trees = [part for tree in trees for part in parts(tree)]
+        else:
+            trees = [tree[name] for tree in trees if isinstance(tree, dict) and name in tree]
+    return trees
+
+
 def leaves(before, after, path=""):
     """The path of each scalar or open place of a relaxed schema, and its schema as it was written."""
     kind = kind_of(after, "property")
@@ -188,10 +208,42 @@ def add_to_pools(file, schema):
     return lines_on_pools(pools["paths"], found)
 
 
+def line_on_place(path, values):
+    """The line on a place that has no values in pools."""
+    return f"pools: no room for {shown(path)}" if values else f"pools: no value found for {shown(path)}"
+
+
 def lines_on_pools(paths, found):
     """The lines on the places that have no values in the pools, and on pools that are read with --large alone."""
     for path, values in found.items():
         if path not in paths:
-            yield f"pools: no room for {shown(path)}" if values else f"pools: no value found for {shown(path)}"
+            yield line_on_place(path, values)
     if len(paths) > MOST_PATHS[0]:
         yield f"pools: {len(paths)} paths; allowed are {MOST_PATHS[0]}, and {MOST_PATHS[1]} with --large"
+
+
+def two_of(values):
+    """The first integer and the first text, or else the first two values."""
+    firsts = list({type(value): value for value in reversed(values)}.values())
+    return firsts if len(firsts) == 2 else values[:2]
+
+
+def without_repetitions(values):
+    return list({shown(value): value for value in reversed(values)}.values())[::-1]  # by their texts, since true is 1 in Python
+
+
+def add_found_values(pools, found, trees, is_around):
+    """Writes two of the values found for each place into pools that crdx suggests, where the trees, which are objects, have none there; in
+    pools around an object behind its own. Answers the lines on the places that have neither."""
+    listed, lines = pools.get("paths", {}), []
+    for path, values in found.items():
+        texts = set(map(shown, values_at(trees, path)))
+        own = [value for value in listed.get(path, []) if shown(value) in texts]
+        if values and (is_around or not own):
+            listed[path] = without_repetitions([*own, *two_of(values)])
+        elif not own:
+            lines.append(line_on_place(path, values))
+    lines += [line_on_place(path, listed.pop(path)) for path in list(listed)[MOST_PATHS[1]:]]
+    if listed:
+        pools["paths"] = listed
+    return lines
