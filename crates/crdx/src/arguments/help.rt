@@ -405,7 +405,7 @@ pub(super) const LARGE_LONG: &str =
 steps of a place in place of 24, 1024 properties, required fields or
 values of an `enum` in place of 32, 32 and 64, and 8 keys of a map
 list in place of 4. Pools may have 1024 paths, and 1024 entries in
-each list, in place of 64; `names` has at most 32 as before.";
+each list, in place of 64; `names` stays at 32.";
 
 pub(super) const WHY: &str = "Says why a schema or an input is refused";
 
