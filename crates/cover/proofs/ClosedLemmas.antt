@@ -202,14 +202,8 @@ unfixed P F ps at N t allows none = absurd allows
 
 -- ---- one field, and several
 
-pub same_kept : (root : Node) (P : Pools) → KeepsFirst root P P
-same_kept root P = record { first = λ limit t small next. next; good = λ good. good }
-
 pub then_kept : (root : Node) (P Q R : Pools) → KeepsFirst root P Q → KeepsFirst root Q R → KeepsFirst root P R
 then_kept root P Q R a b = record { first = λ limit t small next. a.first limit t small (b.first limit t small next); good = λ good. b.good (a.good good) }
-
-pub same_kept_on : (root : Node) (front : FieldPath) (P : Pools) → KeepsFirstOn root front P P
-same_kept_on root front P = λ way. (same_kept root P, way)
 
 pub then_kept_on : (root : Node) (front : FieldPath) (P Q R : Pools) → KeepsFirstOn root front P Q → KeepsFirstOn root front Q R → KeepsFirstOn root front P R
 then_kept_on root front P Q R a b = λ way.

@@ -1,11 +1,8 @@
 -- Where a path is there, the rest of it is there in the parts to which its first step leads.
 use Rattle.std.proofs.Common.{◌≡◌, ℕ, zero, suc, List, [], ◌∷◌, ◌++◌, Bool, true, false, Option, Some, None, refl, sym, ap, subst, ◌∙◌, inl, inr, arith}
-use Rattle.std.specs.Prelude.{◌||◌, ◌==◌, not, nat_lt, is_some, length}
-use Rattle.jtree.specs.View.{items_of, members_of}
-use Rattle.jtree.specs.declared.value.Tree.{Tree}
-use Rattle.jtree.specs.declared.value.Member.{Member}
+use Rattle.std.specs.Prelude.{◌||◌, nat_lt, is_some}
 use Rattle.std.specs.Str.{bytes_eq}
-use Rattle.std.proofs.lemmas.Bool.{and_parts, and_from, or_cases, lt-ltb, ne_eqb}
+use Rattle.std.proofs.lemmas.Bool.{and_parts, and_from, or_cases, lt-ltb}
 use Rattle.jtree.specs.Data.{Data, Items, no_items, item, Members, no_members, member, AreMembers}
 use Rattle.jtree.specs.Data as tree
 use Rattle.jtree.specs.Path.{Step, part_by, member_at, item_at}
@@ -157,24 +154,6 @@ kept_pass test v (d ∷ ds) is = elim (bool_cases (test d)) [
       ]
   | inr f ↦ kept_pass test v ds (rw f at is)
 ]
-
--- ---- lists and objects of the code
-
-pub items_refused : (test : Data → Bool) (ds : Items) → all_items test ds ≡ false → has_items test ds ≡ false
-items_refused test no_items none = refl
-items_refused test (item d ds) none = none
-
-pub values_refused : (test : Data → Bool) (ms : Members) → all_values test ms ≡ false → has_values test ms ≡ false
-values_refused test no_members none = refl
-values_refused test (member k d ms) none = none
-
-pub items_passed : (test : Data → Bool) (ts : List Tree) → all_items test (items_of ts) ≡ true → has_items test (items_of ts) ≡ not (length ts == 0)
-items_passed test [] all = refl
-items_passed test (t ∷ ts) all = all ∙ ap not (sym (ne_eqb (length (t ∷ ts)) 0 (λ e. absurd (omega (arith, e)))))
-
-pub values_passed : (test : Data → Bool) (ms : List Member) → all_values test (members_of ms) ≡ true → has_values test (members_of ms) ≡ not (length ms == 0)
-values_passed test [] all = refl
-values_passed test (m ∷ ms) all = all ∙ ap not (sym (ne_eqb (length (m ∷ ms)) 0 (λ e. absurd (omega (arith, e)))))
 
 -- ---- a path of which a beginning is nowhere
 

@@ -76,7 +76,8 @@ pub trait Inputs {
     // What the file of this name has, or the standard input where there is no name: a document, or why there is none.
     ghost has: { Self → Option (List ℕ) → Result Data JFault → Type 0 };
 
-    // The lines of the file of this name, or of the standard input where there is no name: those of its bytes (`AreLines`).
+    // What the lines of the file of this name, or of the standard input where there is no name, can be, as the implementation
+    // has it: of known bytes their lines (`AreLines`), of unknown ones any. No clause ties them to bytes.
     ghost lines: { Self → Option (List ℕ) → List (List ℕ) → Type 0 };
 
     // The lines still to come of the input that was opened last.

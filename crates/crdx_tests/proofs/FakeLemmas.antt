@@ -2,7 +2,7 @@
 use Rattle.std.proofs.Common.{◌⊎◌, ◌<◌, ◌+◌, ℕ, List, [], ◌∷◌, length, Option, Some, None, inl, inr, arith}
 use Rattle.std.proofs.Math.ListN.{replicate}
 use Rattle.std.proofs.lemmas.List.{length-replicate}
-use Rattle.jtree.specs.Lines.{TakesLine, HasLongLine}
+use Rattle.jtree.specs.Lines.{HasLongLine}
 use Rattle.jtree.specs.Reads.{most_bytes}
 use Rattle.crdx_tests.specs.ComingLines.{AreComing, some_lines}
 use Rattle.jtree.specs.declared.fault.JFault.TheVariants.{NotAnInteger, NoMemory, NotJson, TooLong, ReadFailed}
@@ -28,11 +28,6 @@ module _ (first second : List ℕ) (name : Option (List ℕ)) where
   fault_of_second (Document ReadFailed) h = absurd h
 
 -- ---- lines
-
-pub taken_line : (old new : Option (List ℕ)) (line : List ℕ) → TakesLine old new line → (lines : List (List ℕ)) → AreComing new lines → AreComing old (line ∷ lines)
-taken_line None new line takes lines are = tt
-taken_line (Some bytes) None line takes lines are = absurd takes
-taken_line (Some bytes) (Some rest) line takes lines are = (rest, takes, are)
 
 long_text : (n : ℕ) → (line : List ℕ) × (n < length line)
 long_text n = (replicate {A = ℕ} (n + 1) 0, omega (arith, length-replicate {A = ℕ} (n + 1) 0))

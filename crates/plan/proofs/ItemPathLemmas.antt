@@ -1,5 +1,5 @@
 -- Which texts are those of the items of a map list, by the text before the last step.
-use Rattle.std.specs.Prelude.{◌≡◌, ◌≢◌, ◌↔◌, ℕ, List, [], ◌∷◌, ◌++◌, Bool, true, false, Some, not}
+use Rattle.std.specs.Prelude.{◌≡◌, ◌↔◌, ℕ, List, [], ◌∷◌, ◌++◌, Bool, true, false, Some, not}
 use Rattle.std.proofs.Common.{refl, ap, sym, ◌∙◌, subst}
 use Rattle.std.proofs.lemmas.Option.{same_Some}
 use Rattle.std.proofs.lemmas.List.{append-nil, append_assoc, append_cancel_right}
@@ -11,7 +11,7 @@ use Rattle.explain.specs.Fields.Declared.{IsDeclared}
 use Rattle.explain.specs.Fields.PathFault.{IsTextOf, IsPathFault}
 use Rattle.explain.specs.declared.fault.XFault.{XFault}
 use Rattle.explain.specs.declared.fault.XFault.TheVariants.{BadPath as BadText, NoSuchField}
-use Rattle.plan.specs.Pools.FixedPaths.{is_map_list, IsMapItem, IsFixablePath}
+use Rattle.plan.specs.Pools.FixedPaths.{is_map_list, IsFixablePath}
 use Rattle.plan.specs.Internal.PathLists.{IsMapListText}
 use Rattle.plan.proofs.PoolPathLemmas.{OneText}
 
@@ -24,10 +24,6 @@ pub bad_item : OneText → (root N : Node) (q : FieldPath) (text : List ℕ) →
 bad_item one root N q text is found map h =
     let same : h.0 ≡ q ++ item ∷ [] = one h.0 (q ++ item ∷ []) (h.1 ∙ is ∙ sym (join_text q item)) in
     h.2.1 (q, (same, (N, (found, map))))
-
--- a text that does not end so is not that of items
-pub no_item : (root : Node) (p : FieldPath) → ((before : List ℕ) → path_text p ≡ before ++ step_text item → ⊥) → IsMapItem root p → ⊥
-no_item root p none m = none (path_text m.0) (ap path_text m.1.0 ∙ join_text m.0 item)
 
 -- whether a path that leads to this node leads to a map list
 pub known_list : OneText → (root N : Node) (q : FieldPath) (text : List ℕ) → path_text q ≡ text → node_at root (place_of q) ≡ Some N → (is_map_list N ≡ true) ↔ IsMapListText root text
@@ -66,6 +62,3 @@ item_path one root N text before false t is list = (
   )),
   λ h. refl,
 )
-
-pub other_path : (root N : Node) (text : List ℕ) → IsTextOf (λ p. IsDeclared root p × (node_at root (place_of p) ≡ Some N)) text → ((before : List ℕ) → text ≢ before ++ step_text item) → IsFixablePath root text
-other_path root N text t none = (t.0, t.1, (t.2.0, no_item root t.0 (λ before is. none before (sym t.1 ∙ is))))

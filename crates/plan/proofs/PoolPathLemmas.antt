@@ -11,7 +11,6 @@ use Rattle.std.proofs.lemmas.List.Elements.{Contains-append_left, Contains-push,
 use Rattle.jtree.specs.Data.{Data, Members, member, AreMembers}
 use Rattle.jtree.specs.Order.{text_cmp}
 use Rattle.jtree.specs.Internal.Lookups.{bool_cases, same_name, not_itself, member_first, member_later, member_tail, before_each}
-use Rattle.jtree.specs.Internal.Rising.{contained}
 use Rattle.schema.specs.Nodes.Node.{Node}
 use Rattle.schema.specs.Nodes.ByPlace.{node_at}
 use Rattle.explain.specs.Paths.FieldPath.{FieldPath, place_of}
@@ -99,9 +98,6 @@ first_bad Good k d rest all r bad = r.bad k (bad_here Good k d rest r.ordered ba
 -- what is known of the first bad one of some texts
 abbrev pub IsFirstOf : (List ℕ → Type 0) → List (List ℕ) → Option (List ℕ) → Type 0
 IsFirstOf Good xs first = MatchOption first (AreGood (Contains xs) Good) (IsFirstBad (Contains xs) Good)
-
-pub none_first : (Good : List ℕ → Type 0) → IsFirstOf Good [] None
-none_first Good text c = absurd (contained [] text c)
 
 -- one good text more
 pub good_more : (Good : List ℕ → Type 0) (xs : List (List ℕ)) (x : List ℕ) (first : Option (List ℕ)) → IsFirstOf Good xs first → Good x → IsFirstOf Good (xs ++ x ∷ []) first

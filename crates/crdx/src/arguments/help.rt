@@ -405,7 +405,7 @@ pub(super) const LARGE_LONG: &str =
 steps of a place in place of 24, 1024 properties, required fields or
 values of an `enum` in place of 32, 32 and 64, and 8 keys of a map
 list in place of 4. Pools may have 1024 paths, and 1024 entries in
-each list, in place of 64.";
+each list, in place of 64; `names` stays at 32.";
 
 pub(super) const WHY: &str = "Says why a schema or an input is refused";
 
@@ -427,9 +427,10 @@ pub(super) const VARY: &str = "A path at which samples differ from the object of
 pub(super) const VARY_LONG: &str =
     "A path, as `crdx explain` prints it, at which samples differ from the
 object of --from: at all other paths they have what the object has,
-and lack what it lacks. The path leads through objects alone, and the
-object has the field above it. May be given more than once, with one
-object.";
+and lack what it lacks. Only the object that the field belongs to may
+be null too, where it is nullable and has no fields but varied ones.
+The path leads through objects alone, and the object has the field
+above it. May be given more than once, with one object.";
 
 pub(super) const WITHOUT: &str = "A path of a field that no sample has";
 

@@ -1,8 +1,8 @@
 //! The plain reference, and walks, against lists of samples that were made by hand.
 use crate::support::comparison::compare_plan;
 use crate::support::documents::{
-    DEFAULTED, LABELS, LONG_MAP_LIST, OPEN, OPEN_NULLABLE, REQUIRED_LONG_MAP_LIST, SIX_SETS, SPEC,
-    TEN_LINES, TWO_TEXTS, ZERO_AND_ONE,
+    LABELS, LONG_MAP_LIST, OPEN, OPEN_NULLABLE, REQUIRED_LONG_MAP_LIST, SIX_SETS, SPEC, TEN_LINES,
+    TWO_TEXTS, ZERO_AND_ONE,
 };
 use crate::support::fakes::FailingSink;
 use crate::support::given::{
@@ -13,7 +13,7 @@ use crate::support::harness::{is_said, is_tree};
 use crate::support::pages::{WalkInput, listed, plain_lines, walked};
 use crate::support::report::Report;
 use jtree::Tree;
-use std::alloc::{AllocError, Global};
+use std::alloc::Global;
 use std::test::Fail;
 
 const TWO_KEYS: &str =

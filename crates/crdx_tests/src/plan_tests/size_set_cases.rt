@@ -2,7 +2,7 @@
 use crate::support::plans::are_sizes;
 use crate::support::report::Report;
 use plan::SizeSet;
-use std::alloc::{AllocError, Global};
+use std::alloc::Global;
 use std::test::Fail;
 
 /// The set of these members, none of which is too large.

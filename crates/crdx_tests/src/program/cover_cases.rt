@@ -418,6 +418,7 @@ crdx: 3 values are in no sample of at most 2 nodes
 
 #[test]
 fn covers(rt: HostRuntime) -> Result<(), Fail> {
+    cover::laws::lines_cover();
     let mut report = Report::new(rt.alloc());
     all_schema_runs(&mut report, rt.alloc(), &FIELDS);
     all_schema_runs(&mut report, rt.alloc(), &LISTS_AND_MAPS);

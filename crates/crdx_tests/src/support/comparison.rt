@@ -19,7 +19,7 @@ use explain::{Step, path_below};
 use jtree::{Text, Tree};
 use plan::{Meter, Plan, PlanNode, Pools, Sort};
 use schema::{Fields, Node, Sort as NodeSort};
-use std::alloc::{AllocError, Global};
+use std::alloc::Global;
 use std::test::Fail;
 use stored::is_stored;
 
