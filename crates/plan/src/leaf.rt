@@ -22,7 +22,7 @@ use crate::{Pools, SizeSet, laws};
 use jtree::Tree;
 use schema::{Node, Sort};
 use std::alloc::{AllocError, Global};
-use stored::is_stored;
+use stored::check_stored;
 
 /// The trees among which the candidates of a leaf are: the values of the pools, which all nodes share, or a list of its own (`enum`, a
 /// list for its path, or its fixed values).
@@ -150,7 +150,7 @@ pub(crate) fn stored_places(
     let mut places = Vec::with_capacity(alloc, trees.len())?;
     for (place, tree) in trees.iter().enumerate() {
         tree.reveal_invariant();
-        if is_stored(node, tree) {
+        if check_stored(alloc, node, tree)? {
             places.push(place)?;
         }
     }

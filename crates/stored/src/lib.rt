@@ -43,6 +43,6 @@ pub use fault::{Fault, LFault};
 pub use leaf::Leaf;
 pub use listing::leaves;
 pub use pruning::prune;
-pub use storing::is_stored;
+pub use storing::{check_stored, is_stored};
 pub use tests::is_within;
 pub use validity::valid;

@@ -20,8 +20,9 @@ pub fn is_stored(node: &Node, tree: &Tree) -> bool
     valid(node, tree) && (is_pruned(node, tree) && is_filled(node, tree))
 }
 
-/// The same in time that is close to linear.
-pub(crate) fn check_stored(alloc: Global, node: &Node, tree: &Tree) -> Result<bool, AllocError>
+/// As `is_stored`, in time that is close to linear in the tree, also for sets and map lists whose items do not ascend: it keeps tables of
+/// their items or keys. `AllocError` where an allocation fails.
+pub fn check_stored(alloc: Global, node: &Node, tree: &Tree) -> Result<bool, AllocError>
     ensures { IfOk result (λ b. Decides b (IsStored (node_of node.now) (data_of tree.now))) }
 {
     let valid = is_faultless(alloc, node, tree)?;
