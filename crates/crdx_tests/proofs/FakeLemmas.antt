@@ -1,12 +1,9 @@
 -- Why one of two documents that are at hand under every name is none.
-use Rattle.std.proofs.Common.{◌⊎◌, ◌<◌, ◌+◌, ℕ, List, [], ◌∷◌, length, Option, Some, None, inl, inr, arith}
-use Rattle.std.proofs.Math.ListN.{replicate}
-use Rattle.std.proofs.lemmas.List.{length-replicate}
-use Rattle.jtree.specs.Lines.{HasLongLine}
-use Rattle.jtree.specs.Reads.{most_bytes}
-use Rattle.crdx_tests.specs.ComingLines.{AreComing, some_lines}
+use Rattle.std.proofs.Common.{◌⊎◌, ℕ, List, Option, Some, None, inl, inr}
+use Rattle.jtree.specs.Lines.{TakesLongLine}
+use Rattle.crdx_tests.specs.ComingLines.{AreComing}
 use Rattle.jtree.specs.declared.fault.JFault.TheVariants.{NotAnInteger, NoMemory, NotJson, TooLong, ReadFailed}
-use Rattle.crdx.specs.Program.InputFault.{IsReading, IsFaultOf, IsInputFault}
+use Rattle.crdx.specs.Program.InputFault.{IsReading, IsFaultOf, IsInputFault, TakesLongLine as TakesLongComing}
 use Rattle.crdx.specs.declared.inputs.InFault.{InFault}
 use Rattle.crdx.specs.declared.inputs.InFault.TheVariants.{Failed, Document}
 
@@ -29,9 +26,7 @@ module _ (first second : List ℕ) (name : Option (List ℕ)) where
 
 -- ---- lines
 
-long_text : (n : ℕ) → (line : List ℕ) × (n < length line)
-long_text n = (replicate {A = ℕ} (n + 1) 0, omega (arith, length-replicate {A = ℕ} (n + 1) 0))
-
-pub long_line : (known : Option (List ℕ)) → HasLongLine known → (line : List ℕ) × (lines : List (List ℕ)) × AreComing known (line ∷ lines) × (most_bytes < length line)
-long_line None long = let text = long_text most_bytes in (text.0, [], tt, text.1)
-long_line (Some bytes) (line, rest, first, long) = let later = some_lines rest in (line, later.0, (rest, first, later.1), long)
+pub long_line : (old new : Option (List ℕ)) → TakesLongLine old new → TakesLongComing (AreComing old) (AreComing new)
+long_line None new (line, takes, long) = record { line = line; long = long; takes = λ lines later. tt }
+long_line (Some bytes) None (line, takes, long) = absurd takes
+long_line (Some bytes) (Some rest) (line, first, long) = record { line = line; long = long; takes = λ lines later. (rest, first, later) }

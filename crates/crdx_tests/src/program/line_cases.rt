@@ -240,8 +240,8 @@ static LINES: [SchemaRun<'static>; 7] = [
         command: "crdx validate crd.json v1 object.json --lines",
         schema: SCHEMA,
         second: "{}\n{}\n\n{\"a\":0}\n",
-        out: "",
-        err: "crdx: object: 3: J3\n",
+        out: "3: J3\n4: F04 \"/a\"\n",
+        err: "",
         status: 3,
     },
     SchemaRun {
@@ -250,28 +250,55 @@ static LINES: [SchemaRun<'static>; 7] = [
         schema: SCHEMA,
         second: "{\n}\n",
         out: "",
-        err: "crdx: object: 1: J3\n",
+        err: "crdx: object: 1: J3\ncrdx: object: 2: J3\n",
         status: 3,
     },
     SchemaRun {
         name: "two objects on a line",
         command: "crdx prune crd.json v1 object.json --lines",
         schema: SCHEMA,
-        second: "{}\n{} {}\n",
-        out: "{}\n",
+        second: "{}\n{} {}\n{\"a\":1}\n",
+        out: "{}\n{\"a\":1}\n",
         err: "crdx: object: 2: J3\n",
         status: 3,
     },
 ];
 
-static REFUSALS: [SchemaRun<'static>; 5] = [
+static REFUSALS: [SchemaRun<'static>; 9] = [
     SchemaRun {
         name: "a number that is refused, after an object with a fault",
         command: "crdx validate crd.json v1 object.json --lines",
         schema: SCHEMA,
         second: REFUSED,
-        out: "1: F04 \"/a\"\n",
+        out: "1: F04 \"/a\"\n2: J1\n3: F04 \"/a\"\n",
+        err: "",
+        status: 3,
+    },
+    SchemaRun {
+        name: "a number that is refused, among leaves",
+        command: "crdx leaves crd.json v1 object.json --lines",
+        schema: SCHEMA,
+        second: "{\"b\":\"y\"}\n{\"a\":0.5}\n{\"b\":\"z\"}\n",
+        out: "1: [\"f:b\"]\n2: J1\n3: [\"f:b\"]\n",
+        err: "",
+        status: 3,
+    },
+    SchemaRun {
+        name: "a number that is refused, among completed objects",
+        command: "crdx default crd.json v1 object.json --lines",
+        schema: SCHEMA,
+        second: "{\"a\":1}\n{\"a\":0.5}\n{\"a\":2}\n",
+        out: "{\"a\":1,\"b\":\"x\"}\n{\"a\":2,\"b\":\"x\"}\n",
         err: "crdx: object: 2: J1\n",
+        status: 3,
+    },
+    SchemaRun {
+        name: "why it is refused, among completed objects",
+        command: "crdx default crd.json v1 object.json --lines --why",
+        schema: SCHEMA,
+        second: "{\"a\":0.5}\n{\"a\":1}\n",
+        out: "{\"a\":1,\"b\":\"x\"}\n",
+        err: "crdx: object: 1: J1\n    found 0.5 at \"/a\"; allowed are integers of 64 bits\n",
         status: 3,
     },
     SchemaRun {
@@ -279,7 +306,7 @@ static REFUSALS: [SchemaRun<'static>; 5] = [
         command: "crdx validate crd.json v1 object.json --lines --why",
         schema: SCHEMA,
         second: REFUSED,
-        out: "1: F04 \"/a\"\n",
+        out: "1: F04 \"/a\"\n2: J1\n3: F04 \"/a\"\n",
         err: "crdx: object: 2: J1\n    found 0.5 at \"/a\"; allowed are integers of 64 bits\n",
         status: 3,
     },
@@ -290,6 +317,15 @@ static REFUSALS: [SchemaRun<'static>; 5] = [
         second: FOUR,
         out: "",
         err: "crdx: object: read failed\n",
+        status: 4,
+    },
+    SchemaRun {
+        name: "why it cannot be opened",
+        command: "crdx validate crd.json v1 missing.json --lines --why",
+        schema: SCHEMA,
+        second: FOUR,
+        out: "",
+        err: "crdx: object: read failed\n    \"missing.json\" is not there\n",
         status: 4,
     },
     SchemaRun {
@@ -347,7 +383,7 @@ struct LongLine {
     status: u8,
 }
 
-// A line may be as long as a document, and no longer; the lines before it are answered.
+// A line may be as long as a document, and no longer; the lines beside it are answered.
 static LONG_LINES: [LongLine; 2] = [
     LongLine {
         name: "a line as long as a document",
@@ -359,7 +395,7 @@ static LONG_LINES: [LongLine; 2] = [
     LongLine {
         name: "a longer line",
         spaces: MOST_BYTES - 1,
-        out: "{}\n",
+        out: "{}\n{\"a\":1}\n",
         err: "crdx: object: 2: J4\n",
         status: 3,
     },

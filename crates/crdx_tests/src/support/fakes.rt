@@ -1,14 +1,13 @@
 //! Sinks and sources that can fail, and documents of memory.
-ghost use Rattle.std.specs.Prelude.{Some, Ok, Err, ◌≡◌, ◌⊎◌, ◌<◌, ◌∷◌, [], ℕ, List, true, false, length, IfOk, IfErr, IfSome};
-ghost use Rattle.jtree.specs.Reads.{most_bytes};
+ghost use Rattle.std.specs.Prelude.{Some, Ok, Err, ◌≡◌, ◌⊎◌, ◌∷◌, [], ℕ, List, true, false, IfOk, IfErr, IfSome};
 ghost use Rattle.jtree.specs.declared.fault.JFault.TheVariants.{TooLong};
 ghost use Rattle.jtree.specs.Lines.{AreLines};
 ghost use Rattle.crdx_tests.specs.ComingLines.{AreComing, some_of_feed};
 ghost use Rattle.jtree.specs.View.{data_of};
-ghost use Rattle.crdx.specs.Program.InputFault.{IsReading, IsFaultOf, failures_after_read};
+ghost use Rattle.crdx.specs.Program.InputFault.{IsReading, IsFaultOf, TakesLongLine, failures_after_read};
 ghost use Rattle.crdx.specs.Output.Sink.{failures_after};
 
-use crdx::inputs::{InFault, Inputs};
+use crdx::inputs::{InFault, Inputs, Unread};
 use crdx::sink::{Sink, SinkFault};
 use jtree::lines::{LineFeed, LineSource};
 use jtree::source::{Source, SourceFault};
@@ -234,9 +233,8 @@ fn next_of<'a>(feed: &mut LineFeed<FailingSource<'a>>, line: &mut Vec<u8>) -> Re
         → AreComing (⟦<LineFeed<FailingSource<'a>> as LineSource>⟧.remaining feed.old) (line.new.items ∷ ls)) }
     ensures end { IfOk result (λ more. more ≡ false
         → AreComing (⟦<LineFeed<FailingSource<'a>> as LineSource>⟧.remaining feed.old) []) }
-    ensures too_long { result ≡ Err TooLong → (l : List ℕ) × (ls : List (List ℕ))
-        × AreComing (⟦<LineFeed<FailingSource<'a>> as LineSource>⟧.remaining feed.old) (l ∷ ls)
-        × (most_bytes < length l) }
+    ensures too_long { result ≡ Err TooLong → TakesLongLine (AreComing (⟦<LineFeed<FailingSource<'a>> as LineSource>⟧.remaining feed.old))
+        (AreComing (⟦<LineFeed<FailingSource<'a>> as LineSource>⟧.remaining feed.new)) }
 {
     feed.next_line(line)
 }
@@ -321,5 +319,12 @@ impl<'a> Inputs for FakeInputs<'a> {
     fn size(&self, name: Option<&str>) -> Option<u64> {
         name?;
         Some(self.refused.len() as u64)
+    }
+
+    fn unread(&self, name: Option<&str>) -> Unread {
+        match name {
+            Some("crd.json" | "pools.json" | "object.json") | None => Unread::Other,
+            Some(_) => Unread::NotThere,
+        }
     }
 }
