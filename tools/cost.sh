@@ -420,6 +420,10 @@ for pools in small-pools pools-of-2021-places full-pools; do
     within "cover of 2021 places over $pools" 5 65536 cover "$folder/2021-places" v1 --large --pools "$folder/$pools"
 done
 
+# a fixed set whose items do not ascend
+descending 80000 | between '{"fixed":{"/x":[' ']}}' >"$folder/descending-pools"
+within 'samples of a fixed set of 80000 descending integers' 1 65536 sample "$folder/set" v1 --pools "$folder/descending-pools" --limit 1
+
 # objects on lines: samples are valid, so of each nothing is written
 issuer=examples/issuer
 crates/crdx_cli/out/crdx_cli sample $issuer/crd.json v1 --pools $issuer/pools.json --limit 63 --count 10000 >"$folder/issuers" 2>"$folder/errors"

@@ -1,5 +1,5 @@
 -- How the causes of a run and its status go together with what is asked of the documents at hand.
-use Rattle.std.proofs.Common.{◌≡◌, ◌≢◌, ◌⊎◌, ◌≤◌, ◌<◌, ℕ, List, [], ◌∷◌, Option, Some, None, Bor, Ok, Err, refl, subst, inl, inr, take, map, string_bytes, IsSomeAnd, Bool, true, arith}
+use Rattle.std.proofs.Common.{◌≡◌, ◌≢◌, ◌⊎◌, ◌≤◌, ◌<◌, ℕ, List, [], ◌∷◌, Option, Some, None, Bor, Ok, Err, refl, subst, inl, inr, take, map, string_bytes, IsSomeAnd, Bool, true, arith, length, append-nil, ◌∙◌}
 use Rattle.std.specs.Prelude.{IfSome, IfOk, IfErr, OnOk, OnErr, Result}
 use Rattle.std.specs.Io.KnownBytes.{Appends, Keeps}
 use Rattle.jtree.specs.Data.{Data}
@@ -254,6 +254,16 @@ flush_cause law q after count e lines_out n end old new before now sample wrote 
   λ items end' page.
       inr (subst (λ us. Appends old new (lines e us)) (law.0 q after count wrote.items items end end' wrote.page page) wrote.written),
 )
+
+-- no lines are written, so nothing is
+no_lines : (e : Option Envelope) (items : List Data) (old new : Option (List ℕ)) → length items ≡ 0 → Appends old new (lines e items) → Keeps old new
+no_lines e items None new none written = tt
+no_lines e [] (Some xs) (Some ys) none written = written ∙ append-nil xs
+no_lines e [] (Some xs) None none written = absurd written
+no_lines e (d ∷ items) (Some xs) new none written = absurd (omega (arith, none))
+
+pub nothing_written : (q : Question) (after : Option Data) (count : ℕ) (e : Option Envelope) (lines_out : ℕ) (end : Bool) (old new : Option (List ℕ)) → WritesPage q after count e lines_out end old new → lines_out ≡ 0 → Keeps old new
+nothing_written q after count e lines_out end old new wrote none = no_lines e wrote.items old new (omega (arith, wrote.counted, none)) wrote.written
 
 module _ (run : Effects) (arguments : SampleArguments) where
   abbrev IsWalkCauseOf : Question → Option Data → Option Envelope → Cause → Type 0

@@ -110,14 +110,12 @@ fn say_paths(
     arguments: &SampleArguments<'_>,
     said: &mut String,
 ) -> Result<(), AllocError> {
-    let limit = arguments.limit;
+    let most = node_count(alloc, arguments.limit)?;
     let missed = covered.missed.iter().filter(|w| w.value.is_none()).count();
     let first = match missed {
         0 => String::from_str(alloc, "crdx: all paths are in some sample\n")?,
-        1 => format!(in alloc; "crdx: 1 path is in no sample of at most {limit} nodes\n")?,
-        count => format!(in alloc;
-            "crdx: {count} paths are in no sample of at most {limit} nodes\n"
-        )?,
+        1 => format!(in alloc; "crdx: 1 path is in no sample of at most {most}\n")?,
+        count => format!(in alloc; "crdx: {count} paths are in no sample of at most {most}\n")?,
     };
     said.push_str(first.as_str())?;
     if arguments.common.why {
@@ -138,14 +136,12 @@ fn say_values(
     arguments: &SampleArguments<'_>,
     said: &mut String,
 ) -> Result<(), AllocError> {
-    let limit = arguments.limit;
+    let most = node_count(alloc, arguments.limit)?;
     let missed = covered.missed.iter().filter(|w| w.value.is_some()).count();
     let first = match missed {
         0 => return Ok(()),
-        1 => format!(in alloc; "crdx: 1 value is in no sample of at most {limit} nodes\n")?,
-        count => format!(in alloc;
-            "crdx: {count} values are in no sample of at most {limit} nodes\n"
-        )?,
+        1 => format!(in alloc; "crdx: 1 value is in no sample of at most {most}\n")?,
+        count => format!(in alloc; "crdx: {count} values are in no sample of at most {most}\n")?,
     };
     said.push_str(first.as_str())?;
     if arguments.common.why {
@@ -159,4 +155,12 @@ fn say_values(
         }
     }
     Ok(())
+}
+
+/// A number of nodes, in words.
+fn node_count(alloc: Global, count: u32) -> Result<String, AllocError> {
+    match count {
+        1 => String::from_str(alloc, "1 node"),
+        _ => format!(in alloc; "{count} nodes"),
+    }
 }

@@ -17,7 +17,6 @@ use crate::running::explanation::objects::unstored_text;
 use crate::running::explanation::pools::{path_text, pools_text, suggestion_text};
 use crate::running::explanation::samples::no_sample_text;
 use crate::running::lines::all_lines;
-use crate::walk::Walked;
 use jtree::Tree;
 use plan::{PFault, Plan, PoolLimits, Pools, SizeSet};
 use schema::{Limits, Node, RawSchema};
@@ -128,21 +127,21 @@ impl Explanation {
         }
     }
 
-    /// Why there is no sample, where a listing from the first one on is empty; of any other listing that did not fail nothing is said.
+    /// Why there is no sample.
     pub fn explain_end<Z: SizeSet>(
         &mut self,
         alloc: Global,
         plan: Plan<Z>,
-        after: Option<&str>,
-        walked: &Result<Walked, Cause>,
-    ) {
-        let Ok(walked) = walked else {
-            return;
-        };
-        self.lines = Ok(None);
-        if self.is_asked && after.is_none() && walked.lines == 0 {
-            self.say(alloc, no_sample_text(alloc, plan));
+    ) -> Result<(), AllocError> {
+        if self.is_asked {
+            self.lines = Ok(line_of(alloc, no_sample_text(alloc, plan))?);
         }
+        Ok(())
+    }
+
+    /// Nothing is to be said, since nothing is refused.
+    pub fn withdraw(&mut self) {
+        self.lines = Ok(None);
     }
 
     /// Why a path leads to no field.

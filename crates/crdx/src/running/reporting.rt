@@ -115,7 +115,7 @@ pub(crate) fn report_alone<E: Sink>(alloc: Global, cause: &Cause, err: &mut E) -
 }
 
 /// Says on `err` whether more samples are left, with the explanation of a listing that is empty, or why the listing ended early, and
-/// answers the exit status. Where there is no memory for the explanation, it is left out.
+/// answers the exit status.
 pub(crate) fn finish_samples<E: Sink>(
     alloc: Global,
     walked: &Result<Walked, Cause>,

@@ -82,9 +82,18 @@ fn sample_with<Z: SizeSet, I: Inputs, W: Sink>(
     }) arguments.now result }
 {
     let mut sample_inputs = sample_inputs::<Z, I>(alloc, arguments, inputs, explanation)?;
-    let walked = write_samples(alloc, arguments, &mut sample_inputs, out);
-    explanation.explain_end(alloc, sample_inputs.plan, arguments.after, &walked);
-    walked
+    let walked = match write_samples(alloc, arguments, &mut sample_inputs, out) {
+        Ok(walked) => walked,
+        Err(cause) => return Err(cause),
+    };
+    explanation.withdraw();
+    if walked.lines > 0 || arguments.after.is_some() {
+        return Ok(walked);
+    }
+    match explanation.explain_end(alloc, sample_inputs.plan) {
+        Ok(()) => Ok(walked),
+        Err(_) => Err(Cause::NoMemory),
+    }
 }
 
 /// Writes the samples that are asked for past the tree to go on from, and flushes.
