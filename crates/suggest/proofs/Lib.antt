@@ -12,6 +12,7 @@
 -- names that are chosen, `LeadingLemmas` about where texts of varied paths lead, `FreeLemmas` about parts at varied paths and below,
 -- and `ObjectLemmas` about those on the way there, and the whole.
 pub mod AscendingLemmas
+pub mod WithoutLemmas
 pub mod ListedLemmas
 pub mod VaryLemmas
 pub mod JudgingLemmas

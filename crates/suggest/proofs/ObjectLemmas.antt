@@ -22,6 +22,7 @@ use Rattle.plan.specs.Pools.Pools.{Pools, list_at, is_present}
 use Rattle.plan.specs.Pools.Document.{pools_of}
 use Rattle.plan.specs.Samples.Site.{below, fixed_below}
 use Rattle.plan.specs.Samples.Over.{all_names, has_present, is_over_here, StepFollows, IsOverAlong}
+use Rattle.plan.specs.Samples.Part.{IsSample}
 use Rattle.suggest.specs.Suggested.Around.{path_of_names, are_declared, steps_of_names, TheObjectIsASample}
 use Rattle.suggest.specs.Suggested.Document.{usual_names, general_of, beside_standing, document_of}
 use Rattle.suggest.specs.Suggested.Listed.{General}
@@ -34,6 +35,7 @@ use Rattle.suggest.proofs.FreeLemmas.{AreAllDeclared, leads_there, AreShort, IsF
 use Rattle.suggest.proofs.LeadingLemmas.{none_reached, object_reached, AreReached, reached_below, leading_text}
 use Rattle.suggest.proofs.SaidLemmas.{OneText, further, field_says, said_of_field, asks_below_same}
 use Rattle.suggest.proofs.UncutLemmas.{own_same, names_uncut}
+use Rattle.suggest.proofs.WithoutLemmas.{nothing_taken}
 
 -- ---- lists and names of a field
 
@@ -274,7 +276,7 @@ object_sample law one limits raw root v [] limit ordered some varied sound store
 object_sample law one limits raw root v (t ∷ ts) limit ordered some varied sound stored declared within uncut =
     let reached : (s : List ℕ) → Among (t ∷ ts) s → reach s (Some v) [] root ≡ There = all_among (λ s. reach s (Some v) [] root ≡ There) (t ∷ ts) varied in
     let lists = root_lists limits root (said_below (beside_standing (general_of limits root)) (t ∷ ts) (Some v) (Some raw) [] root) uncut.lists in
-    record {
+    let sample : IsSample root (pools_of (document_of limits root [] (said_below (beside_standing (general_of limits root)) (t ∷ ts) (Some v) (Some raw) [] root))) limit v = record {
       part = record {
         tree = sound;
         stored = stored;
@@ -298,4 +300,5 @@ object_sample law one limits raw root v (t ∷ ts) limit ordered some varied sou
             });
       };
       within = within;
-    }
+    } in
+    subst (λ u. IsSample root (pools_of (document_of limits root [] (said_below (beside_standing (general_of limits root)) (t ∷ ts) (Some u) (Some raw) [] root))) limit v) (sym (nothing_taken [] root v)) sample

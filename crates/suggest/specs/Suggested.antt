@@ -9,6 +9,7 @@ pub mod Listed
 pub mod Lists
 pub mod Varied
 pub mod Wanted
+pub mod Without
 pub mod Document
 pub mod Fault
 pub mod Around

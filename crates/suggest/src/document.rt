@@ -26,6 +26,7 @@ use crate::lists::add_lists;
 use crate::members::{list, text_list, with, with_lists};
 use crate::varying::{Around, add_below, is_among};
 use crate::wanted::Wanted;
+use crate::without::objects_without;
 use jtree::{Members, Text, Tree};
 use plan::PoolLimits;
 use schema::Node;
@@ -68,11 +69,18 @@ pub fn suggested_pools(
     ensures shallow { IfOk result (λ d. depth (data_of d) ≤ most_depth) }
     ensures err { IfErr result (IsSuggestFault limits (data_of raw.now) schema.now (wanted_of wanted.now)) }
 {
+    let root = schema.root();
+    let objects = objects_without(alloc, wanted.without, root, wanted.objects)?;
+    let wanted = &Wanted {
+        objects: &objects,
+        varied: wanted.varied,
+        without: wanted.without,
+    };
     check_varied(alloc, schema, wanted)?;
     check_without(alloc, schema, wanted)?;
     let beside = !wanted.varied.is_empty();
-    let general = general_pools(alloc, schema.root(), limits, beside)?;
-    let said = said(alloc, &general, raw, schema.root(), wanted)?;
+    let general = general_pools(alloc, root, limits, beside)?;
+    let said = said(alloc, &general, raw, root, wanted)?;
     let document = document(alloc, &general, &said, wanted.without)?;
     drop(general);
     drop(said);
