@@ -167,7 +167,7 @@ is_there law P path nullable description fs preserves type bounds cs w k f found
 
 -- ---- what is kept
 
-same_tree : (v w : Data) → (is_same v w || false) ≡ true → v ≡ w
+pub same_tree : (v w : Data) → (is_same v w || false) ≡ true → v ≡ w
 same_tree v w e = tree_same v w (tied (tree_cmp v w) e) where
   tied : (o : Ordering) → (is_eq o || false) ≡ true → o ≡ Equal
   tied Less e = absurd (cc)

@@ -27,6 +27,7 @@ pub mod ReachLemmas
 pub mod EntryLemmas
 pub mod SaidLemmas
 pub mod AroundLemmas
+pub mod LeftOutLemmas
 pub mod UncutLemmas
 pub mod LeadingLemmas
 pub mod FreeLemmas

@@ -12,5 +12,6 @@ pub mod Wanted
 pub mod Without
 pub mod Document
 pub mod Fault
+pub mod LeftOut
 pub mod Around
 pub mod Reached
