@@ -1,12 +1,11 @@
 -- No sample has a path that is left out: what is fixed at it is nothing, and what is fixed above it has nothing there.
 use Rattle.std.proofs.Common.{◌≡◌, ◌≢◌, ◌⊎◌, ℕ, zero, suc, List, [], ◌∷◌, ◌++◌, Bool, true, false, ◌||◌, if◌then◌else◌, Option, Some, None, map, option_map, option_and_then, refl, sym, ap, ◌∙◌, subst, inl, inr, append_assoc, append-nil}
-use Rattle.std.specs.Prelude.{Contains}
 use Rattle.std.specs.Str.{bytes_eq}
 use Rattle.std.proofs.lemmas.Option.{none-some, same_Some}
 use Rattle.jtree.specs.Data.{Data, Items, no_items, item as item_of, Members, no_members, member}
 use Rattle.jtree.specs.Data as tree
 use Rattle.jtree.specs.Path.{Step, name, index, Path, member_at, item_at, part_by, part_at, under}
-use Rattle.jtree.specs.Internal.Lookups.{bool_cases, option_cases, same_name, own_name}
+use Rattle.jtree.specs.Internal.Lookups.{bool_cases, option_cases, same_name}
 use Rattle.jtree.specs.Internal.Rising.{Among, contained}
 use Rattle.schema.specs.Document.Texts.{is_among}
 use Rattle.schema.specs.Nodes.Node.{Node, node, scalar, object, list, open_, Fields, IsNode}
@@ -32,7 +31,7 @@ use Rattle.suggest.specs.Suggested.Without.{Place, place_of_field, place_of_valu
 use Rattle.suggest.proofs.AroundLemmas.{leads_at, kept_at, own_among, own_values, found_field, field_node, same_tree}
 use Rattle.suggest.proofs.EntryLemmas.{other_name, later_or, values_at, values_append, pool_fixed}
 use Rattle.suggest.proofs.FreeLemmas.{or_right}
-use Rattle.suggest.proofs.SaidLemmas.{OneText, further, field_says, asks_below_same, nothing_here, not_below_itself}
+use Rattle.suggest.proofs.SaidLemmas.{OneText, further, field_says, nothing_here, not_below_itself}
 
 -- ---- a step into what is left of a value
 
@@ -101,34 +100,34 @@ step_left ts path N M v w s t follows down found = absurd (cc)
 -- ---- what is left of a value has nothing where a path leads that is left out
 
 -- a value where a step and more lead
-record IsStepThere (path : Path) (o : Option Data) (w : Data) : Type 0 where
+pub record IsStepThere (path : Path) (o : Option Data) (w : Data) : Type 0 where
   pub next : Data
   pub there : o ≡ Some next
   pub rest : part_at next path ≡ Some w
 
-step_there : (path : Path) (o : Option Data) (w : Data) → option_and_then (λ d. part_at d path) o ≡ Some w → IsStepThere path o w
+pub step_there : (path : Path) (o : Option Data) (w : Data) → option_and_then (λ d. part_at d path) o ≡ Some w → IsStepThere path o w
 step_there path None w found = absurd (cc)
 step_there path (Some d) w found = record { next = d; there = refl; rest = found }
 
-record IsNodeThere (p : FieldPath) (o : Option Node) (M : Node) : Type 0 where
+pub record IsNodeThere (p : FieldPath) (o : Option Node) (M : Node) : Type 0 where
   pub next : Node
   pub down : o ≡ Some next
   pub rest : node_at next (place_of p) ≡ Some M
 
-node_there : (p : FieldPath) (o : Option Node) (M : Node) → option_and_then (λ K. node_at K (place_of p)) o ≡ Some M → IsNodeThere p o M
+pub node_there : (p : FieldPath) (o : Option Node) (M : Node) → option_and_then (λ K. node_at K (place_of p)) o ≡ Some M → IsNodeThere p o M
 node_there p None M found = absurd (cc)
 node_there p (Some K) M found = record { next = K; down = refl; rest = found }
 
-none_left_out : (ts : List (List ℕ)) (path : Path) (p : FieldPath) (at : List ℕ) (N M : Node) (v w : Data) → is_among at ts ≡ false → is_among (at ++ path_text p) ts ≡ true → node_at N (place_of p) ≡ Some M → Follows path p
+pub none_left_out : (ts : List (List ℕ)) (path : Path) (p : FieldPath) (at : List ℕ) (N M : Node) (v w : Data) → (p ≡ [] → is_among at ts ≡ false) → is_among (at ++ path_text p) ts ≡ true → node_at N (place_of p) ≡ Some M → Follows path p
     → part_at (taken_out ts at N v) path ≡ Some w → ⊥
-none_left_out ts [] [] at N M v w stays gone down follows found = let h : is_among at ts ≡ true = subst (λ t. is_among t ts ≡ true) (append-nil at) gone in cc
+none_left_out ts [] [] at N M v w stays gone down follows found = let h : is_among at ts ≡ true = subst (λ t. is_among t ts ≡ true) (append-nil at) gone in let no = stays refl in cc
 none_left_out ts [] (t ∷ p) at N M v w stays gone down follows found = absurd follows
 none_left_out ts (s ∷ path) [] at N M v w stays gone down follows found = absurd follows
 none_left_out ts (s ∷ path) (t ∷ p) at N M v w stays gone down follows found =
     let K = node_there p (node_below N (place_step t)) M down in
     let u = step_there path (part_by (taken_out ts at N v) s) w found in
     let l = step_left ts at N K.next v u.next s t follows.0 K.down u.there in
-    none_left_out ts path p (below at t) K.next M l.part w l.stays (subst (λ x. is_among x ts ≡ true) (sym (further at t p)) gone) K.rest follows.1 (subst (λ x. part_at x path ≡ Some w) l.is u.rest)
+    none_left_out ts path p (below at t) K.next M l.part w (λ e. l.stays) (subst (λ x. is_among x ts ≡ true) (sym (further at t p)) gone) K.rest follows.1 (subst (λ x. part_at x path ≡ Some w) l.is u.rest)
 
 -- ---- what is fixed
 
@@ -243,7 +242,7 @@ fixed_clear one limits raw root w q p path N M vs u ordered there fixed listed d
             let same : u ≡ taken_out w.without (path_text q) N l.value = same_tree u (taken_out w.without (path_text q) N l.value) (subst (λ ds. is_in u ds ≡ true) l.are listed) in
             elim (option_cases (part_at u path)) [
               | inl none ↦ none
-              | inr some ↦ absurd (none_left_out w.without path p (path_text q) N M l.value some.0 stays gone down follows (subst (λ x. part_at x path ≡ Some some.0) same some.1))
+              | inr some ↦ absurd (none_left_out w.without path p (path_text q) N M l.value some.0 (λ e. stays) gone down follows (subst (λ x. part_at x path ≡ Some some.0) same some.1))
             ]
       ]
 ]

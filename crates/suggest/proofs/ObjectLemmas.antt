@@ -247,25 +247,26 @@ leading_over law one P G ts short room (s ∷ q) (t ∷ p) path N v l = λ M w f
 all_among : {X : Type 0} (Good : X → Type 0) (xs : List X) → All Good xs → (x : X) → Among xs x → Good x
 all_among Good xs all x a = let r = index_of xs x x a in subst Good r.2 (all r.0 x r.1)
 
-record IsEntry (text : List ℕ) (es : List Entry) (vs : List Data) : Type 0 where
+pub record IsEntry (text : List ℕ) (es : List Entry) (vs : List Data) : Type 0 where
   pub entry : Entry
   pub among : Among es entry
+  pub path : entry.path ≡ text
   pub values : entry.values ≡ vs
 
-own_entry : (text : List ℕ) (e : Entry) (vs : List Data) → values_of text e ≡ Some vs → e.values ≡ vs
+own_entry : (text : List ℕ) (e : Entry) (vs : List Data) → values_of text e ≡ Some vs → (e.path ≡ text) × (e.values ≡ vs)
 own_entry text e vs is = elim (bool_cases (bytes_eq text e.path)) [
-  | inl same ↦ let here : Some e.values ≡ Some vs = rw same at is in cc
+  | inl same ↦ let here : Some e.values ≡ Some vs = rw same at is in (sym (same_name text e.path same), cc)
   | inr other ↦ let here : None ≡ Some vs = rw other at is in cc
 ]
 
-found_entry : (text : List ℕ) (es : List Entry) (vs : List Data) → values_at text es ≡ Some vs → IsEntry text es vs
+pub found_entry : (text : List ℕ) (es : List Entry) (vs : List Data) → values_at text es ≡ Some vs → IsEntry text es vs
 found_entry text [] vs is = absurd (cc)
 found_entry text (e ∷ es) vs is = elim (option_cases (values_at text es)) [
-  | inl none ↦ let here : values_of text e ≡ Some vs = rw none at is in record { entry = e; among = inl refl; values = own_entry text e vs here }
+  | inl none ↦ let own = own_entry text e vs (rw none at is) in record { entry = e; among = inl refl; path = own.0; values = own.1 }
   | inr some ↦
       let here : Some some.0 ≡ Some vs = rw some.1 at is in
       let x = found_entry text es vs (some.1 ∙ here) in
-      record { entry = x.entry; among = inr x.among; values = x.values }
+      record { entry = x.entry; among = inr x.among; path = x.path; values = x.values }
 ]
 
 root_lists : (limits : PoolLimits) (root : Node) (S : Said) → length S.lists ≤ limits.paths → (text : List ℕ) → list_at text (pools_of (document_of limits root [] S)) ≡ values_at text S.lists

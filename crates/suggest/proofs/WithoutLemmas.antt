@@ -1,5 +1,5 @@
 -- What is left of values without the paths that never occur: it is a tree, as the code makes it, and it is all where no path is left out.
-use Rattle.std.proofs.Common.{◌≡◌, ◌≤◌, ◌<◌, ◌+◌, ℕ, List, [], ◌∷◌, ◌++◌, true, false, Option, Some, None, length, get_or, drop, map, option_map, refl, sym, ap, ◌∙◌, inl, inr, append-nil}
+use Rattle.std.proofs.Common.{◌≡◌, ◌≤◌, ◌<◌, ◌+◌, ℕ, List, [], ◌∷◌, ◌++◌, Option, Some, None, length, get_or, drop, option_map, refl, sym, ap, ◌∙◌, inl, inr, append-nil}
 use Rattle.std.specs.Option.{option_to_list}
 use Rattle.std.proofs.lemmas.List.{at_drop_more, at_drop_all}
 use Rattle.jtree.specs.Data.{Data, Items, no_items, item, Members, no_members, member, IsTree, AreTrees, AreMembers, IsNameBefore}
@@ -9,10 +9,9 @@ use Rattle.jtree.specs.declared.value.Tree.{Tree}
 use Rattle.jtree.specs.declared.value.Member.{Member}
 use Rattle.jtree.specs.Internal.Lookups.{bool_cases, IsNameBefore-trans}
 use Rattle.schema.specs.Document.Texts.{is_among}
-use Rattle.schema.specs.Nodes.Node.{Node, node, object, map as map_node, list, scalar, open_}
+use Rattle.schema.specs.Nodes.Node.{Node, node, object, map as map_node, list}
 use Rattle.stored.specs.Internal.Defaulting.{joined, joined_items}
-use Rattle.suggest.specs.Suggested.Wanted.{Wanted}
-use Rattle.suggest.specs.Suggested.Without.{Place, place_of_field, place_of_value, place_of_item, left_at, left_member, left_item, taken_out, members_left, items_left, without_paths}
+use Rattle.suggest.specs.Suggested.Without.{Place, place_of_field, place_of_value, place_of_item, left_at, left_member, left_item, taken_out, members_left, items_left}
 
 -- ---- joined members and items
 

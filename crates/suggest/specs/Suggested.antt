@@ -13,5 +13,6 @@ pub mod Without
 pub mod Document
 pub mod Fault
 pub mod LeftOut
+pub mod FromObjects
 pub mod Around
 pub mod Reached

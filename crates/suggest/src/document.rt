@@ -49,11 +49,12 @@ use stored::Schema;
 /// and below them alone. What stands there in the object comes first, and what would be listed without it besides, or, where that is
 /// nothing, some of the pools. Nothing is listed for a truth value or an `enum` there, so that all its values are candidates.
 ///
-/// A path of `without` has an empty list under `fixed`. `raw` is the schema as written, of which formats and examples are read.
+/// A path of `without` has an empty list under `fixed`, and the objects are taken without what stands there. `raw` is the schema as
+/// written, of which formats and examples are read.
 ///
 /// `BadPath` with the first varied path that is not a declared path of names, or, where all can be varied, with the first path of
-/// `without` whose values cannot be fixed. `NotInObject` with the first varied path whose last field belongs to nothing in the object,
-/// or where there is not one object alone. `TooLarge` where the document would not be read again. `NoMemory` where an allocation fails.
+/// `without` whose values cannot be fixed. `NotInObject` with the first varied path whose last field belongs to nothing in the object
+/// without these paths, or where there is not one object alone. `TooLarge` where the document would not be read again. `NoMemory` where an allocation fails.
 pub fn suggested_pools(
     alloc: Global,
     raw: &Tree,

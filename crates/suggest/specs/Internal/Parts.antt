@@ -1,5 +1,5 @@
 -- What values of the code that are private represent.
-use Rattle.std.specs.Prelude.{ℕ, List, [], ◌∷◌, ◌++◌, Bool, Some, map, filter, take, not}
+use Rattle.std.specs.Prelude.{ℕ, List, [], ◌++◌, Bool, Some, map, filter, take, not}
 use Rattle.jtree.specs.Data.{Data, text, list, object, Members, no_members}
 use Rattle.schema.specs.Document.Texts.{is_among}
 use Rattle.schema.specs.Nodes.Node.{Node}

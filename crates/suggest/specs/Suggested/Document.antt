@@ -1,6 +1,6 @@
 -- The pools document that is suggested for a schema: a start that its author changes, or one for the samples around an object (this
 -- project's own).
-use Rattle.std.specs.Prelude.{◌≤◌, ℕ, List, [], ◌∷◌, ◌++◌, Bool, true, false, Option, Some, None, map, filter, take, length, not, codes}
+use Rattle.std.specs.Prelude.{◌≤◌, ℕ, List, [], ◌∷◌, ◌++◌, true, false, Option, Some, None, map, filter, take, length, not, codes}
 use Rattle.std.specs.List.{repeat, fold}
 use Rattle.std.specs.declared.cmp.Ordering.{Ordering}
 use Rattle.std.specs.declared.cmp.Ordering.TheVariants.{Less, Equal, Greater}

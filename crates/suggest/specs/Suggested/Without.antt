@@ -1,6 +1,6 @@
 -- Values without what stands at the paths that never occur: members of declared fields, items of lists and values of maps whose path is one
 -- of these. What is not declared stays, and so does all else (this project's own).
-use Rattle.std.specs.Prelude.{ℕ, List, [], Bool, Option, Some, None, if◌then◌else◌, map, option_map}
+use Rattle.std.specs.Prelude.{ℕ, List, [], Option, Some, None, if◌then◌else◌, map, option_map}
 use Rattle.jtree.specs.Data.{Data, Items, no_items, item, Members, no_members, member}
 use Rattle.jtree.specs.Data as tree
 use Rattle.schema.specs.Document.Texts.{is_among}

@@ -1,4 +1,4 @@
-use Rattle.std.proofs.Common.{◌∙◌, ◌++◌, ℕ, List, [], Some, None, option_map, sym, ap, subst, append-nil, arith}
+use Rattle.std.proofs.Common.{◌∙◌, ◌++◌, ℕ, List, Some, option_map, sym, ap, subst, append-nil, arith}
 use Rattle.std.specs.Option.{option_to_list}
 use Rattle.jtree.specs.Data.{AreTrees, AreMembers}
 use Rattle.jtree.specs.View.{data_of, items_of, members_of}
