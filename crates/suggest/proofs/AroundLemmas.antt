@@ -29,6 +29,7 @@ use Rattle.plan.specs.Pools.Pools.{Pools, fixed_at, is_present}
 use Rattle.plan.specs.Pools.Document.{pools_of}
 use Rattle.plan.specs.Samples.Site.{below}
 use Rattle.plan.specs.Samples.Over.{all_names, is_in, asks_field, has_present, IsOver}
+use Rattle.plan.specs.Samples.Part.{IsSample}
 use Rattle.plan.specs.declared.pool_limits.PoolLimits.{PoolLimits}
 use Rattle.suggest.specs.Suggested.Around.{path_of_names, part_under, is_varied_above, SamplesAreTheObjectOutside}
 use Rattle.suggest.specs.Suggested.Document.{general_of, beside_standing, document_of}
@@ -38,6 +39,7 @@ use Rattle.suggest.specs.Suggested.Varied.{Said, both, begins_with, goes_on, lea
 use Rattle.suggest.specs.declared.varying.Reach.TheVariants.{There}
 use Rattle.suggest.proofs.EntryLemmas.{values_at, pool_fixed, pool_present, all_present}
 use Rattle.suggest.proofs.SaidLemmas.{OneText, further, field_says, said_of_field, nothing_here, asks_below_same}
+use Rattle.suggest.proofs.WithoutLemmas.{nothing_taken}
 
 abbrev pub StoredLaw : Type 0
 StoredLaw = (N : Node) (v : Data) → IsStored N v ↔ StoredByParts N v
@@ -165,7 +167,7 @@ is_there law P path nullable description fs preserves type bounds cs w k f found
 
 -- ---- what is kept
 
-same_tree : (v w : Data) → (is_same v w || false) ≡ true → v ≡ w
+pub same_tree : (v w : Data) → (is_same v w || false) ≡ true → v ≡ w
 same_tree v w e = tree_same v w (tied (tree_cmp v w) e) where
   tied : (o : Ordering) → (is_eq o || false) ≡ true → o ≡ Equal
   tied Less e = absurd (cc)
@@ -282,7 +284,9 @@ root_leads root v t ts there = rw (starts t (Some v) root there) refl
 
 pub same_outside : StoredLaw → OneText → SamplesAreTheObjectOutside
 same_outside law one limits raw root v [] limit w ordered some varied sample = absurd (some refl)
-same_outside law one limits raw root v (t ∷ ts) limit w ordered some varied sample = λ ks N there above ends.
+same_outside law one limits raw root v (t ∷ ts) limit w ordered some varied taken = λ ks N there above ends.
+    let sample : IsSample root (pools_of (document_of limits root [] (said_below (beside_standing (general_of limits root)) (t ∷ ts) (Some v) (Some raw) [] root))) limit w =
+    subst (λ u. IsSample root (pools_of (document_of limits root [] (said_below (beside_standing (general_of limits root)) (t ∷ ts) (Some u) (Some raw) [] root))) limit w) (nothing_taken [] root v) taken in
     same_along law one (pools_of (document_of limits root [] (said_below (beside_standing (general_of limits root)) (t ∷ ts) (Some v) (Some raw) [] root))) (beside_standing (general_of limits root)) (t ∷ ts) ks [] [] root N (Some v) (Some raw) w refl
     ordered (root_leads root v t ts (All-head (λ t. reach t (Some v) [] root ≡ There) t ts varied)) (root_said limits root (said_below (beside_standing (general_of limits root)) (t ∷ ts) (Some v) (Some raw) [] root))
     there above ends sample.part.stored sample.part.over

@@ -63,7 +63,7 @@ declared_below N M v w s t follows down found h path K u there =
 
 -- ---- what stands below
 
-among_under : (k : List ℕ) (vs : List Data) (v w : Data) → Among vs v → under v k ≡ Some w → Among (field_values k vs) w
+pub among_under : (k : List ℕ) (vs : List Data) (v w : Data) → Among vs v → under v k ≡ Some w → Among (field_values k vs) w
 among_under k [] v w a found = absurd a
 among_under k (u ∷ vs) v w (inl e) found = let here : under u k ≡ Some w = subst (λ x. under x k ≡ Some w) (sym e) found in rw here (inl refl)
 among_under k (u ∷ vs) v w (inr a) found = later (under u k) (field_values k vs) w (among_under k vs v w a found) where
@@ -71,19 +71,19 @@ among_under k (u ∷ vs) v w (inr a) found = later (under u k) (field_values k v
   later None ws w a = a
   later (Some x) ws w a = inr a
 
-among_flat : {X : Type 0} (f : Data → List X) (vs : List Data) (v : Data) (x : X) → Among vs v → Among (f v) x → Among (flat_map f vs) x
+pub among_flat : {X : Type 0} (f : Data → List X) (vs : List Data) (v : Data) (x : X) → Among vs v → Among (f v) x → Among (flat_map f vs) x
 among_flat f [] v x a h = absurd a
 among_flat f (u ∷ vs) v x (inl e) h = among_left (f u) (flat_map f vs) x (subst (λ y. Among (f y) x) (sym e) h)
 among_flat f (u ∷ vs) v x (inr a) h = among_right (f u) (flat_map f vs) x (among_flat f vs v x a h)
 
-among_trees : (ms : Members) (k : List ℕ) (w : Data) → member_at k ms ≡ Some w → Among (trees_of ms) w
+pub among_trees : (ms : Members) (k : List ℕ) (w : Data) → member_at k ms ≡ Some w → Among (trees_of ms) w
 among_trees no_members k w found = absurd (cc)
 among_trees (member l d ms) k w found = elim (bool_cases (bytes_eq k l)) [
   | inl same ↦ let here : Some d ≡ Some w = rw same at found in inl (let is : d ≡ w = cc in is)
   | inr other ↦ inr (among_trees ms k w (rw other at found))
 ]
 
-among_items : (ds : Items) (i : ℕ) (w : Data) → item_at i ds ≡ Some w → Among (items_list ds) w
+pub among_items : (ds : Items) (i : ℕ) (w : Data) → item_at i ds ≡ Some w → Among (items_list ds) w
 among_items no_items i w found = absurd (cc)
 among_items (item_of d ds) zero w found = inl (let is : d ≡ w = cc in is)
 among_items (item_of d ds) (suc i) w found = inr (among_items ds i w found)
@@ -177,7 +177,7 @@ pub record IsFreePart (P : Pools) (G : General) (path : List ℕ) (N : Node) (v 
 
 -- ---- a scalar or a value of an open node
 
-among_kept : (test : Data → Bool) (vs : List Data) (v : Data) → Among vs v → test v ≡ true → Among (filter test vs) v
+pub among_kept : (test : Data → Bool) (vs : List Data) (v : Data) → Among vs v → test v ≡ true → Among (filter test vs) v
 among_kept test [] v a h = absurd a
 among_kept test (u ∷ vs) v (inl e) h = let here : test u ≡ true = subst (λ x. test x ≡ true) (sym e) h in rw here (inl e)
 among_kept test (u ∷ vs) v (inr a) h = elim (bool_cases (test u)) [
@@ -217,11 +217,11 @@ leaf_listed P G path N vs default schema v short room a accepted itself f =
     standing_listed G.limits.entries G N (filter (takes N) vs) (hinted_values G N default schema) v path (list_at path P) (among_kept (takes N) vs v a accepted) room
     (subst (λ t. list_at t P ≡ values_at t (entry_of path (listed_values G vs default schema N))) (append-nil path) (f.lists [])) (short path) (listed_for P N) itself
 
-or_left : (a b : Bool) → a ≡ true → (a || b) ≡ true
+pub or_left : (a b : Bool) → a ≡ true → (a || b) ≡ true
 or_left true b e = refl
 or_left false b e = absurd (cc)
 
-or_right : (a b : Bool) → b ≡ true → (a || b) ≡ true
+pub or_right : (a b : Bool) → b ≡ true → (a || b) ≡ true
 or_right true b e = refl
 or_right false b e = e
 
@@ -284,7 +284,7 @@ itself_listed P nullable description kind (validations t all any one negated) v 
 
 -- ---- what is valid is null or taken
 
-scalar_valid : (nullable : Bool) (description : Option (List ℕ)) (kind : ScalarKind) (cs : Validations) (v : Data) → IsValidHere (node nullable description (scalar kind cs)) v
+pub scalar_valid : (nullable : Bool) (description : Option (List ℕ)) (kind : ScalarKind) (cs : Validations) (v : Data) → IsValidHere (node nullable description (scalar kind cs)) v
     → (takes (node nullable description (scalar kind cs)) v ≡ true) ⊎ ((is_null v && nullable) ≡ true)
 scalar_valid nullable description kind cs tree.null h = inr h
 scalar_valid nullable description kind cs (tree.boolean b) h = inl (and_from _ _ h.0 h.1)
@@ -293,7 +293,7 @@ scalar_valid nullable description kind cs (tree.text s) h = inl (and_from _ _ h.
 scalar_valid nullable description kind cs (tree.list ds) h = inl (and_from _ _ h.0 h.1)
 scalar_valid nullable description kind cs (tree.object ms) h = inl (and_from _ _ h.0 h.1)
 
-open_valid : (nullable : Bool) (description : Option (List ℕ)) (v : Data) → IsValidHere (node nullable description open_) v
+pub open_valid : (nullable : Bool) (description : Option (List ℕ)) (v : Data) → IsValidHere (node nullable description open_) v
     → (takes (node nullable description open_) v ≡ true) ⊎ ((is_null v && nullable) ≡ true)
 open_valid nullable description tree.null h = inr h
 open_valid nullable description (tree.boolean b) h = inl refl

@@ -30,6 +30,7 @@ use Rattle.suggest.specs.Suggested.Listed.{General}
 use Rattle.suggest.specs.Suggested.Lists.{Entry}
 use Rattle.suggest.specs.Suggested.Varied.{Said, said_below}
 use Rattle.suggest.specs.Suggested.Wanted.{Wanted}
+use Rattle.suggest.specs.Suggested.Without.{without_paths}
 use Rattle.suggest.proofs.FormLemmas.{pool_fixed, pool_paths, pool_present}
 use Rattle.suggest.proofs.PathLemmas.{Under, IsLeafAt, IsNamedAt, lists_listed, said_is_under, object_leaf}
 
@@ -181,4 +182,5 @@ good_document limits root without s well fixable = record {
 pub suggested_paths : (limits : PoolLimits) (raw : Data) (root : Node) (w : Wanted) → IsNode root → (sort_at root ≡ Leaf → ⊥) → All (IsFixablePath root) w.without
     → HasGoodPaths root (pools_of (suggested_document limits raw root w))
 suggested_paths limits raw root w ordered other fixable =
-    good_document limits root w.without (said_by w.varied (general_of limits root) w raw root) (said_well w.varied (general_of limits root) w raw root ordered other) fixable
+    let left = without_paths root w in
+    good_document limits root w.without (said_by w.varied (general_of limits root) left raw root) (said_well w.varied (general_of limits root) left raw root ordered other) fixable

@@ -1,11 +1,23 @@
--- The first of some texts that has a fault.
+-- The first of some texts that has a fault, and which faults those of paths are.
 use Rattle.std.proofs.Common.{◌≡◌, ◌<◌, ◌+◌, ℕ, List, [], ◌∷◌, ◌++◌, ◌∙◌, All, inl, inr, length, get_or, take, drop, sym, ap, subst, arith}
 use Rattle.std.specs.Borrow.{Bor}
+use Rattle.std.specs.Prelude.{string_bytes}
 use Rattle.std.proofs.lemmas.List.{map_more, map-append, take-append-drop, drop_more, take_all}
 use Rattle.std.proofs.lemmas.List.Elements.{All-append}
+use Rattle.jtree.specs.Data.{Data}
 use Rattle.jtree.specs.Internal.Rising.{each_of}
+use Rattle.schema.specs.Nodes.Node.{Node}
+use Rattle.plan.specs.declared.pool_limits.PoolLimits.{PoolLimits}
 use Rattle.suggest.specs.View.{texts_at}
-use Rattle.suggest.specs.Suggested.Fault.{IsFirst}
+use Rattle.suggest.specs.Suggested.Document.{single}
+use Rattle.suggest.specs.Suggested.Fault.{CanVary, AreVaried, IsFirst, IsSuggestFault}
+use Rattle.suggest.specs.Suggested.Varied.{reach}
+use Rattle.suggest.specs.Suggested.Wanted.{Wanted}
+use Rattle.suggest.specs.Suggested.Without.{without_paths}
+use Rattle.suggest.specs.Internal.Faults.{IsVariedFault, IsWithoutFault}
+use Rattle.suggest.specs.declared.fault.SuggestFault.{SuggestFault}
+use Rattle.suggest.specs.declared.fault.SuggestFault.TheVariants.{BadPath, NotInObject, TooLarge, NoMemory}
+use Rattle.suggest.specs.declared.varying.Reach.TheVariants.{Undeclared, Missing}
 
 -- a reference to answer where there is none
 abbrev pub no_text : Bor (List ℕ)
@@ -31,3 +43,18 @@ good_more Good xs i lt good here =
 
 pub all_good : (Good : List ℕ → Type 0) (xs : List (Bor (List ℕ))) (i : ℕ) → length xs < i + 1 → All Good (texts_at (take i xs)) → All Good (texts_at xs)
 all_good Good xs i past good = subst (λ ys. All Good (texts_at ys)) (take_all i xs (omega arith)) good
+
+-- ---- faults of paths, where vs are the objects without the paths that never occur
+
+pub varied_fault : (limits : PoolLimits) (raw : Data) (root : Node) (w : Wanted) (vs : List Data) (e : SuggestFault) → record w { objects = vs } ≡ without_paths root w → IsVariedFault root (record w { objects = vs }) e
+    → IsSuggestFault limits raw root w e
+varied_fault limits raw root w vs (BadPath text) is f = inl (subst (λ u. IsFirst (CanVary root u) (λ t. reach t (single u.objects) [] root ≡ Undeclared) w.varied (string_bytes text)) is f)
+varied_fault limits raw root w vs (NotInObject text) is f = subst (λ u. IsFirst (CanVary root u) (λ t. reach t (single u.objects) [] root ≡ Missing) w.varied (string_bytes text)) is f
+varied_fault limits raw root w vs NoMemory is f = tt
+varied_fault limits raw root w vs TooLarge is f = absurd f
+
+pub without_fault : (limits : PoolLimits) (raw : Data) (root : Node) (w : Wanted) (e : SuggestFault) → AreVaried root (without_paths root w) → IsWithoutFault root w e → IsSuggestFault limits raw root w e
+without_fault limits raw root w (BadPath text) varied f = inr (varied, f)
+without_fault limits raw root w NoMemory varied f = tt
+without_fault limits raw root w (NotInObject text) varied f = absurd f
+without_fault limits raw root w TooLarge varied f = absurd f

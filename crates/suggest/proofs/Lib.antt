@@ -1,5 +1,6 @@
 -- The lemmas of this crate, by subject.
 -- Ascending lists: `AscendingLemmas` says that sorting keeps the elements, each once, and that the result is the only such list.
+-- Objects without the paths that never occur: `WithoutLemmas` is about what the code leaves of them.
 -- What is found: `ListedLemmas` is about the values of a node, `VaryLemmas` about what is said around an object, `JudgingLemmas` about
 -- the first text that has a fault.
 -- The document: `DocumentLemmas` is about lists of trees and members as the code makes them, `MemberLemmas` about members that are put
@@ -11,7 +12,9 @@
 -- `AroundLemmas` is the law `samples_are_the_object_outside`. Of the law `the_object_is_a_sample`, `UncutLemmas` is about values and
 -- names that are chosen, `LeadingLemmas` about where texts of varied paths lead, `FreeLemmas` about parts at varied paths and below,
 -- and `ObjectLemmas` about those on the way there, and the whole.
+-- `LeftOutLemmas` is the law `no_sample_has_a_left_out_path`, `FromLemmas` the law `what_stands_there_is_a_candidate`.
 pub mod AscendingLemmas
+pub mod WithoutLemmas
 pub mod ListedLemmas
 pub mod VaryLemmas
 pub mod JudgingLemmas
@@ -30,3 +33,5 @@ pub mod UncutLemmas
 pub mod LeadingLemmas
 pub mod FreeLemmas
 pub mod ObjectLemmas
+pub mod LeftOutLemmas
+pub mod FromLemmas

@@ -1,6 +1,6 @@
 -- What is listed for a scalar or an open node, as the code makes it.
-use Rattle.std.proofs.Common.{◌≡◌, ◌↔◌, ◌<◌, ◌+◌, add-one, inl, inr, ℕ, zero, suc, List, [], ◌∷◌, ◌++◌, ◌∙◌, Bool, true, false, Option, Some, None, Decides, length, map, take, refl, sym, ap, subst, ◌==◌, append_assoc, append-nil, arith}
-use Rattle.std.specs.Prelude.{◌&&◌, option_and_then, filter, unwrap_or, codes}
+use Rattle.std.proofs.Common.{◌≡◌, ◌↔◌, ◌<◌, ◌+◌, add-one, inl, inr, ℕ, List, [], ◌∷◌, ◌++◌, Bool, true, false, Option, Some, None, Decides, length, take, refl, ap, ◌==◌, append_assoc, append-nil, arith}
+use Rattle.std.specs.Prelude.{◌&&◌, option_and_then, filter}
 use Rattle.std.proofs.lemmas.Bool.{and_parts, and_from, eqb-true, eqb-false}
 use Rattle.std.proofs.lemmas.Bool.Decides.{same_from_decides}
 use Rattle.jtree.specs.Data.{Data}
@@ -15,7 +15,6 @@ use Rattle.schema.specs.Nodes.Node.{Node, node, scalar, Validations}
 use Rattle.schema.specs.declared.node.ScalarKind.{ScalarKind}
 use Rattle.stored.specs.Objects.Becomes.{IsStored}
 use Rattle.stored.specs.Objects.StoredByParts.{StoredByParts}
-use Rattle.stored.specs.Objects.Tests.{accepts_scalar, holds}
 use Rattle.suggest.specs.Suggested.Listed.{General, takes, hinted_from, or_general, besides, joined}
 use Rattle.suggest.specs.View.{trees_of}
 

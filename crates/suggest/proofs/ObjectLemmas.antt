@@ -22,6 +22,7 @@ use Rattle.plan.specs.Pools.Pools.{Pools, list_at, is_present}
 use Rattle.plan.specs.Pools.Document.{pools_of}
 use Rattle.plan.specs.Samples.Site.{below, fixed_below}
 use Rattle.plan.specs.Samples.Over.{all_names, has_present, is_over_here, StepFollows, IsOverAlong}
+use Rattle.plan.specs.Samples.Part.{IsSample}
 use Rattle.suggest.specs.Suggested.Around.{path_of_names, are_declared, steps_of_names, TheObjectIsASample}
 use Rattle.suggest.specs.Suggested.Document.{usual_names, general_of, beside_standing, document_of}
 use Rattle.suggest.specs.Suggested.Listed.{General}
@@ -34,6 +35,7 @@ use Rattle.suggest.proofs.FreeLemmas.{AreAllDeclared, leads_there, AreShort, IsF
 use Rattle.suggest.proofs.LeadingLemmas.{none_reached, object_reached, AreReached, reached_below, leading_text}
 use Rattle.suggest.proofs.SaidLemmas.{OneText, further, field_says, said_of_field, asks_below_same}
 use Rattle.suggest.proofs.UncutLemmas.{own_same, names_uncut}
+use Rattle.suggest.proofs.WithoutLemmas.{nothing_taken}
 
 -- ---- lists and names of a field
 
@@ -245,25 +247,26 @@ leading_over law one P G ts short room (s ∷ q) (t ∷ p) path N v l = λ M w f
 all_among : {X : Type 0} (Good : X → Type 0) (xs : List X) → All Good xs → (x : X) → Among xs x → Good x
 all_among Good xs all x a = let r = index_of xs x x a in subst Good r.2 (all r.0 x r.1)
 
-record IsEntry (text : List ℕ) (es : List Entry) (vs : List Data) : Type 0 where
+pub record IsEntry (text : List ℕ) (es : List Entry) (vs : List Data) : Type 0 where
   pub entry : Entry
   pub among : Among es entry
+  pub path : entry.path ≡ text
   pub values : entry.values ≡ vs
 
-own_entry : (text : List ℕ) (e : Entry) (vs : List Data) → values_of text e ≡ Some vs → e.values ≡ vs
+own_entry : (text : List ℕ) (e : Entry) (vs : List Data) → values_of text e ≡ Some vs → (e.path ≡ text) × (e.values ≡ vs)
 own_entry text e vs is = elim (bool_cases (bytes_eq text e.path)) [
-  | inl same ↦ let here : Some e.values ≡ Some vs = rw same at is in cc
+  | inl same ↦ let here : Some e.values ≡ Some vs = rw same at is in (sym (same_name text e.path same), cc)
   | inr other ↦ let here : None ≡ Some vs = rw other at is in cc
 ]
 
-found_entry : (text : List ℕ) (es : List Entry) (vs : List Data) → values_at text es ≡ Some vs → IsEntry text es vs
+pub found_entry : (text : List ℕ) (es : List Entry) (vs : List Data) → values_at text es ≡ Some vs → IsEntry text es vs
 found_entry text [] vs is = absurd (cc)
 found_entry text (e ∷ es) vs is = elim (option_cases (values_at text es)) [
-  | inl none ↦ let here : values_of text e ≡ Some vs = rw none at is in record { entry = e; among = inl refl; values = own_entry text e vs here }
+  | inl none ↦ let own = own_entry text e vs (rw none at is) in record { entry = e; among = inl refl; path = own.0; values = own.1 }
   | inr some ↦
       let here : Some some.0 ≡ Some vs = rw some.1 at is in
       let x = found_entry text es vs (some.1 ∙ here) in
-      record { entry = x.entry; among = inr x.among; values = x.values }
+      record { entry = x.entry; among = inr x.among; path = x.path; values = x.values }
 ]
 
 root_lists : (limits : PoolLimits) (root : Node) (S : Said) → length S.lists ≤ limits.paths → (text : List ℕ) → list_at text (pools_of (document_of limits root [] S)) ≡ values_at text S.lists
@@ -274,7 +277,7 @@ object_sample law one limits raw root v [] limit ordered some varied sound store
 object_sample law one limits raw root v (t ∷ ts) limit ordered some varied sound stored declared within uncut =
     let reached : (s : List ℕ) → Among (t ∷ ts) s → reach s (Some v) [] root ≡ There = all_among (λ s. reach s (Some v) [] root ≡ There) (t ∷ ts) varied in
     let lists = root_lists limits root (said_below (beside_standing (general_of limits root)) (t ∷ ts) (Some v) (Some raw) [] root) uncut.lists in
-    record {
+    let sample : IsSample root (pools_of (document_of limits root [] (said_below (beside_standing (general_of limits root)) (t ∷ ts) (Some v) (Some raw) [] root))) limit v = record {
       part = record {
         tree = sound;
         stored = stored;
@@ -298,4 +301,5 @@ object_sample law one limits raw root v (t ∷ ts) limit ordered some varied sou
             });
       };
       within = within;
-    }
+    } in
+    subst (λ u. IsSample root (pools_of (document_of limits root [] (said_below (beside_standing (general_of limits root)) (t ∷ ts) (Some u) (Some raw) [] root))) limit v) (sym (nothing_taken [] root v)) sample

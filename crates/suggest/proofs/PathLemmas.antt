@@ -86,7 +86,7 @@ listed_above G vs ws front N M s e none leads l =
 listed_before : (G : General) (vs ws : List Data) (front : List ℕ) (N : Node) (e : Entry) → (vs ≡ [] → ws ≡ []) → IsListed G ws front N e → IsListed G vs front N e
 listed_before G vs ws front N e none l = record { leaf = l.leaf; standing = l.standing; default = l.default; schema = l.schema; values = l.values; none = λ h. l.none (none h); some = l.some }
 
-entry_among : (path : List ℕ) (values : List Data) (e : Entry) → Among (entry_of path values) e → (e.path ≡ path) × (e.values ≡ values) × (e.values ≡ [] → ⊥)
+pub entry_among : (path : List ℕ) (values : List Data) (e : Entry) → Among (entry_of path values) e → (e.path ≡ path) × (e.values ≡ values) × (e.values ≡ [] → ⊥)
 entry_among path [] e a = absurd a
 entry_among path (v ∷ vs) e (inl same) = let values : e.values ≡ v ∷ vs = ap (λ x. x.values) (sym same) in (ap (λ x. x.path) (sym same), values, λ none. cc)
 entry_among path (v ∷ vs) e (inr a) = absurd a

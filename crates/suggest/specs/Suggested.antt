@@ -9,7 +9,10 @@ pub mod Listed
 pub mod Lists
 pub mod Varied
 pub mod Wanted
+pub mod Without
 pub mod Document
 pub mod Fault
+pub mod LeftOut
+pub mod FromObjects
 pub mod Around
 pub mod Reached

@@ -26,6 +26,7 @@ use crate::lists::add_lists;
 use crate::members::{list, text_list, with, with_lists};
 use crate::varying::{Around, add_below, is_among};
 use crate::wanted::Wanted;
+use crate::without::objects_without;
 use jtree::{Members, Text, Tree};
 use plan::PoolLimits;
 use schema::Node;
@@ -48,11 +49,12 @@ use stored::Schema;
 /// and below them alone. What stands there in the object comes first, and what would be listed without it besides, or, where that is
 /// nothing, some of the pools. Nothing is listed for a truth value or an `enum` there, so that all its values are candidates.
 ///
-/// A path of `without` has an empty list under `fixed`. `raw` is the schema as written, of which formats and examples are read.
+/// A path of `without` has an empty list under `fixed`, and the objects are taken without what stands there. `raw` is the schema as
+/// written, of which formats and examples are read.
 ///
 /// `BadPath` with the first varied path that is not a declared path of names, or, where all can be varied, with the first path of
-/// `without` whose values cannot be fixed. `NotInObject` with the first varied path whose last field belongs to nothing in the object,
-/// or where there is not one object alone. `TooLarge` where the document would not be read again. `NoMemory` where an allocation fails.
+/// `without` whose values cannot be fixed. `NotInObject` with the first varied path whose last field belongs to nothing in the object
+/// without these paths, or where there is not one object alone. `TooLarge` where the document would not be read again. `NoMemory` where an allocation fails.
 pub fn suggested_pools(
     alloc: Global,
     raw: &Tree,
@@ -68,11 +70,18 @@ pub fn suggested_pools(
     ensures shallow { IfOk result (λ d. depth (data_of d) ≤ most_depth) }
     ensures err { IfErr result (IsSuggestFault limits (data_of raw.now) schema.now (wanted_of wanted.now)) }
 {
+    let root = schema.root();
+    let objects = objects_without(alloc, wanted.without, root, wanted.objects)?;
+    let wanted = &Wanted {
+        objects: &objects,
+        varied: wanted.varied,
+        without: wanted.without,
+    };
     check_varied(alloc, schema, wanted)?;
     check_without(alloc, schema, wanted)?;
     let beside = !wanted.varied.is_empty();
-    let general = general_pools(alloc, schema.root(), limits, beside)?;
-    let said = said(alloc, &general, raw, schema.root(), wanted)?;
+    let general = general_pools(alloc, root, limits, beside)?;
+    let said = said(alloc, &general, raw, root, wanted)?;
     let document = document(alloc, &general, &said, wanted.without)?;
     drop(general);
     drop(said);

@@ -6,6 +6,8 @@ ghost use Rattle.schema.specs.Nodes.ByPlace.{node_at};
 ghost use Rattle.stored.specs.Objects.Becomes.{IsStored};
 ghost use Rattle.explain.specs.Paths.FieldPath.{FieldPath, place_of};
 ghost use Rattle.suggest.specs.Suggested.Reached.{IsBounded, IsWithinReach, HasCandidateLike};
+ghost use Rattle.suggest.specs.Suggested.FromObjects.{WhatStandsThereIsACandidate};
+ghost use Rattle.suggest.specs.Suggested.LeftOut.{NoSampleHasALeftOutPath};
 ghost use Rattle.suggest.specs.Suggested.Around.{SamplesAreTheObjectOutside, TheObjectIsASample};
 
 /// Where a scalar without `enum` and junctors accepts some truth value, some integer, or some text of at most 64 characters, a
@@ -31,6 +33,22 @@ pub fn samples_are_the_object_outside()
 /// the way to varied paths, at these and below, objects have members of declared names alone.
 pub fn the_object_is_a_sample()
     ensures { TheObjectIsASample }
+{
+    stored::laws::stored_by_parts();
+    explain::laws::paths_have_one_text();
+}
+
+/// No sample over the suggested pools has a path that is left out.
+pub fn no_sample_has_a_left_out_path()
+    ensures { NoSampleHasALeftOutPath }
+{
+    explain::laws::paths_have_one_text();
+}
+
+/// What stands in an object at a scalar or an open node, and is stored there, is a candidate there over the pools that are suggested
+/// from objects, where the document has a list for its path that is not full. Paths that are left out count as absent.
+pub fn what_stands_there_is_a_candidate()
+    ensures { WhatStandsThereIsACandidate }
 {
     stored::laws::stored_by_parts();
     explain::laws::paths_have_one_text();

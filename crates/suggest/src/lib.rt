@@ -29,6 +29,7 @@ mod putting;
 mod standing;
 mod varying;
 mod wanted;
+mod without;
 
 pub use document::suggested_pools;
 pub use fault::SuggestFault;

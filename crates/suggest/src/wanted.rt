@@ -8,6 +8,6 @@ pub struct Wanted<'a> {
     pub objects: &'a [Tree],
     /// The texts of the paths at which the one object is varied, and all else is as it is there; none where all is free.
     pub varied: &'a [&'a str],
-    /// The texts of the paths that never occur.
+    /// The texts of the paths that never occur, and are taken out of the objects first.
     pub without: &'a [&'a str],
 }

@@ -28,7 +28,7 @@ const HINTS: &str =
     r#"{"type":"object","properties":{"d":{"type":"string","format":"date"},"t":{"type":"string","default":"x"}}}"#;
 
 // The second document has the objects.
-static VALUES: [SchemaRun<'static>; 9] = [
+static VALUES: [SchemaRun<'static>; 10] = [
     SchemaRun {
         name: "no objects",
         command: "crdx pools crd.json v1",
@@ -113,6 +113,16 @@ static VALUES: [SchemaRun<'static>; 9] = [
         schema: SCHEMA,
         second: "",
         out: r#"{"any":["a",{}],"fixed":{"/status":[]},"integers":[0,1],"names":["a","b"],"strings":["a"]}
+"#,
+        err: "",
+        status: 0,
+    },
+    SchemaRun {
+        name: "the values of a map that never occur",
+        command: "crdx pools crd.json v1 --from object.json --without /m/{}",
+        schema: PARTS,
+        second: r#"{"l":[{"a":1}],"m":{"k":3}}"#,
+        out: r#"{"any":["a",{}],"fixed":{"/m/{}":[]},"integers":[0,1],"names":["a","b"],"paths":{"/l/[]/a":[1]},"strings":["a"]}
 "#,
         err: "",
         status: 0,

@@ -29,7 +29,7 @@ struct VariedRow {
     paths: &'static str,
 }
 
-static VARIED: [VariedRow; 8] = [
+static VARIED: [VariedRow; 9] = [
     VariedRow {
         name: "siblings that are there and one that is not",
         objects: OBJECT,
@@ -76,6 +76,15 @@ static VARIED: [VariedRow; 8] = [
         paths: r#"{"/spec/a":[5,0,1]}"#,
     },
     VariedRow {
+        name: "a part of a value beside a varied path is left out",
+        objects: OBJECT,
+        varied: "/spec/a",
+        without: "/spec/b/c",
+        fixed: r#"{"/list":[[{"k":"p"}]],"/spec/b":[{}],"/spec/b/c":[],"/spec/e":["y"],"/status":[]}"#,
+        present: r#"["/list","/spec","/spec/b","/spec/e"]"#,
+        paths: r#"{"/spec/a":[5,0,1]}"#,
+    },
+    VariedRow {
         name: "an object with nothing in it",
         objects: "[{}]",
         varied: "/spec",
@@ -91,7 +100,7 @@ static VARIED: [VariedRow; 8] = [
         without: "/status /list/[]/k",
         fixed: r#"{"/list/[]/k":[],"/status":[]}"#,
         present: "",
-        paths: r#"{"/list/[]/k":["p"],"/spec/a":[5],"/spec/b/c":["x"],"/spec/e":["y"]}"#,
+        paths: r#"{"/spec/a":[5],"/spec/b/c":["x"],"/spec/e":["y"]}"#,
     },
     VariedRow {
         name: "no object",
@@ -123,7 +132,7 @@ struct Refused {
     answer: Answer<'static>,
 }
 
-static FAULTS: [Refused; 12] = [
+static FAULTS: [Refused; 13] = [
     Refused {
         name: "no such field",
         objects: OBJECT,
@@ -165,6 +174,13 @@ static FAULTS: [Refused; 12] = [
         varied: "/spec/a",
         without: "",
         answer: Answer::NotInObject("/spec/a"),
+    },
+    Refused {
+        name: "below a path that is left out",
+        objects: OBJECT,
+        varied: "/spec/b/c",
+        without: "/spec/b",
+        answer: Answer::NotInObject("/spec/b/c"),
     },
     Refused {
         name: "no object",

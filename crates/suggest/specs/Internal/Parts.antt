@@ -1,5 +1,5 @@
 -- What values of the code that are private represent.
-use Rattle.std.specs.Prelude.{ℕ, List, [], ◌∷◌, ◌++◌, Bool, Some, map, filter, take, not}
+use Rattle.std.specs.Prelude.{ℕ, List, [], ◌++◌, Bool, Some, map, filter, take, not}
 use Rattle.jtree.specs.Data.{Data, text, list, object, Members, no_members}
 use Rattle.schema.specs.Document.Texts.{is_among}
 use Rattle.schema.specs.Nodes.Node.{Node}
@@ -12,6 +12,7 @@ use Rattle.suggest.specs.Suggested.Listed.{General}
 use Rattle.suggest.specs.Suggested.Lists.{Entry}
 use Rattle.suggest.specs.Suggested.Varied.{Said, said_below}
 use Rattle.suggest.specs.Suggested.Wanted.{Wanted}
+use Rattle.suggest.specs.Suggested.Without.{Place}
 use Rattle.suggest.specs.declared.entry.Entry.{Entry as CodeEntry}
 use Rattle.suggest.specs.declared.entry.Said.{Said as CodeSaid}
 use Rattle.suggest.specs.declared.general.General.{General as CodeGeneral}
@@ -50,3 +51,7 @@ with_lists_member k lists ms = with_member k (object lists) ms
 abbrev pub with_texts_member : List ℕ → List (List ℕ) → Members → Members
 with_texts_member k [] ms = ms
 with_texts_member k ts ms = with_member k (list (items_of (map (λ t. text t) ts))) ms
+
+-- a place at which values are left
+abbrev pub place_at : List ℕ → Node → Place
+place_at path N = record { path = path; node = N }

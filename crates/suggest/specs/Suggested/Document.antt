@@ -1,6 +1,6 @@
 -- The pools document that is suggested for a schema: a start that its author changes, or one for the samples around an object (this
 -- project's own).
-use Rattle.std.specs.Prelude.{◌≤◌, ℕ, List, [], ◌∷◌, ◌++◌, Bool, true, false, Option, Some, None, map, filter, take, length, not, codes}
+use Rattle.std.specs.Prelude.{◌≤◌, ℕ, List, [], ◌∷◌, ◌++◌, true, false, Option, Some, None, map, filter, take, length, not, codes}
 use Rattle.std.specs.List.{repeat, fold}
 use Rattle.std.specs.declared.cmp.Ordering.{Ordering}
 use Rattle.std.specs.declared.cmp.Ordering.TheVariants.{Less, Equal, Greater}
@@ -19,6 +19,7 @@ use Rattle.suggest.specs.Suggested.Lists.{Entry, lists_at, names_at}
 use Rattle.suggest.specs.Suggested.Values.{all_integers, all_lengths}
 use Rattle.suggest.specs.Suggested.Varied.{Said, said_below}
 use Rattle.suggest.specs.Suggested.Wanted.{Wanted}
+use Rattle.suggest.specs.Suggested.Without.{without_paths}
 
 abbrev pub items_of : List Data → Items
 items_of [] = no_items
@@ -112,8 +113,9 @@ abbrev pub document_of : PoolLimits → Node → List (List ℕ) → Said → Da
 document_of limits root without said = document_with suggested_any (members_from (said.fixed ++ map without_entry without)) (suggested_integers root)
     (chosen_names limits.names (said.names ++ usual_names)) (members_from (take limits.paths said.lists)) (filter (λ t. not (is_among t without)) said.present) (suggested_strings root)
 
+-- of the objects without the paths that never occur
 abbrev pub suggested_document : PoolLimits → Data → Node → Wanted → Data
-suggested_document limits raw root w = document_of limits root w.without (said_by w.varied (general_of limits root) w raw root)
+suggested_document limits raw root w = document_of limits root w.without (said_by w.varied (general_of limits root) (without_paths root w) raw root)
 
 -- nothing but the schema is asked about
 abbrev pub nothing_wanted : Wanted

@@ -8,6 +8,7 @@ use Rattle.plan.specs.Pools.FixedPaths.{IsFixablePath}
 use Rattle.suggest.specs.Suggested.Document.{CanBeRead, single, suggested_document}
 use Rattle.suggest.specs.Suggested.Varied.{reach}
 use Rattle.suggest.specs.Suggested.Wanted.{Wanted}
+use Rattle.suggest.specs.Suggested.Without.{without_paths}
 use Rattle.suggest.specs.declared.fault.SuggestFault.{SuggestFault}
 use Rattle.suggest.specs.declared.fault.SuggestFault.TheVariants.{BadPath, NotInObject, TooLarge, NoMemory}
 use Rattle.suggest.specs.declared.varying.Reach.TheVariants.{Undeclared, Missing, There}
@@ -31,12 +32,13 @@ AreVaried root w = All (CanVary root w) w.varied
 abbrev pub AreFixable : Node → Wanted → Type 0
 AreFixable root w = All (IsFixablePath root) w.without
 
+-- paths are varied in the object without those that never occur
 abbrev pub IsSuggestFault : PoolLimits → Data → Node → Wanted → SuggestFault → Type 0
 IsSuggestFault limits raw root w (BadPath text) =
-    IsFirst (CanVary root w) (λ t. reach t (single w.objects) [] root ≡ Undeclared) w.varied (string_bytes text)
-    ⊎ (AreVaried root w × IsFirst (IsFixablePath root) (λ t. IsFixablePath root t → ⊥) w.without (string_bytes text))
+    IsFirst (CanVary root (without_paths root w)) (λ t. reach t (single (without_paths root w).objects) [] root ≡ Undeclared) w.varied (string_bytes text)
+    ⊎ (AreVaried root (without_paths root w) × IsFirst (IsFixablePath root) (λ t. IsFixablePath root t → ⊥) w.without (string_bytes text))
 IsSuggestFault limits raw root w (NotInObject text) =
-    IsFirst (CanVary root w) (λ t. reach t (single w.objects) [] root ≡ Missing) w.varied (string_bytes text)
-IsSuggestFault limits raw root w TooLarge = AreVaried root w × AreFixable root w
+    IsFirst (CanVary root (without_paths root w)) (λ t. reach t (single (without_paths root w).objects) [] root ≡ Missing) w.varied (string_bytes text)
+IsSuggestFault limits raw root w TooLarge = AreVaried root (without_paths root w) × AreFixable root w
     × (CanBeRead limits (suggested_document limits raw root w) → ⊥)
 IsSuggestFault limits raw root w NoMemory = Unit {0}

@@ -1,7 +1,7 @@
 -- The values that are listed for a scalar or an open node: those that stand there in objects; else its default, its example and texts of
 -- its format, each where it is stored there (OpenAPI 3.0, `default`, `example` and `format`; this project's own choice). Around an object
 -- these come besides what stands there.
-use Rattle.std.specs.Prelude.{ℕ, List, [], ◌∷◌, ◌++◌, Bool, true, false, Option, Some, None, ◌&&◌, ◌||◌, not, is_some, if◌then◌else◌, filter, map, take, option_and_then, unwrap_or, codes}
+use Rattle.std.specs.Prelude.{ℕ, List, [], ◌++◌, Bool, true, false, Option, ◌&&◌, not, is_some, if◌then◌else◌, filter, map, take, option_and_then, unwrap_or, codes}
 use Rattle.std.specs.Option.{option_to_list}
 use Rattle.jtree.specs.Data.{Data, text}
 use Rattle.jtree.specs.Path.{under}
