@@ -80,3 +80,10 @@ items_without-returns t c =
     let P = place_at c.args.path.now (node_of c.args.node.now) in
     let is = items_done ts P c.deref-item-items.result.now c.loop-item.copies.items c.loop-item.item-index _ c.loop-item-test.false c.loop-item.invariant in
     is ∙ ap (items_left ts P) (ap items_of c.deref-item-items.ensures.value ∙ c.items.view_is)
+
+-- ---- a part
+
+pub part_without-returns : goal.part_without-returns
+part_without-returns t c =
+    let stays = sym c.is_among.ensures ∙ c.if-is_among.false in
+    rw stays (ap Some c.in_ok-tree_without.ensures)
