@@ -1,5 +1,5 @@
 //! The pools document that is suggested for a schema.
-ghost use Rattle.std.specs.Prelude.{◌≡◌, ◌≤◌, ◌++◌, [], Some, None, IfOk, IfErr, OnOk, length, map, filter, take, not};
+ghost use Rattle.std.specs.Prelude.{◌≡◌, ◌≤◌, ◌<◌, ◌++◌, [], Some, None, IfOk, IfErr, OnOk, length, map, filter, take, not};
 ghost use Rattle.jtree.specs.Data.{depth, no_members as none};
 ghost use Rattle.jtree.specs.Reads.{most_bytes, most_depth};
 ghost use Rattle.jtree.specs.Text.{compact};
@@ -54,7 +54,8 @@ use stored::Schema;
 ///
 /// `BadPath` with the first varied path that is not a declared path of names, or, where all can be varied, with the first path of
 /// `without` whose values cannot be fixed. `NotInObject` with the first varied path whose last field belongs to nothing in the object
-/// without these paths, or where there is not one object alone. `TooLarge` where the document would not be read again. `NoMemory` where an allocation fails.
+/// without these paths, or where there is not one object alone. `TooLarge` where the document, printed with a newline, would not be read
+/// again. `NoMemory` where an allocation fails.
 pub fn suggested_pools(
     alloc: Global,
     raw: &Tree,
@@ -66,7 +67,7 @@ pub fn suggested_pools(
     ensures form { IfOk result (λ d. HasForm (data_of d)) }
     ensures small { IfOk result (λ d. AreSmall limits (pools_of (data_of d))) }
     ensures paths { IfOk result (λ d. HasGoodPaths schema.now (pools_of (data_of d))) }
-    ensures short { IfOk result (λ d. length (compact (data_of d)) ≤ most_bytes) }
+    ensures short { IfOk result (λ d. length (compact (data_of d)) < most_bytes) }
     ensures shallow { IfOk result (λ d. depth (data_of d) ≤ most_depth) }
     ensures err { IfErr result (IsSuggestFault limits (data_of raw.now) schema.now (wanted_of wanted.now)) }
 {

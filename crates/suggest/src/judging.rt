@@ -69,7 +69,7 @@ pub(crate) fn check_without(
     Ok(())
 }
 
-/// Whether the document is as short, as shallow and as small as pools that are read.
+/// Whether the document is as short, with the newline of its line, as shallow and as small as pools that are read.
 pub(crate) fn can_be_read(
     alloc: Global,
     document: &Tree,
@@ -79,7 +79,7 @@ pub(crate) fn can_be_read(
 {
     let text = document.append_text(Vec::new(alloc))?;
     Ok(
-        text.len() <= MOST_BYTES
+        text.len() < MOST_BYTES
             && (is_shallow(document, MOST_DEPTH) && oversized_pool(document, limits).is_none()),
     )
 }

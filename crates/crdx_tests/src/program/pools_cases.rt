@@ -1,6 +1,10 @@
 //! `pools`: a document to start with, with the values of objects, and around an object.
-use crate::support::harness::{SchemaRun, all_schema_runs};
+use crate::support::fakes::{FailingSink, FakeInputs};
+use crate::support::harness::{Output, SchemaRun, all_schema_runs, definition, is_answer, run_on};
 use crate::support::report::Report;
+use crate::support::texts::padded;
+use jtree::MOST_BYTES;
+use std::alloc::Global;
 use std::test::Fail;
 
 /// The pools with the integer of an object.
@@ -277,5 +281,42 @@ fn pools_of_objects(rt: HostRuntime) -> Result<(), Fail> {
     all_schema_runs(&mut report, rt.alloc(), &VALUES);
     all_schema_runs(&mut report, rt.alloc(), &VARIED);
     all_schema_runs(&mut report, rt.alloc(), &REFUSALS);
+    report.end(&rt)
+}
+
+/// The pools for an object whose text has so many spaces.
+fn spaced_pools(alloc: Global, spaces: usize) -> Result<Output, Fail> {
+    let crd = definition(
+        alloc,
+        r#"{"type":"object","properties":{"a":{"type":"string"}}}"#,
+    )?;
+    let mut object = padded(alloc, "{\"a\":\"", spaces)?;
+    object.push_str("\"}")?;
+    let inputs = FakeInputs::new(alloc, crd.as_str(), object.as_str());
+    let command = "crdx pools crd.json v1 --from object.json";
+    let sink = FailingSink::endless(alloc);
+    Ok(run_on(alloc, command, inputs, sink)?)
+}
+
+/// With its newline a document may be as long as one that is read, and no longer.
+fn try_longest(report: &mut Report, alloc: Global) -> Result<(), Fail> {
+    let beside = spaced_pools(alloc, 1)?.out.text().len() - 1;
+    let longest = spaced_pools(alloc, MOST_BYTES - beside)?;
+    report.is_number(
+        "the length",
+        longest.out.text().len() as u64,
+        MOST_BYTES as u64,
+    );
+    report.is_number("the status", u64::from(longest.status), 0);
+    let longer = spaced_pools(alloc, MOST_BYTES - beside + 1)?;
+    is_answer(report, &longer, "", "crdx: pools: P2\n", 3);
+    Ok(())
+}
+
+#[test]
+fn longest_pools(rt: HostRuntime) -> Result<(), Fail> {
+    let mut report = Report::new(rt.alloc());
+    let ended = try_longest(&mut report, rt.alloc());
+    report.row("the longest pools", ended);
     report.end(&rt)
 }

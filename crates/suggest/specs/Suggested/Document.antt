@@ -1,6 +1,6 @@
 -- The pools document that is suggested for a schema: a start that its author changes, or one for the samples around an object (this
 -- project's own).
-use Rattle.std.specs.Prelude.{◌≤◌, ℕ, List, [], ◌∷◌, ◌++◌, true, false, Option, Some, None, map, filter, take, length, not, codes}
+use Rattle.std.specs.Prelude.{◌≤◌, ◌<◌, ℕ, List, [], ◌∷◌, ◌++◌, true, false, Option, Some, None, map, filter, take, length, not, codes}
 use Rattle.std.specs.List.{repeat, fold}
 use Rattle.std.specs.declared.cmp.Ordering.{Ordering}
 use Rattle.std.specs.declared.cmp.Ordering.TheVariants.{Less, Equal, Greater}
@@ -123,8 +123,8 @@ nothing_wanted = record { objects = []; varied = []; without = [] }
 
 -- ---- whether it can be read again
 
--- it is as short, as shallow and as small as pools that are read
+-- it is as short, with the newline of its line, as shallow and as small as pools that are read
 pub record CanBeRead (limits : PoolLimits) (document : Data) : Type 0 where
-  pub short : length (compact document) ≤ most_bytes
+  pub short : length (compact document) < most_bytes
   pub shallow : depth document ≤ most_depth
   pub small : AreSmall limits (pools_of document)
