@@ -1,5 +1,5 @@
 -- What the answers to lines say together, one line after the other, and what is out where they end early.
-use Rattle.std.proofs.Common.{◌≡◌, ℕ, suc, ◌+◌, List, [], ◌∷◌, ◌++◌, length, take, ◌<◌, ◌⊎◌, Bool, Option, Ok, Err, refl, sym, ap, ◌∙◌, subst, inl, inr, arith, length-append, append-nil, append_assoc}
+use Rattle.std.proofs.Common.{◌≡◌, ℕ, suc, ◌+◌, List, [], ◌∷◌, ◌++◌, length, take, ◌<◌, ◌⊎◌, Option, Ok, Err, refl, sym, ap, ◌∙◌, subst, inl, inr, arith, length-append, append-nil, append_assoc}
 use Rattle.std.specs.Prelude.{max, Result, IfOk, IfErr, OnOk}
 use Rattle.std.proofs.Math.ListN.{replicate}
 use Rattle.std.proofs.lemmas.List.{length-replicate}
@@ -91,14 +91,20 @@ module _ (N : Node) (command : ObjectCommand) where
         -- a beginning of the answer is out
         pub cut_cause : (some : (rest : List (List ℕ)) × next rest) (unread read unfailed failed : ℕ) (later : Option (List ℕ)) (cause : Cause) → IsCutCause t new later unfailed failed cause
             → IsLinesCause first N command unread read old later unfailed failed cause
-        cut_cause some unread read unfailed failed later (Write n) (has, (bytes, out)) = (has, (some.0, record {
-          lines = s.lines ++ a.line ∷ [];
-          status = max status here;
-          text = s.text ++ t;
-          answered = answered_there some.0 some.1;
-          bytes = length s.text + bytes;
-          out = subst (Appends old later) (sym (take-append-add s.text t bytes)) (Appends-trans old new later s.text (take bytes t) s.out out);
-        }))
+        cut_cause some unread read unfailed failed later (Write n) (has, (bytes, out)) = (
+          has,
+          (
+            some.0,
+            record {
+              lines = s.lines ++ a.line ∷ [];
+              status = max status here;
+              text = s.text ++ t;
+              answered = answered_there some.0 some.1;
+              bytes = length s.text + bytes;
+              out = subst (Appends old later) (sym (take-append-add s.text t bytes)) (Appends-trans old new later s.text (take bytes t) s.out out);
+            },
+          ),
+        )
         cut_cause some unread read unfailed failed later _ why = absurd why
 
 -- the lines at hand later were at hand before

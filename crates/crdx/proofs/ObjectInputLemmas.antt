@@ -1,5 +1,5 @@
 -- The documents of lines: one on each, or one over all of them.
-use Rattle.std.proofs.Common.{◌≡◌, ◌≢◌, ℕ, suc, ◌+◌, ◌≤◌, ◌<◌, List, [], ◌∷◌, ◌++◌, length, map, take, get_or, Bor, Bool, Ok, Err, refl, sym, ap, ◌∙◌, subst, inl, inr, arith, length-append, append-nil, append_assoc}
+use Rattle.std.proofs.Common.{◌≡◌, ℕ, suc, ◌+◌, ◌≤◌, ◌<◌, List, [], ◌∷◌, ◌++◌, length, map, take, get_or, Bor, Bool, Err, refl, sym, ap, ◌∙◌, subst, arith, length-append, append-nil, append_assoc}
 use Rattle.std.specs.Prelude.{Contains}
 use Rattle.std.proofs.lemmas.List.{get_or-map, length-map, map-append, take_more}
 use Rattle.std.proofs.lemmas.List.Elements.{Contains-get_or}
@@ -8,16 +8,15 @@ use Rattle.jtree.specs.Lines.{newline}
 use Rattle.jtree.specs.Reads.{Reads, IsNoDocument, most_bytes}
 use Rattle.jtree.specs.View.{data_of}
 use Rattle.jtree.specs.declared.value.Tree.{Tree}
-use Rattle.jtree.specs.declared.fault.JFault.{JFault}
 use Rattle.jtree.specs.declared.fault.JFault.TheVariants as f
 use Rattle.crdx.specs.Program.Documents.{Lines, AreLinesAmong}
 use Rattle.crdx.specs.Program.Envelope.{body_of}
-use Rattle.crdx.specs.Program.InputFault.{IsOfBytes, IsLineFault, failures_after_read}
-use Rattle.crdx.specs.Program.Objects.{AreRead, AreDocuments, on_lines, over_lines, AreObjects, none, more, text_of_lines, IsRefused, BeginsWithNone, IsNoText, IsBrokenAt, HasInput}
+use Rattle.crdx.specs.Program.InputFault.{IsLineFault, failures_after_read}
+use Rattle.crdx.specs.Program.Objects.{AreRead, AreDocuments, on_lines, over_lines, AreObjects, none, more, text_of_lines, IsRefused, HasInput}
 use Rattle.crdx.specs.Program.CommandLine.{input_of}
 use Rattle.crdx.specs.Internal.Cause.{IsObjectInputCause, HasComing}
 use Rattle.crdx.specs.Internal.LineProgress.{cause_of_line}
-use Rattle.crdx.specs.Internal.ObjectInputs.{AreAdded, AddsLines, AddsSoFar, AddsText, IsTextSoFar, IsBrokenLater, IsBrokenLine, IsLaterCause, IsTextCause, IsRefusedText, cause_of_text}
+use Rattle.crdx.specs.Internal.ObjectInputs.{AreAdded, AddsLines, AddsSoFar, AddsText, IsTextSoFar, IsBrokenLine, IsLaterCause, IsTextCause, IsRefusedText, cause_of_text}
 use Rattle.crdx.specs.declared.inputs.InFault.{InFault}
 use Rattle.crdx.specs.declared.inputs.InFault.TheVariants.{Failed, Document}
 use Rattle.crdx.specs.declared.running.causes.Input.TheVariants as input

@@ -1,6 +1,6 @@
 -- The result of `pools`, by the document that is suggested or by why there is none.
-use Rattle.std.proofs.Common.{◌≡◌, ◌≢◌, ◌⊎◌, ℕ, List, [], ◌∷◌, ◌++◌, true, Bor, None, Ok, Err, refl, sym, ap, ◌∙◌, subst, inl, inr, take, map, string_bytes}
-use Rattle.std.specs.Prelude.{IfOk, IfErr, OnOk, OnErr, Result, Contains}
+use Rattle.std.proofs.Common.{◌≡◌, ◌⊎◌, ℕ, List, true, Bor, None, Ok, Err, refl, ap, ◌∙◌, subst, inl, inr, take, map, string_bytes}
+use Rattle.std.specs.Prelude.{IfOk, IfErr, OnErr, Result}
 use Rattle.std.specs.Io.KnownBytes.{Appends, Keeps}
 use Rattle.jtree.specs.Data.{Data}
 use Rattle.schema.specs.Nodes.Node.{Node}
@@ -14,11 +14,11 @@ use Rattle.jtree.specs.declared.value.Tree.{Tree}
 use Rattle.plan.specs.declared.pool_limits.PoolLimits.{PoolLimits}
 use Rattle.suggest.specs.Suggested.Document.{suggested_document}
 use Rattle.crdx.specs.Output.Line.{line}
-use Rattle.crdx.specs.Program.Documents.{Documents, Lines, AreLinesAmong}
-use Rattle.crdx.specs.Program.Objects.{HasInput, IsNoText, IsBrokenAt, AreRefused}
+use Rattle.crdx.specs.Program.Documents.{Lines, AreLinesAmong}
+use Rattle.crdx.specs.Program.Objects.{HasInput, IsNoText, IsBrokenAt}
 use Rattle.crdx.specs.Program.Requested.{IsAcceptedSchema, pool_limits_of}
-use Rattle.crdx.specs.Program.RunResult.{Effects, WritesNothing, IsRunResult, IsWanted, IsPoolsRequest, IsPoolsResult, pools_line, suggested, unwritten, unread_objects, not_suggested, on_objects, read_failed}
-use Rattle.crdx.specs.Internal.Cause.{IsObjectInputCause, IsNotSuggested, IsSuggestionCause, IsPoolsRequestCause}
+use Rattle.crdx.specs.Program.RunResult.{Effects, WritesNothing, IsRunResult, IsWanted, IsPoolsRequest, pools_line, suggested, unwritten, unread_objects, not_suggested, on_objects, read_failed}
+use Rattle.crdx.specs.Internal.Cause.{IsObjectInputCause, IsSuggestionCause, IsPoolsRequestCause}
 use Rattle.crdx.specs.Internal.ExitStatus.{status, cause_of_suggestion, IsWritten}
 use Rattle.crdx.specs.declared.arguments.request.PoolsArguments.{PoolsArguments}
 use Rattle.crdx.specs.declared.arguments.request.Request.TheVariants.{SuggestPools}

@@ -20,7 +20,7 @@ use Rattle.crdx.specs.Program.FieldAnswer.{IsFieldAnswer}
 use Rattle.crdx.specs.Program.ObjectAnswer.{IsObjectAnswer}
 use Rattle.crdx.specs.Program.Requested.{IsRequestedSchema, HasReadFault, HasPoolsFault, IsAcceptedSchema, IsRequested, pool_limits_of, total_of}
 use Rattle.crdx.specs.Program.Objects.{HasInput, IsNoText, IsBrokenAt}
-use Rattle.crdx.specs.Program.RunResult.{IsAnswer, IsInputRefused, IsWanted, IsPoolsRequest, Effects, WritesNothing, lines_of}
+use Rattle.crdx.specs.Program.RunResult.{IsAnswer, IsInputRefused, IsWanted, Effects, WritesNothing, lines_of}
 use Rattle.crdx.specs.Program.Requested.{IsRequestedRoot}
 use Rattle.crdx.specs.Internal.LineProgress.{IsLinesCause}
 use Rattle.plan.specs.Pools.Pools.{Pools as PoolsData}

@@ -2,9 +2,7 @@
 use Rattle.std.specs.Prelude.{◌≡◌, ◌⊎◌, ℕ, List, ◌∷◌, ◌++◌, length, take, Option}
 use Rattle.std.specs.Io.KnownBytes.{Appends, Keeps}
 use Rattle.jtree.specs.Failures.{HasFailed}
-use Rattle.jtree.specs.Reads.{IsNoDocument}
 use Rattle.schema.specs.Nodes.Node.{Node}
-use Rattle.crdx.specs.Program.InputFault.{IsOfBytes}
 use Rattle.crdx.specs.Program.LineAnswers.{IsLineAnswer, AreLineAnswers, AreOut, AreCut}
 use Rattle.crdx.specs.declared.arguments.request.ObjectCommand.{ObjectCommand}
 use Rattle.jtree.specs.declared.fault.JFault.TheVariants as f

@@ -1,5 +1,5 @@
 -- What a run answers: its exit status, and what it leaves on standard output (this project's own).
-use Rattle.std.specs.Prelude.{◌≡◌, ◌≢◌, ◌⊎◌, ℕ, List, [], ◌∷◌, take, Bool, true, false, Option, Some, None, IfSome, String, map, string_bytes, codes}
+use Rattle.std.specs.Prelude.{◌≡◌, ◌≢◌, ◌⊎◌, ℕ, List, [], take, Bool, true, false, Option, Some, None, IfSome, String, map, string_bytes, codes}
 use Rattle.std.specs.Global.{Global}
 use Rattle.std.specs.Io.KnownBytes.{Appends, Keeps}
 use Rattle.jtree.specs.Data.{Data}

@@ -396,8 +396,8 @@ pub(super) const LINES_LONG: &str =
     "Takes an object on each line, as `crdx sample` prints them, of at most
 1,048,576 bytes each, and any number of them. A line that is no JSON
 document is answered by its code, such as `7: J3`; `prune` and
-`default` say it on standard error, as `crdx: object: 7: J3`. The lines
-after it are answered too, and the status is 3.";
+`default` say `crdx: object: 7: J3` on standard error. The lines after
+it are answered too, and the status is 3.";
 
 pub(super) const LARGE: &str = "Reads definitions and pools of real size";
 

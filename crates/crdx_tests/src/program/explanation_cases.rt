@@ -126,7 +126,7 @@ static DOCUMENTS: [Run<'static>; 6] = [
         crd: WIDGET,
         second: "",
         out: "",
-        err: "crdx: object: read failed\n",
+        err: "crdx: object: read failed\n    \"nowhere.json\" is not there\n",
         status: 4,
     },
 ];

@@ -1,4 +1,4 @@
-use Rattle.std.proofs.Common.{◌≡◌, ◌<◌, ap, refl, subst, inl, inr, arith, map, ◌∙◌}
+use Rattle.std.proofs.Common.{◌<◌, ap, refl, subst, inl, inr, arith, map, ◌∙◌}
 use Rattle.clap.specs.Matches.{found_of}
 use Rattle.clap.specs.Walk.{rows_of}
 use Rattle.crdx.specs.Program.Documents.{file_name}

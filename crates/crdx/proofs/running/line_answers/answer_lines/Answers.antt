@@ -1,4 +1,4 @@
-use Rattle.std.proofs.Common.{◌≡◌, ◌+◌, List, ℕ, sym, subst, inr, ◌∙◌}
+use Rattle.std.proofs.Common.{subst, inr, ◌∙◌}
 use Rattle.std.proofs.KnownBytes.{Keeps-refl}
 use Rattle.schema.specs.Nodes.View.{node_of}
 use Rattle.crdx.specs.Internal.LineProgress.{IsUnreadCause, IsCutCause}

@@ -1,5 +1,4 @@
-use Rattle.std.proofs.Common.{◌≡◌, ◌+◌, ◌∷◌, Bool, List, ℕ, Err, refl, sym, subst, ◌∙◌}
-use Rattle.crdx.specs.Internal.ObjectInputs.{IsBrokenLine, IsLaterCause}
+use Rattle.std.proofs.Common.{◌≡◌, ◌∷◌, Bool, List, ℕ, Err, refl, sym, subst, ◌∙◌}
 use Rattle.crdx.specs.Program.InputFault.{failures_after_read}
 use Rattle.crdx.proofs.ObjectInputLemmas.{none_added, added_line, later_broken, later_unread}
 use Rattle.crdx.proofs.running.object_inputs.read_more.Goals as goal

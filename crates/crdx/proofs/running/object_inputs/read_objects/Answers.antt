@@ -1,4 +1,4 @@
-use Rattle.std.proofs.Common.{◌≡◌, refl, sym, ap, subst, map, ◌∙◌}
+use Rattle.std.proofs.Common.{refl, sym, subst, map, ◌∙◌}
 use Rattle.jtree.specs.View.{data_of}
 use Rattle.crdx.specs.Program.Objects.{AreObjects, none}
 use Rattle.crdx.proofs.ObjectInputLemmas.{word_cause, word_added}

@@ -1,6 +1,5 @@
-use Rattle.std.proofs.Common.{◌≡◌, ◌<◌, length, arith, ◌∷◌, [], ◌++◌, Bool, List, ℕ, Ok, Err, refl, sym, ap, subst, ◌∙◌}
+use Rattle.std.proofs.Common.{◌≡◌, ◌<◌, length, arith, ◌∷◌, [], Bool, List, ℕ, Err, sym, subst, ◌∙◌}
 use Rattle.std.proofs.lemmas.Result.{IfErr-weaker, on_ok_weaker}
-use Rattle.jtree.specs.Lines.{newline}
 use Rattle.jtree.specs.Reads.{Reads, most_bytes}
 use Rattle.crdx.specs.Internal.ObjectInputs.{AreAdded, IsRefusedText, IsTextSoFar}
 use Rattle.crdx.specs.Program.InputFault.{failures_after_read}

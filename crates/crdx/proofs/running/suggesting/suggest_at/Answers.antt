@@ -1,4 +1,4 @@
-use Rattle.std.proofs.Common.{◌≡◌, inl, refl, subst, map, ◌∙◌}
+use Rattle.std.proofs.Common.{inl, refl, subst, map, ◌∙◌}
 use Rattle.crdx.specs.Internal.Cause.{IsObjectInputCause}
 use Rattle.jtree.specs.View.{data_of}
 use Rattle.crdx.specs.Program.Objects.{AreObjects, HasInput}
