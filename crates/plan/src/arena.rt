@@ -3,7 +3,7 @@ ghost use Rattle.std.specs.Prelude.{◌≡◌, ◌<◌, ◌≤◌, ◌+◌, ◌+
 ghost use Rattle.plan.specs.Pools.Pools.{Pools};
 ghost use Rattle.plan.specs.Samples.Sites.{Site};
 ghost use Rattle.plan.specs.Samples.Candidates.{sort_of, HasCount};
-ghost use Rattle.plan.specs.Internal.Arena.{AreRight};
+ghost use Rattle.plan.specs.Internal.Arena.{AreRightBelow};
 ghost use Rattle.plan.specs.Samples.Sites.{site_at};
 ghost use Rattle.plan.specs.declared.values.Values.{Values};
 ghost use Rattle.plan.specs.declared.sort.Sort.TheVariants.{Leaf as LeafSort};
@@ -162,7 +162,7 @@ impl<Z: SizeSet> Arena<Z> {
 
     /// How many candidates the leaf has; 0 where the node is not a leaf of the arena.
     pub(crate) fn count(&self, node: PlanNode) -> u64
-        ensures { (P : Pools) (sites : List Site) → AreRight Z.holds self.now.limit P self.now.values sites self.now.entries.items → node < length self.now.entries.items
+        ensures { (P : Pools) (sites : List Site) (i : ℕ) → AreRightBelow Z.holds self.now.limit P self.now.values sites i self.now.entries.items → node < i → i ≤ length self.now.entries.items
             → sort_of (site_at sites node) ≡ LeafSort → HasCount P (site_at sites node) result }
     {
         match self.find(node) {

@@ -21,9 +21,9 @@ ghost use Rattle.plan.specs.Internal.Building.{IsBuilt, AreBuilt, IsFieldSlot};
 
 use crate::arena::{Arena, Content, Entry, PlanNode, SlotEntry, SlotName};
 use crate::asked::{raised, takes_null};
-use crate::entries::add_row;
+use crate::entries::row_entry;
 use crate::leaf::{leaf_of, leaf_sizes};
-use crate::list_entries::add_list;
+use crate::list_entries::list_entry;
 use crate::presence::{bit_of, ends, named_fields};
 use crate::{Pools, SizeSet};
 use explain::{Step, path_below};
@@ -80,7 +80,8 @@ fn build_object<Z: SizeSet>(
     let named = named_fields(alloc, &object.junctors)?;
     let slots = build_fields(arena, alloc, pools, path, &object.fields, keys, &named)?;
     let ends = ends(alloc, &object.junctors, &named)?;
-    add_row(arena, alloc, slots, object.bounds, &ends, nullable)
+    let entry = row_entry(arena, alloc, slots, object.bounds, &ends, nullable)?;
+    arena.add(entry)
 }
 
 /// Adds the entries of the fields' nodes, and answers their slots; `named` are the fields that the junctors name.
@@ -171,7 +172,8 @@ fn build_map<Z: SizeSet>(
     )?;
     let slots = value_slots(alloc, arena.values.names.len(), value)?;
     let bounds = raised(map.bounds, pools.is_present(&below));
-    add_row(arena, alloc, slots, bounds, &[true], nullable)
+    let entry = row_entry(arena, alloc, slots, bounds, &[true], nullable)?;
+    arena.add(entry)
 }
 
 #[cycle(build)]
@@ -201,7 +203,8 @@ fn build_list<Z: SizeSet>(
         item_keys(list),
     )?;
     let bounds = raised(list.bounds, pools.is_present(&below));
-    add_list(arena, alloc, item, list, bounds, nullable)
+    let entry = list_entry(arena, alloc, item, list, bounds, nullable)?;
+    arena.add(entry)
 }
 
 /// The values that the pools fix for the items of a list: none for those of a map list.

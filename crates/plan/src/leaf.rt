@@ -150,7 +150,8 @@ pub(crate) fn stored_places(
     let mut places = Vec::with_capacity(alloc, trees.len())?;
     for (place, tree) in trees.iter().enumerate() {
         tree.reveal_invariant();
-        if check_stored(alloc, node, tree)? {
+        let stored = check_stored(alloc, node, tree)?;
+        if stored {
             places.push(place)?;
         }
     }

@@ -103,9 +103,13 @@ pub record IsRight {Z : Type 0} (holds : Z → ℕ → Type 0) (limit : ℕ) (P 
   pub nullable : e.nullable ≡ admits_null P (site_at sites i)
   pub content : HasContent holds limit P v sites i e.content
 
--- the entries represent the first of these sites
+-- the entries before the n-th represent the sites of their numbers
+abbrev pub AreRightBelow : {Z : Type 0} → (Z → ℕ → Type 0) → ℕ → Pools → Values → List Site → ℕ → List (Entry Z) → Type 0
+AreRightBelow {Z} holds limit P v sites n es = (i : ℕ) (e : Entry Z) → i < n → IsRight holds limit P v sites i (get_or es i e)
+
+-- and so do all
 abbrev pub AreRight : {Z : Type 0} → (Z → ℕ → Type 0) → ℕ → Pools → Values → List Site → List (Entry Z) → Type 0
-AreRight {Z} holds limit P v sites es = (i : ℕ) (e : Entry Z) → i < length es → IsRight holds limit P v sites i (get_or es i e)
+AreRight holds limit P v sites es = AreRightBelow holds limit P v sites (length es) es
 
 -- these sites have the numbers from `start` on
 abbrev pub AreSitesFrom : List Site → ℕ → List Site → Type 0

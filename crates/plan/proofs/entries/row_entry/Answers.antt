@@ -3,9 +3,9 @@ use Rattle.plan.specs.Samples.Sites.{slots as slots_of}
 use Rattle.plan.specs.Samples.Sites.{site_at}
 use Rattle.plan.specs.Samples.Sizes.{Ending}
 use Rattle.plan.specs.Internal.Tables.{columns}
-use Rattle.plan.proofs.EntryLemmas.{chosen_count, chosen_choices, chosen_closed, right_push, row_right}
+use Rattle.plan.proofs.EntryLemmas.{chosen_count, chosen_choices, chosen_closed, row_right}
 use Rattle.plan.proofs.RowLemmas.{shape_at, width_at}
-use Rattle.plan.proofs.entries.add_row.Goals as goal
+use Rattle.plan.proofs.entries.row_entry.Goals as goal
 
 pub tables-requires-clause-closed : goal.tables-requires-clause-closed
 tables-requires-clause-closed g c =
@@ -45,10 +45,8 @@ index-requires-3 g c =
     let wide = width_at kinds (columns c.args.bounds (count - c.len.result)) table.items 0 c.index-2.result.now shape inside c.index-2.ensures in
     omega (arith, wide, c.len.ensures)
 
-pub returns-clause-right : goal.returns-clause-right
-returns-clause-right g c = λ P sites cs right o sort ending met null are.
-    let i = c.in_ok-node.node in
-    let number = c.in_ok-node.ensures.number in
+pub returns : goal.returns
+returns g c = λ P sites i cs right inside o sort ending met null are.
     let limit = c.args.arena.now.limit in
     let values = c.args.arena.now.values in
     let entries = c.args.arena.now.entries.items in
@@ -59,8 +57,6 @@ returns-clause-right g c = λ P sites cs right o sort ending met null are.
     let count : length c.deref-3.result.now ≡ length slots = ap length c.deref-3.ensures.value ∙ chosen_count entries c.in_ok-choices.choices.items slots chosen in
     let place : c.len.result ≡ length slots = omega (arith, c.len.ensures) in
     let choices = rw (← c.deref-3.ensures.value) at (chosen_choices holds limit P values sites entries i c.in_ok-choices.choices.items slots (slots_of P (site_at sites i)) right chosen are) in
-    let inside : i ≤ length entries = omega (arith, number) in
-    right_push holds limit P values sites entries c.add.new.self.entries.items _ i right c.in_ok-node.ensures.added number
-    (row_right holds limit P values sites i c.args.slots c.in_ok-later.later c.in_ok-tables.tables e c.args.ends.now c.args.nullable c.index.result.now c.index-2.result.now c.index-3.result.now c.whole_sizes-sizes.result
+    row_right holds limit P values sites i c.args.slots c.in_ok-later.later c.in_ok-tables.tables e c.args.ends.now c.args.nullable c.index.result.now c.index-2.result.now c.index-3.result.now c.whole_sizes-sizes.result
     c.parts_one_level.ensures c.requires.limit.0 o sort ending met null are c.requires.closed (rw c.deref-2.ensures.value at c.in_ok-later.ensures.whole) (c.in_ok-later.ensures.later P sites i (slots_of P (site_at sites i)) right inside (rw c.deref-2.ensures.value are))
-    (rw count at c.in_ok-tables.ensures.whole) (rw count at c.in_ok-tables.ensures.shaped) (c.in_ok-tables.ensures.tables P (slots_of P (site_at sites i)) e refl met choices) (rw place at c.index.ensures) c.index-2.ensures c.index-3.ensures c.whole_sizes-sizes.ensures)
+    (rw count at c.in_ok-tables.ensures.whole) (rw count at c.in_ok-tables.ensures.shaped) (c.in_ok-tables.ensures.tables P (slots_of P (site_at sites i)) e refl met choices) (rw place at c.index.ensures) c.index-2.ensures c.index-3.ensures c.whole_sizes-sizes.ensures
