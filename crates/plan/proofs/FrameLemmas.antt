@@ -40,7 +40,9 @@ use Rattle.plan.specs.declared.arena.SlotEntry.{SlotEntry}
 use Rattle.plan.specs.declared.arena.Content.{Content}
 use Rattle.plan.specs.declared.arena.Content.TheVariants as content
 use Rattle.plan.specs.declared.arena.Entry.{Entry}
+use Rattle.std.proofs.lemmas.Option.{same_Some}
 use Rattle.plan.proofs.ApartLemmas.{among_filter}
+use Rattle.plan.proofs.FixedLemmas.{item_unfixed}
 
 -- ---- the other way round
 
@@ -215,7 +217,9 @@ field_slots_same P Q path keys names (field k N required default fs) h =
 
 slots_at_same : (P Q : Pools) (path : List ℕ) (N : Node) (keys : List (List ℕ)) → ListTheSame P Q → AreSameBelow P Q path → slots_at Q path N keys ≡ slots_at P path N keys
 slots_at_same P Q path (node n d (object fs preserves type b cs)) keys l h = field_slots_same P Q path keys (named cs) fs h
-slots_at_same P Q path (node n d (nodes.map N type b)) keys l h = rw ((step_same P Q path step.value h).1, l.names) refl
+slots_at_same P Q path (node n d (nodes.map N type b)) keys l h =
+    let slot : Option (List Data) → List ℕ → Slot = λ f k. record { name = k; site = record { node = N; keys = []; path = below path step.value; fixed = f }; must = false; key = false; bit = None } in
+    ap (λ f. map (slot f) (in_order Q.names)) (step_same P Q path step.value h).1 ∙ ap (λ xs. map (value_slot P path N) (in_order xs)) l.names
 slots_at_same P Q path (node n d (scalar kind cs)) keys l h = refl
 slots_at_same P Q path (node n d (list N type ks b)) keys l h = refl
 slots_at_same P Q path (node n d open_) keys l h = refl
@@ -274,6 +278,17 @@ slot_step : (P : Pools) (fixed : Option (List Data)) (path : List ℕ) (N : Node
 slot_step P None path N keys t a = slot_path P path N keys t a
 slot_step P (Some ds) path N keys t a = absurd a
 
+-- and so is that of items
+item_step : (P : Pools) (path : List ℕ) (N : Node) (M : Site) → item_site_at P path N ≡ Some M → below path step.item ≡ M.path
+item_step P path (node n d (list N type keys b)) M e = ap Site.path (same_Some _ M e)
+item_step P path (node n d (scalar kind cs)) M e = absurd (cc)
+item_step P path (node n d (object fs preserves type b cs)) M e = absurd (cc)
+item_step P path (node n d (nodes.map N type b)) M e = absurd (cc)
+item_step P path (node n d open_) M e = absurd (cc)
+
+item_same_at : (P Q : Pools) (s M : Site) → AreSameBelow P Q s.path → item_site P s ≡ Some M → IsSameAt P Q M.path
+item_same_at P Q s M h is = subst (IsSameAt P Q) (item_step P s.path s.node M (item_unfixed P s M is).1) (step_same P Q s.path step.item h)
+
 -- ---- entries
 
 -- where nothing differs at its path, a site is the same
@@ -313,15 +328,12 @@ module _ {Z : Type 0} (holds : Z → ℕ → Type 0) (limit : ℕ) (P Q : Pools)
       let s = site_at sites i in
       let same = same_parts P Q s lists h in
       record {
-        item = rw (here, item_site_same P Q s h) (c.item ∙ ap Some (sym (alike l.item (item_at_path s (site_at sites l.item) h c.item))));
+        item = rw (here, item_site_same P Q s h) (c.item ∙ ap Some (sym (alike l.item (item_same_at P Q s (site_at sites l.item) h c.item))));
         below = c.below;
         distinct = rw here c.distinct;
         whole = c.whole;
         more = λ t z lt. rw here (up_same limit _ (HasMore P limit s t) (HasMore Q limit s t) (λ m. (more_over P Q limit s t m same, more_over Q P limit s t m (same_back P Q s same))) (c.more t z lt));
       }
-  where
-    item_at_path : (s M : Site) → AreSameBelow P Q s.path → item_site P s ≡ Some M → IsSameAt P Q M.path
-    item_at_path s M h is = ?
 
   -- the entry of a site at which nothing differs
   pub right_over : (i : ℕ) (e : Entry Z) → site_at others i ≡ site_at sites i → AreSameBelow P Q (site_at sites i).path → IsRight holds limit P v sites i e → IsRight holds limit Q v others i e

@@ -50,3 +50,6 @@ pub mod MapListLemmas
 pub mod DeadEndLemmas
 pub mod SoundPartLemmas
 pub mod PlanSites
+pub mod FrameLemmas
+pub mod PlaceLemmas
+pub mod WayLemmas

@@ -13,3 +13,5 @@ pub mod Keyed
 pub mod Plan
 pub mod Tuples
 pub mod Widest
+pub mod Frame
+pub mod Way

@@ -142,7 +142,42 @@ pub(crate) struct Arena<Z> {
 }
 
 impl<Z: SizeSet> Arena<Z> {
-    ghost use Rattle.plan.specs.Internal.Arena.{IsEntry, IsKept};
+    ghost use Rattle.std.specs.Prelude.{slice_set, slice_index_or, option_map};
+    ghost use Rattle.std.specs.List.{slice_get};
+    ghost use Rattle.plan.specs.Internal.Arena.{IsEntry, IsKept, slots_in, item_in};
+    ghost use Rattle.plan.specs.declared.arena.Entry.{Entry as EntryDeclared};
+
+    /// The node of the slot at a place of a row.
+    pub(crate) fn slot_node(&self, node: PlanNode, place: usize) -> Option<PlanNode>
+        ensures { node < length self.now.entries.items → (e : EntryDeclared Z) → result ≡ option_map (λ s. s.node) (slice_get (slots_in (slice_index_or self.now.entries.items node e).content) place) }
+    {
+        match &self.find(node)?.content {
+            Content::Row(row) => Some(row.slots.get(place)?.node),
+            Content::Leaf(_) | Content::List(_) => None,
+        }
+    }
+
+    /// The node of the items of a list.
+    pub(crate) fn item_node(&self, node: PlanNode) -> Option<PlanNode>
+        ensures { node < length self.now.entries.items → (e : EntryDeclared Z) → result ≡ item_in (slice_index_or self.now.entries.items node e).content }
+    {
+        match &self.find(node)?.content {
+            Content::List(list) => Some(list.item),
+            Content::Leaf(_) | Content::Row(_) => None,
+        }
+    }
+
+    /// Puts an entry in the place of that of the node, and answers this one, or the same entry where the node has none.
+    pub(crate) fn put(&mut self, node: PlanNode, entry: Entry<Z>) -> Entry<Z>
+        ensures kept { IsKept self.old self.new }
+        ensures entries { self.new.entries.items ≡ slice_set self.old.entries.items node entry }
+        ensures old { node < length self.old.entries.items → IsEntry self.old.entries.items node result }
+    {
+        if node.number >= self.entries.len() {
+            return entry;
+        }
+        std::mem::replace(&mut self.entries[node.number], entry)
+    }
 
     /// The entry of a node.
     pub(crate) fn entry(&self, node: PlanNode) -> &Entry<Z>
