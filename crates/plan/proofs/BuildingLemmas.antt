@@ -199,12 +199,11 @@ leaf_below P None path n t (list M type keys b) leaf = absurd (cc)
 leaf_below P None path n t open_ leaf = refl
 
 -- a leaf
-pub leaf_built : {Z : Type 0} (holds : Z → ℕ → Type 0) (limit : ℕ) (P : Pools) (v : Values) (old new : List (Entry Z)) (fixed : Option (List Data)) (path : List ℕ) (N : Node) (keys : List (List ℕ)) (l : Leaf) (sizes : Z) (null_ok : Bool) (n : ℕ)
-    → takes_null P path N ≡ null_ok → where_fixed fixed LeafSort (sort_at N) ≡ LeafSort → new ≡ old ++ record { sizes = sizes; nullable = null_ok; content = content.Leaf l } ∷ [] → n ≡ length old → length new ≡ n + 1
-    → (AreValues P v → AreCandidates P (record { node = N; keys = keys; path = path; fixed = fixed }) (candidates_of v l)) → (AreValues P v → IsUpTo limit (holds sizes) (HasSize P (record { node = N; keys = keys; path = path; fixed = fixed })))
+pub leaf_built : {Z : Type 0} (holds : Z → ℕ → Type 0) (limit : ℕ) (P : Pools) (v : Values) (old new : List (Entry Z)) (fixed : Option (List Data)) (path : List ℕ) (N : Node) (keys : List (List ℕ)) (n : ℕ) (e : Entry Z)
+    → where_fixed fixed LeafSort (sort_at N) ≡ LeafSort → new ≡ old ++ e ∷ [] → n ≡ length old → length new ≡ n + 1
+    → ((sites : List Site) (i : ℕ) → AreValues P v → site_at sites i ≡ record { node = N; keys = keys; path = path; fixed = fixed } → IsRight holds limit P v sites i e)
     → IsBuilt holds limit P v old new fixed path N keys n
-leaf_built holds limit P v old new fixed path (node nullable description sort) keys l sizes null_ok n takes leaf is number count candidates sized =
+leaf_built holds limit P v old new fixed path (node nullable description sort) keys n e leaf is number count right =
     let none = leaf_below P fixed path nullable description sort leaf in
     node_built holds limit P v old new fixed path nullable description sort keys n (omega (arith, none)) count
-    (λ sites values sound placed here right.
-    right_push holds limit P v sites old new _ n right is number (record { sizes = rw here (sized values); nullable = rw here (sym takes); content = record { sort = rw here leaf; candidates = rw here (candidates values) } }))
+    (λ sites values sound placed here before. right_push holds limit P v sites old new e n before is number (right sites n values here))

@@ -8,11 +8,11 @@ ghost use Rattle.std.specs.Prelude.{option_map, All, map as map_list};
 ghost use Rattle.explain.specs.Paths.FieldPath.{field as field_step, value as value_step};
 ghost use Rattle.plan.specs.Samples.Sites.{Site, plain, below, where_fixed, value_slot, item_keys, fixed_item as fixed_item_of};
 ghost use Rattle.plan.specs.Pools.Pools.{Pools as PoolsData, fixed_at};
-ghost use Rattle.plan.specs.Internal.Values.{trees_of};
+ghost use Rattle.plan.specs.Internal.Values.{trees_of, AreValues};
 ghost use Rattle.plan.specs.Samples.Candidates.{sort_at};
 ghost use Rattle.plan.specs.Samples.RuleOfParts.{takes_null as takes_null_at};
 ghost use Rattle.plan.specs.declared.sort.Sort.TheVariants.{Leaf};
-ghost use Rattle.plan.specs.Internal.Arena.{AreSlots, IsLimit, IsKept};
+ghost use Rattle.plan.specs.Internal.Arena.{AreSlots, IsLimit, IsKept, IsRight};
 ghost use Rattle.plan.specs.Samples.Sites.{site_at};
 ghost use Rattle.plan.specs.declared.arena.SlotEntry.{SlotEntry as SlotDeclared};
 ghost use Rattle.schema.specs.Nodes.Junctors.{most_named};
@@ -243,14 +243,32 @@ fn build_leaf<Z: SizeSet>(
     ensures built { IfOk result (λ n. (keys : List (List ℕ)) → takes_null_at pools.now path.now (node_of node.now) ≡ nullable
         → IsBuilt Z.holds arena.old.limit pools.now arena.old.values arena.old.entries.items arena.new.entries.items (option_map (λ ts. trees_of ts.now) fixed.entry) path.now (node_of node.now) keys n) }
 {
+    let entry = leaf_entry(arena, alloc, pools, fixed, path, node, nullable)?;
+    arena.add(entry)
+}
+
+/// The entry of a leaf.
+pub(crate) fn leaf_entry<Z: SizeSet>(
+    arena: &Arena<Z>,
+    alloc: Global,
+    pools: &Pools,
+    fixed: Option<&[Tree]>,
+    path: &str,
+    node: &Node,
+    nullable: bool,
+) -> Result<Entry<Z>, AllocError>
+    requires limit { arena.now.limit < Z.BITS }
+    requires leaf { where_fixed (option_map (λ ts. trees_of ts.now) fixed) Leaf (sort_at (node_of node.now)) ≡ Leaf }
+    ensures { IfOk result (λ e. (sites : List Site) (i : ℕ) (keys : List (List ℕ)) → AreValues pools.now arena.now.values → site_at sites i ≡ record { node = node_of node.now; keys = keys; path = path.now; fixed = option_map (λ ts. trees_of ts.now) fixed.entry }
+        → takes_null_at pools.now path.now (node_of node.now) ≡ nullable → IsRight Z.holds arena.now.limit pools.now arena.now.values sites i e) }
+{
     let leaf = leaf_of(alloc, pools, &arena.values, fixed, path, node)?;
     let sizes = leaf_sizes(&arena.values, &leaf, arena.limit);
-    let node = arena.add(Entry {
+    Ok(Entry {
         sizes,
         nullable,
         content: Content::Leaf(leaf),
-    })?;
-    Ok(node)
+    })
 }
 
 /// The node below a map or a list.
