@@ -53,3 +53,4 @@ pub mod PlanSites
 pub mod FrameLemmas
 pub mod PlaceLemmas
 pub mod WayLemmas
+pub mod RenewLemmas

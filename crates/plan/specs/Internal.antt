@@ -15,3 +15,4 @@ pub mod Tuples
 pub mod Widest
 pub mod Frame
 pub mod Way
+pub mod Renewed

@@ -31,6 +31,30 @@ impl Model for PlanNode {
     ghost inverse = { λ n. record { number = n } };
 }
 
+impl PlanNode {
+    ghost use Rattle.std.specs.Prelude.{◌≡◌, ◌<◌, ◌+◌, ◌↔◌, true, IfSome, IfNone};
+
+    /// The node before this one.
+    pub(crate) fn before(self) -> Option<PlanNode>
+        ensures some { IfSome result (λ n. n + 1 ≡ self) }
+        ensures none { IfNone result (self ≡ 0) }
+    {
+        if self.number == 0 {
+            return None;
+        }
+        Some(PlanNode {
+            number: self.number - 1,
+        })
+    }
+
+    /// Whether it is among so many nodes.
+    pub(crate) fn is_below(self, count: usize) -> bool
+        ensures { (result ≡ true) ↔ (self < count) }
+    {
+        self.number < count
+    }
+}
+
 /// The name of a slot: that of a field, or the place of a name of the pools.
 #[derive(Drop)]
 pub(crate) enum SlotName {
@@ -142,7 +166,7 @@ pub(crate) struct Arena<Z> {
 }
 
 impl<Z: SizeSet> Arena<Z> {
-    ghost use Rattle.std.specs.Prelude.{slice_set, slice_index_or, option_map};
+    ghost use Rattle.std.specs.Prelude.{slice_set, slice_index_or, option_map, true, ◌↔◌};
     ghost use Rattle.std.specs.List.{slice_get};
     ghost use Rattle.plan.specs.Internal.Arena.{IsEntry, IsKept, slots_in, item_in};
     ghost use Rattle.plan.specs.declared.arena.Entry.{Entry as EntryDeclared};
@@ -165,6 +189,13 @@ impl<Z: SizeSet> Arena<Z> {
             Content::List(list) => Some(list.item),
             Content::Leaf(_) | Content::Row(_) => None,
         }
+    }
+
+    /// Whether the node has an entry.
+    pub(crate) fn has(&self, node: PlanNode) -> bool
+        ensures { (result ≡ true) ↔ (node < length self.now.entries.items) }
+    {
+        node.is_below(self.entries.len())
     }
 
     /// Puts an entry in the place of that of the node, and answers this one, or the same entry where the node has none.

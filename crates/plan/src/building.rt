@@ -272,7 +272,7 @@ pub(crate) fn leaf_entry<Z: SizeSet>(
 }
 
 /// The node below a map or a list.
-fn node_below(below: &Below) -> &Node
+pub(crate) fn node_below(below: &Below) -> &Node
     ensures { node_of result.now ≡ below.now }
 {
     &below.node
