@@ -54,3 +54,4 @@ pub mod FrameLemmas
 pub mod PlaceLemmas
 pub mod WayLemmas
 pub mod RenewLemmas
+pub mod StepLemmas

@@ -61,7 +61,7 @@ not_among one p c x off = elim (bool_cases (is_among (path_text (c ++ x)) (begin
 ]
 
 module _ (one : OneText) {root : Node} {P Q : Pools} {p : FieldPath} (differ : DifferAlong root P Q p) where
-  same_at : (c : FieldPath) → IsBeside p c → IsSameAt P Q (path_text c)
+  pub same_at : (c : FieldPath) → IsBeside p c → IsSameAt P Q (path_text c)
   same_at c off = differ.beside (path_text c) (subst (λ x. is_among (path_text x) (beginnings [] p) ≡ false) (append-nil c) (not_among one p c [] off))
 
   same_under : (c : FieldPath) → ((t : FieldStep) → IsBeside p (c ++ t ∷ [])) → AreSameBelow P Q (path_text c)

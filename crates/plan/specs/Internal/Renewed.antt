@@ -34,12 +34,16 @@ pub record IsOnWay (p : FieldPath) (sites : List Site) (n : ℕ) (path : List �
   pub end : Node
   pub leads : node_at N (place_of steps) ≡ Some end
 
--- no entry after the n-th has changed, and all up to it are right over the changed pools
+-- all entries up to the n-th are right over the changed pools, and no later one has changed
+pub record AreRenewedTo {Z : Type 0} (holds : Z → ℕ → Type 0) (limit : ℕ) (Q : Pools) (v : Values) (others : List Site) (n : ℕ) (old new : List (Entry Z)) : Type 0 where
+  pub right : AreRightBelow holds limit Q v others (n + 1) new
+  pub after : (i : ℕ) (e : Entry Z) → n < i → get_or new i e ≡ get_or old i e
+
+-- and so it is wherever the node is on a way with these steps left
 pub record IsRenewed {Z : Type 0} (holds : Z → ℕ → Type 0) (limit : ℕ) (Q : Pools) (v : Values) (path : List ℕ) (N : Node) (n : ℕ) (steps : FieldPath) (old new : List (Entry Z)) : Type 0 where
   pub count : length new ≡ length old
-  pub after : (i : ℕ) (e : Entry Z) → n < i → get_or new i e ≡ get_or old i e
   pub right : (root : Node) (P : Pools) (p : FieldPath) (sites others : List Site) → IsWay root P Q p sites others → IsOnWay p sites n path N steps → length old ≡ length sites → AreValues Q v
-      → AreRight holds limit P v sites old → AreRightBelow holds limit Q v others (n + 1) new
+      → AreRight holds limit P v sites old → AreRenewedTo holds limit Q v others n old new
 
 -- the entry of a row is made anew, with the slot at this place to be filled or not
 pub record IsRowRemade {Z : Type 0} (holds : Z → ℕ → Type 0) (limit : ℕ) (v : Values) (n : ℕ) (bounds : Bounds) (named : List (List ℕ)) (ends : List Bool) (place : ℕ) (must nullable : Bool) (old new : List (Entry Z)) : Type 0 where
