@@ -16,6 +16,9 @@ use Rattle.schema.specs.Nodes.Junctors.{most_named}
 use Rattle.schema.specs.declared.node.Bounds.{Bounds}
 use Rattle.schema.specs.declared.node.MapType.{MapType}
 use Rattle.schema.specs.declared.node.ListType.{ListType}
+use Rattle.schema.specs.declared.node.ListType.TheVariants.{Atomic, Set, Map}
+use Rattle.schema.specs.Nodes.Items.{HasSoundItems}
+use Rattle.plan.specs.Pools.FixedPaths.{is_map_list}
 use Rattle.explain.specs.Paths.FieldPath.{FieldStep, FieldPath, place_of}
 use Rattle.explain.specs.Paths.FieldPath as step
 use Rattle.explain.specs.Paths.PathText.{step_text, path_text}
@@ -24,7 +27,7 @@ use Rattle.plan.specs.Samples.Sites.{Site, no_site, plain, below, where_fixed, f
 use Rattle.plan.specs.Samples.Names.{in_order}
 use Rattle.plan.specs.Samples.Presence.{named, bit_of, no_validations}
 use Rattle.plan.specs.Samples.Candidates.{sort_at, sort_of}
-use Rattle.plan.specs.Samples.Sizes.{ending_of, raised}
+use Rattle.plan.specs.Samples.Sizes.{ending_of, bounds_of, raised}
 use Rattle.plan.specs.Samples.RuleOfParts.{takes_null, admits_null}
 use Rattle.plan.specs.Internal.Arena.{IsSlot, AreSlots, HasContent, IsRight, AreRightBelow, AreRight, slots_in, item_in, with_must, name_of}
 use Rattle.plan.specs.Internal.Tables.{AreMet}
@@ -245,6 +248,21 @@ row_slots holds limit P v sites n (content.Row r) h row = h.are
 row_slots holds limit P v sites n (content.Leaf l) h row = let bad = sym h.sort ∙ row in absurd (cc)
 row_slots holds limit P v sites n (content.List l) h row = let bad = sym (item_sort P (site_at sites n) (site_at sites l.item) h.item) ∙ row in absurd (cc)
 
+-- the content of a list
+list_content : {Z : Type 0} (holds : Z → ℕ → Type 0) (limit : ℕ) (P : Pools) (v : Values) (sites : List Site) (n : ℕ) (c : Content Z) (i : ℕ) → HasContent holds limit P v sites n c → Some i ≡ item_in c → (i < n) × (item_site P (site_at sites n) ≡ Some (site_at sites i))
+list_content holds limit P v sites n (content.Row r) i h is = absurd (cc)
+list_content holds limit P v sites n (content.Leaf l) i h is = absurd (cc)
+list_content holds limit P v sites n (content.List l) i h is = let same : i ≡ l.item = cc in (rw same h.below, rw same h.item)
+
+item_free : (Q : Pools) (text : List ℕ) (t : ListType) → (t ≡ Map → fixed_at text Q ≡ None) → fixed_item Q t text ≡ fixed_at text Q
+item_free Q text Atomic h = refl
+item_free Q text Set h = refl
+item_free Q text Map h = sym (h refl)
+
+some_of : {X : Type 0} (xs : List X) → 0 < length xs → X
+some_of [] l = absurd (omega arith)
+some_of (x ∷ xs) l = x
+
 -- ---- steps
 
 over_before : {root : Node} {P Q : Pools} {p : FieldPath} {sites others : List Site} (way : IsWay root P Q p sites others) (n : ℕ) → n < length sites → (j : ℕ) → j < n → site_at others j ≡ over Q (site_at sites j)
@@ -304,3 +322,109 @@ module _ (one : OneText) {Z : Type 0} (holds : Z → ℕ → Type 0) (limit : �
               (rw (kept, plain_here) slots_new));
           after = λ i x l. let other : i ≢ n = omega arith in made.others i x other ∙ done.after i x (let below_n = slot.0 in omega arith);
         }
+
+    pub object_renewed : IsRenewed holds limit Q v path ObjectHere n (step.field k ∷ rest) old new
+    object_renewed = record {
+      count = made.count ∙ under.count;
+      right = λ root P p sites others way on count values rights. object_step root P p sites others way on count values rights (some_of old (let l = on.inside in omega arith));
+    }
+
+  module _ (n : ℕ) (path : List ℕ) (m : Bool) (d : Option (List ℕ)) (M : Node) (type : MapType) (b : Bounds) (rest : FieldPath) (c : ℕ) (bounds : Bounds) (nullable : Bool) (old mid new : List (Entry Z)) (free : fixed_at path Q ≡ None) (child : c + 1 ≡ n)
+    (bounds_are : bounds ≡ raised (is_present (below path step.value) Q) b) (null : nullable ≡ takes_null Q path (node m d (nodes.map M type b))) (under : IsRenewed holds limit Q v (below path step.value) M c rest old mid)
+    (made : IsRowRemade holds limit v n bounds [] (true ∷ []) 0 false nullable mid new) where
+    abbrev MapHere : Node
+    MapHere = node m d (nodes.map M type b)
+
+    map_step : (root : Node) (P : Pools) (p : FieldPath) (sites others : List Site) → IsWay root P Q p sites others → IsOnWay p sites n path MapHere (step.value ∷ rest) → length old ≡ length sites → AreValues Q v → AreRight holds limit P v sites old → (e : Entry Z)
+        → AreRenewedTo holds limit Q v others n old new
+    map_step root P p sites others way on count values rights e =
+        let s = site_at sites n in
+        let inside : n < length old = let l = on.inside in omega arith in
+        let o : IsNode MapHere = subst IsNode on.node (way.sound n on.inside).0 in
+        let unfixed = free_here way on free (λ leaf. cc) in
+        let own : s ≡ record { node = MapHere; keys = s.keys; path = path; fixed = None } =
+        ap (λ x. record { node = x; keys = s.keys; path = s.path; fixed = s.fixed }) on.node ∙ (ap (λ x. record { node = MapHere; keys = s.keys; path = x; fixed = s.fixed }) on.path_is ∙ ap (λ x. record { node = MapHere; keys = s.keys; path = path; fixed = x }) unfixed)
+        in
+        let before = (rights n e inside).content in
+        let es = slots_in (get_or old n e).content in
+        let slots_old : AreSlots v.names.items sites n es (map (value_slot P path M) (in_order P.names)) = subst (λ x. AreSlots v.names.items sites n es (slots P x)) own (row_slots holds limit P v sites n (get_or old n e).content before (ap sort_of own)) in
+        let after_values = way.values n M on.inside unfixed (ap values_node on.node) in
+        let same_child : after_values.before ≡ c = let x = after_values.next in omega arith in
+        let slot : site_at sites c ≡ plain P (below path step.value) M = ap (λ j. site_at sites j) (sym same_child) ∙ (after_values.site ∙ ap (λ t. plain P (below t step.value) M) on.path_is) in
+        let next_text : below path step.value ≡ path_text (on.front ++ step.value ∷ []) = ap (λ t. below t step.value) on.text ∙ text_below on.front step.value in
+        let below_n : c < n = omega arith in
+        let child_on : IsOnWay p sites c (below path step.value) M rest =
+        record { front = on.front ++ step.value ∷ []; whole = join_one on.front step.value rest ∙ on.whole; text = next_text; inside = (let w = on.inside in omega arith); node = ap (λ x. Site.node x) slot; path_is = ap (λ x. Site.path x) slot; end = on.end; leads = on.leads }
+        in
+        let done = under.right root P p sites others way child_on count values rights in
+        let all = right_between one way holds limit v old count rights on.front rest step.value n c mid on.whole on.inside (text_here way on) (ap (λ x. Site.path x) slot ∙ next_text) done.right done.after in
+        let plain_here : site_at others n ≡ record { node = MapHere; keys = s.keys; path = path; fixed = None } = here_over way on ∙ ap (λ f. record { node = MapHere; keys = s.keys; path = path; fixed = f }) free in
+        let kept : get_or mid n e ≡ get_or old n e = done.after n e below_n in
+        let mid_inside : n < length mid = let w = under.count in omega arith in
+        let slots_new : AreSlots v.names.items others n (with_must 0 false es) (map (value_slot Q path M) (in_order Q.names)) =
+        subst (λ xs. AreSlots v.names.items others n (with_must 0 false es) (map (value_slot Q path M) (in_order xs))) (sym way.lists.names)
+        (value_slots_renewed P Q v.names.items sites others n (over_before way n on.inside) path M es (in_order P.names) slots_old)
+        in
+        record {
+          right = right_one holds limit Q v others n mid new all (λ i x l. let other : i ≢ n = omega arith in made.others i x other) (λ x.
+              made.right Q others no_validations e x mid_inside all (rw plain_here o) (rw plain_here refl) (rw (plain_here, bounds_are) refl) map_met (rw plain_here (sym null))
+              (rw kept (slots_nodes v.names.items sites n es (map (value_slot P path M) (in_order P.names)) slots_old))
+              (rw kept (value_bits P v.names.items sites n es path M (in_order P.names) slots_old))
+              (rw (kept, plain_here) slots_new));
+          after = λ i x l. let other : i ≢ n = omega arith in made.others i x other ∙ done.after i x (omega arith);
+        }
+
+    pub map_renewed : IsRenewed holds limit Q v path MapHere n (step.value ∷ rest) old new
+    map_renewed = record {
+      count = made.count ∙ under.count;
+      right = λ root P p sites others way on count values rights. map_step root P p sites others way on count values rights (some_of old (let l = on.inside in omega arith));
+    }
+
+  module _ (n : ℕ) (path : List ℕ) (m : Bool) (d : Option (List ℕ)) (M : Node) (type : ListType) (ks : List (List ℕ)) (b : Bounds) (rest : FieldPath) (c : ℕ) (bounds : Bounds) (nullable : Bool) (old mid new : List (Entry Z)) (entry : Entry Z) (free : fixed_at path Q ≡ None)
+    (child : n < length old → (e : Entry Z) → Some c ≡ item_in (get_or old n e).content) (bounds_are : bounds ≡ raised (is_present (below path step.item) Q) b) (null : nullable ≡ takes_null Q path (node m d (list M type ks b)))
+    (under : IsRenewed holds limit Q v (below path step.item) M c rest old mid) (put : new ≡ set mid n entry)
+    (right : (sites : List Site) (i : ℕ) (x : Bool) (y : Option (List ℕ)) → AreRightBelow holds limit Q v sites i mid → c < i → i ≤ length mid → (site_at sites i).node ≡ node x y (list M type ks b) → admits_null Q (site_at sites i) ≡ nullable → bounds_of Q (site_at sites i) ≡ bounds
+    → item_site Q (site_at sites i) ≡ Some (site_at sites c) → IsNode (site_at sites i).node → HasSoundItems (site_at sites i).node → IsRight holds limit Q v sites i entry) where
+    abbrev ListHere : Node
+    ListHere = node m d (list M type ks b)
+
+    list_step : (root : Node) (P : Pools) (p : FieldPath) (sites others : List Site) → IsWay root P Q p sites others → IsOnWay p sites n path ListHere (step.item ∷ rest) → length old ≡ length sites → AreValues Q v → AreRight holds limit P v sites old → (e : Entry Z)
+        → AreRenewedTo holds limit Q v others n old new
+    list_step root P p sites others way on count values rights e =
+        let s = site_at sites n in
+        let inside : n < length old = let l = on.inside in omega arith in
+        let o : IsNode ListHere = subst IsNode on.node (way.sound n on.inside).0 in
+        let sound : IsSound ListHere = subst IsSound on.node (way.sound n on.inside).1 in
+        let unfixed = free_here way on free (λ leaf. cc) in
+        let own : s ≡ record { node = ListHere; keys = s.keys; path = path; fixed = None } =
+        ap (λ x. record { node = x; keys = s.keys; path = s.path; fixed = s.fixed }) on.node ∙ (ap (λ x. record { node = ListHere; keys = s.keys; path = x; fixed = s.fixed }) on.path_is ∙ ap (λ x. record { node = ListHere; keys = s.keys; path = path; fixed = x }) unfixed)
+        in
+        let here = list_content holds limit P v sites n (get_or old n e).content c (rights n e inside).content (child inside e) in
+        let item : record { node = M; keys = item_keys type ks; path = below path step.item; fixed = fixed_item P type (below path step.item) } ≡ site_at sites c = same_Some _ (site_at sites c) (subst (λ x. item_site P x ≡ Some (site_at sites c)) own here.1) in
+        let next_text : below path step.item ≡ path_text (on.front ++ step.item ∷ []) = ap (λ t. below t step.item) on.text ∙ text_below on.front step.item in
+        let child_on : IsOnWay p sites c (below path step.item) M rest =
+        record { front = on.front ++ step.item ∷ []; whole = join_one on.front step.item rest ∙ on.whole; text = next_text; inside = (let l = here.0 in let w = on.inside in omega arith); node = ap (λ x. Site.node x) (sym item); path_is = ap (λ x. Site.path x) (sym item); end = on.end; leads = on.leads }
+        in
+        let done = under.right root P p sites others way child_on count values rights in
+        let all = right_between one way holds limit v old count rights on.front rest step.item n c mid on.whole on.inside (text_here way on) (ap (λ x. Site.path x) (sym item) ∙ next_text) done.right done.after in
+        let plain_here : site_at others n ≡ record { node = ListHere; keys = s.keys; path = path; fixed = None } = here_over way on ∙ ap (λ f. record { node = ListHere; keys = s.keys; path = path; fixed = f }) free in
+        let placed = way.placed n on.inside in
+        let free_items : fixed_item Q type (below path step.item) ≡ fixed_at (below path step.item) Q =
+        item_free Q (below path step.item) type (λ is. subst (λ t. fixed_at (below t step.item) Q ≡ None) (sym placed.path_is ∙ on.path_is) (way.items placed.front ListHere (placed.leads ∙ ap Some on.node) (ap (λ t. is_map_list (node m d (list M t ks b))) is)))
+        in
+        let item_over : site_at others c ≡ record { node = M; keys = item_keys type ks; path = below path step.item; fixed = fixed_item Q type (below path step.item) } =
+        way.others_are c (let l = here.0 in let w = on.inside in omega arith) ∙ (ap (over Q) (sym item) ∙ ap (λ f. record { node = M; keys = item_keys type ks; path = below path step.item; fixed = f }) (sym free_items))
+        in
+        let mid_inside : n < length mid = let w = under.count in omega arith in
+        record {
+          right = right_one holds limit Q v others n mid new all (λ i x l. let other : i ≢ n = omega arith in rw (put, get_or-set_other mid n i entry x other) refl) (λ x.
+              rw (put, get_or-set_same mid n entry x mid_inside)
+              (right others n m d all here.0 (omega arith) (rw plain_here refl) (rw plain_here (sym null)) (rw (plain_here, bounds_are) refl) (rw (plain_here, item_over) refl) (rw plain_here o) (rw plain_here sound.0)));
+          after = λ i x l. let other : i ≢ n = omega arith in rw (put, get_or-set_other mid n i entry x other) (done.after i x (let below_n = here.0 in omega arith));
+        }
+
+    pub list_renewed : IsRenewed holds limit Q v path ListHere n (step.item ∷ rest) old new
+    list_renewed = record {
+      count = rw (put, length-set) under.count;
+      right = λ root P p sites others way on count values rights. list_step root P p sites others way on count values rights (some_of old (let l = on.inside in omega arith));
+    }
