@@ -23,7 +23,7 @@ use Rattle.explain.specs.Paths.FieldPath.{FieldStep, FieldPath, place_of}
 use Rattle.explain.specs.Paths.FieldPath as step
 use Rattle.explain.specs.Paths.PathText.{step_text, path_text}
 use Rattle.plan.specs.Pools.Pools.{Pools, fixed_at, is_present}
-use Rattle.plan.specs.Samples.Sites.{Site, no_site, plain, below, where_fixed, fixed_item, item_keys, item_site, site_at, Slot, slots, field_slots, value_slot}
+use Rattle.plan.specs.Samples.Sites.{Site, no_site, plain, below, where_fixed, fixed_item, item_keys, item_site, site_at, Slot, slots, slots_at, field_slots, value_slot}
 use Rattle.plan.specs.Samples.Names.{in_order}
 use Rattle.plan.specs.Samples.Presence.{named, bit_of, no_validations}
 use Rattle.plan.specs.Samples.Candidates.{sort_at, sort_of}
@@ -254,6 +254,18 @@ list_content holds limit P v sites n (content.Row r) i h is = absurd (cc)
 list_content holds limit P v sites n (content.Leaf l) i h is = absurd (cc)
 list_content holds limit P v sites n (content.List l) i h is = let same : i ≡ l.item = cc in (rw same h.below, rw same h.item)
 
+no_item_content : {Z : Type 0} (holds : Z → ℕ → Type 0) (limit : ℕ) (P : Pools) (v : Values) (sites : List Site) (n : ℕ) (c : Content Z) → HasContent holds limit P v sites n c → sort_of (site_at sites n) ≡ ListSort → None ≡ item_in c → ⊥
+no_item_content holds limit P v sites n (content.Row r) h sort none = let bad = sym h.sort ∙ sort in cc
+no_item_content holds limit P v sites n (content.Leaf l) h sort none = let bad = sym h.sort ∙ sort in cc
+no_item_content holds limit P v sites n (content.List l) h sort none = cc
+
+no_slot_at : (P : Pools) (names : List (List ℕ)) (sites : List Site) (n at : ℕ) (es : List SlotEntry) (path : List ℕ) (keys named : List (List ℕ)) (k : List ℕ) (N : Node) (required : Bool) (default : Option Data) (fs : Fields) → IsFieldAt at k N required default fs
+    → AreSlots names sites n es (field_slots P path keys named fs) → None ≡ option_map (λ (s : SlotEntry). s.node) (slice_get es at) → ⊥
+no_slot_at P names sites n at es path keys named k N r d no_fields here h none = here
+no_slot_at P names sites n at [] path keys named k N r d (field l M r2 d2 fs) here h none = h
+no_slot_at P names sites n zero (e ∷ es) path keys named k N r d (field l M r2 d2 fs) here h none = cc
+no_slot_at P names sites n (suc at) (e ∷ es) path keys named k N r d (field l M r2 d2 fs) here h none = no_slot_at P names sites n at es path keys named k N r d fs here h.1 none
+
 item_free : (Q : Pools) (text : List ℕ) (t : ListType) → (t ≡ Map → fixed_at text Q ≡ None) → fixed_item Q t text ≡ fixed_at text Q
 item_free Q text Atomic h = refl
 item_free Q text Set h = refl
@@ -428,3 +440,44 @@ module _ (one : OneText) {Z : Type 0} (holds : Z → ℕ → Type 0) (limit : �
       count = rw (put, length-set) under.count;
       right = λ root P p sites others way on count values rights. list_step root P p sites others way on count values rights (some_of old (let l = on.inside in omega arith));
     }
+
+  -- ---- where the way cannot lead
+
+  -- the entry of a list has a node of its items
+  pub item_never : (path : List ℕ) (n : ℕ) (m : Bool) (d : Option (List ℕ)) (M : Node) (type : ListType) (ks : List (List ℕ)) (b : Bounds) (steps : FieldPath) (old : List (Entry Z)) → fixed_at path Q ≡ None
+      → (n < length old → (e : Entry Z) → None ≡ item_in (get_or old n e).content) → IsRenewed holds limit Q v path (node m d (list M type ks b)) n steps old old
+  item_never path n m d M type ks b steps old free none = never_renewed one holds limit Q v path (node m d (list M type ks b)) n steps old old refl (λ root P p sites others way on count rights.
+      let s = site_at sites n in
+      let inside : n < length old = let l = on.inside in omega arith in
+      let e = some_of old (omega arith) in
+      let unfixed = free_here way on free (λ leaf. cc) in
+      let sort : sort_of s ≡ ListSort = ap (λ f. where_fixed f Leaf (sort_at s.node)) unfixed ∙ ap sort_at on.node in
+      no_item_content holds limit P v sites n (get_or old n e).content (rights n e inside).content sort (none inside e))
+
+  -- that of a map is not the first
+  pub first_never : (path : List ℕ) (n : ℕ) (m : Bool) (d : Option (List ℕ)) (M : Node) (type : MapType) (b : Bounds) (steps : FieldPath) (old : List (Entry Z)) → fixed_at path Q ≡ None → n ≡ 0 → IsRenewed holds limit Q v path (node m d (nodes.map M type b)) n steps old old
+  first_never path n m d M type b steps old free first = never_renewed one holds limit Q v path (node m d (nodes.map M type b)) n steps old old refl (λ root P p sites others way on count rights.
+      let after_values = way.values n M on.inside (free_here way on free (λ leaf. cc)) (ap values_node on.node) in
+      absurd (let x = after_values.next in omega arith))
+
+  -- that of an object has a slot for each field
+  pub slot_never : (path : List ℕ) (n at : ℕ) (m : Bool) (d : Option (List ℕ)) (fs : Fields) (preserves : Bool) (type : MapType) (b : Bounds) (cs : Validations) (k : List ℕ) (M : Node) (required : Bool) (default : Option Data) (steps : FieldPath) (old : List (Entry Z)) → fixed_at path Q ≡ None
+      → IsFieldAt at k M required default fs → (n < length old → (e : Entry Z) → None ≡ option_map (λ (s : SlotEntry). s.node) (slice_get (slots_in (get_or old n e).content) at)) → IsRenewed holds limit Q v path (node m d (object fs preserves type b cs)) n steps old old
+  slot_never path n at m d fs preserves type b cs k M required default steps old free found none = never_renewed one holds limit Q v path (node m d (object fs preserves type b cs)) n steps old old refl (λ root P p sites others way on count rights.
+      let s = site_at sites n in
+      let inside : n < length old = let l = on.inside in omega arith in
+      let e = some_of old (omega arith) in
+      let unfixed = free_here way on free (λ leaf. cc) in
+      let row : sort_of s ≡ Row = ap (λ f. where_fixed f Leaf (sort_at s.node)) unfixed ∙ ap sort_at on.node in
+      let slots_are = row_slots holds limit P v sites n (get_or old n e).content (rights n e inside).content row in
+      let here : slots P s ≡ field_slots P s.path s.keys (named cs) fs = ap (λ f. where_fixed f [] (slots_at P s.path s.node s.keys)) unfixed ∙ ap (λ x. slots_at P s.path x s.keys) on.node in
+      no_slot_at P v.names.items sites n at (slots_in (get_or old n e).content) s.path s.keys (named cs) k M required default fs found (subst (AreSlots v.names.items sites n (slots_in (get_or old n e).content)) here slots_are) (none inside e))
+
+  -- and the node of the items is one of the plan
+  pub past_never : (path : List ℕ) (n : ℕ) (m : Bool) (d : Option (List ℕ)) (M : Node) (type : ListType) (ks : List (List ℕ)) (b : Bounds) (steps : FieldPath) (c : ℕ) (old mid : List (Entry Z)) → fixed_at path Q ≡ None → length mid ≡ length old
+      → (n < length old → (e : Entry Z) → Some c ≡ item_in (get_or old n e).content) → length mid ≤ c → IsRenewed holds limit Q v path (node m d (list M type ks b)) n steps old mid
+  past_never path n m d M type ks b steps c old mid free same child past = never_renewed one holds limit Q v path (node m d (list M type ks b)) n steps old mid same (λ root P p sites others way on count rights.
+      let inside : n < length old = let l = on.inside in omega arith in
+      let e = some_of old (omega arith) in
+      let here = list_content holds limit P v sites n (get_or old n e).content c (rights n e inside).content (child inside e) in
+      absurd (let l = here.0 in omega arith))

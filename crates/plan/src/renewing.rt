@@ -1,12 +1,12 @@
 //! The entries of the nodes along a path, made anew over pools that were changed there.
-ghost use Rattle.std.specs.Prelude.{◌≡◌, ◌≢◌, ◌<◌, ◌≤◌, ◌+◌, ◌^◌, ◌∷◌, ℕ, true, false, Bool, List, None, All, IfOk, IfSome, IfNone, length, option_map};
+ghost use Rattle.std.specs.Prelude.{◌≡◌, ◌≢◌, ◌<◌, ◌≤◌, ◌+◌, ◌^◌, ◌∷◌, ℕ, true, false, Bool, List, None, All, IfOk, IfSome, IfNone, length, is_some, option_map, ◌||◌};
 ghost use Rattle.jtree.specs.View.{data_of};
 ghost use Rattle.schema.specs.Nodes.ByPlace.{field_at};
 ghost use Rattle.schema.specs.Nodes.Junctors.{most_named};
 ghost use Rattle.schema.specs.Nodes.View.{node_of, validations_of};
 ghost use Rattle.explain.specs.Paths.FieldPath.{field as field_step, item as item_step, value as value_step};
 ghost use Rattle.plan.specs.Pools.PathSteps.{path_of};
-ghost use Rattle.plan.specs.Pools.Pools.{fixed_at};
+ghost use Rattle.plan.specs.Pools.Pools.{fixed_at, is_present};
 ghost use Rattle.plan.specs.Samples.Candidates.{sort_at};
 ghost use Rattle.plan.specs.Internal.Arena.{IsLimit, IsKept, slots_in, with_must as with_must_of};
 ghost use Rattle.plan.specs.Internal.Renewed.{IsRenewed, IsRowRemade, IsFieldAt, AreEndsOf};
@@ -46,6 +46,7 @@ pub(crate) fn renew<Z: SizeSet>(
     ensures kept { IsKept arena.old arena.new }
     ensures renewed { IfOk result (λ _. IsRenewed Z.holds arena.old.limit pools.now arena.old.values place.now.path.now (node_of place.now.node.now) place.now.number (path_of steps.now) arena.old.entries.items arena.new.entries.items) }
 {
+    explain::laws::paths_have_one_text();
     let list = pools.fixed_at(place.path);
     if list.is_some() || is_leaf(place.node) {
         let nullable = takes_null(alloc, pools, place.path, place.node)?;
@@ -78,6 +79,7 @@ fn renew_object<Z: SizeSet>(
     ensures kept { IsKept arena.old arena.new }
     ensures renewed { IfOk result (λ _. IsRenewed Z.holds arena.old.limit pools.now arena.old.values place.now.path.now (node_of place.now.node.now) place.now.number (field_step name.now ∷ path_of rest.now) arena.old.entries.items arena.new.entries.items) }
 {
+    explain::laws::paths_have_one_text();
     let Sort::Object(object) = &place.node.sort else {
         return Ok(());
     };
@@ -94,7 +96,7 @@ fn renew_object<Z: SizeSet>(
         number,
     };
     renew(arena, alloc, pools, &below, rest)?;
-    let must = field.required || field.default.is_some() || pools.is_present(&path);
+    let must = has_to_be(pools, field, &path);
     let nullable = takes_null(alloc, pools, place.path, place.node)?;
     remake_object(arena, alloc, place.number, object, at, must, nullable)
 }
@@ -113,6 +115,7 @@ fn renew_map<Z: SizeSet>(
     ensures kept { IsKept arena.old arena.new }
     ensures renewed { IfOk result (λ _. IsRenewed Z.holds arena.old.limit pools.now arena.old.values place.now.path.now (node_of place.now.node.now) place.now.number (value_step ∷ path_of rest.now) arena.old.entries.items arena.new.entries.items) }
 {
+    explain::laws::paths_have_one_text();
     let Sort::Map(map) = &place.node.sort else {
         return Ok(());
     };
@@ -151,6 +154,7 @@ fn renew_list<Z: SizeSet>(
     ensures kept { IsKept arena.old arena.new }
     ensures renewed { IfOk result (λ _. IsRenewed Z.holds arena.old.limit pools.now arena.old.values place.now.path.now (node_of place.now.node.now) place.now.number (item_step ∷ path_of rest.now) arena.old.entries.items arena.new.entries.items) }
 {
+    explain::laws::paths_have_one_text();
     let Sort::List(list) = &place.node.sort else {
         return Ok(());
     };
@@ -200,6 +204,13 @@ fn field_place<'a>(fields: &'a Fields, name: &Text) -> Option<FieldPlace<'a>>
         }
     }
     None
+}
+
+/// Whether a field with this path has to be there.
+fn has_to_be(pools: &Pools, field: &Field, path: &str) -> bool
+    ensures { result ≡ ((field.now.required || is_some (option_map data_of field.now.default)) || is_present path.now pools.now) }
+{
+    field.required || field.default.is_some() || pools.is_present(path)
 }
 
 /// What is asked of a row: the bounds on the number of its members, the fields that its junctors name, whether these hold for each set
