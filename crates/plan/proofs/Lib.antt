@@ -55,3 +55,4 @@ pub mod PlaceLemmas
 pub mod WayLemmas
 pub mod RenewLemmas
 pub mod StepLemmas
+pub mod ListAtLemmas

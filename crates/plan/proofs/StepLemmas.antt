@@ -43,6 +43,20 @@ use Rattle.plan.specs.declared.arena.Content.TheVariants as content
 use Rattle.plan.specs.declared.arena.Entry.{Entry}
 use Rattle.plan.specs.declared.sort.Sort.{Sort as EntrySort}
 use Rattle.plan.specs.declared.sort.Sort.TheVariants.{Leaf, Row, List as ListSort}
+use Rattle.std.proofs.Common.{zero-add}
+use Rattle.std.proofs.lemmas.List.{get_or_default}
+use Rattle.explain.specs.Fields.Declared.{IsDeclared}
+use Rattle.stored.specs.Schemas.Accepted.{IsSchema}
+use Rattle.plan.specs.Pools.PlanFault.{HasGoodPaths}
+use Rattle.plan.specs.Pools.Along.{DifferAlong}
+use Rattle.plan.specs.Samples.Sites.{sites_of}
+use Rattle.plan.specs.Internal.Laws.{SchemaLaws}
+use Rattle.plan.specs.Internal.Arena.{AreSitesFrom}
+use Rattle.plan.specs.Internal.Frame.{ListTheSame}
+use Rattle.plan.specs.Internal.Plan.{IsPlan}
+use Rattle.plan.proofs.BuildingLemmas.{last_site}
+use Rattle.plan.proofs.FrameLemmas.{values_over}
+use Rattle.plan.proofs.PlaceLemmas.{way_made}
 use Rattle.plan.proofs.PoolPathLemmas.{OneText}
 use Rattle.plan.proofs.FixedLemmas.{leaf_any, item_unfixed}
 use Rattle.plan.proofs.NameLemmas.{few_named}
@@ -189,9 +203,10 @@ module _ (P Q : Pools) (names : List (List ℕ)) (sites others : List Site) (n :
   slots_beside path keys named (e ∷ es) (field l M r d fs) same o h =
       let f : Declared = record { node = M; required = r; default = d } in
       let own = same l f (rw (own_name l) refl) in
-      let slot = slot_over e path l M _ e.must h.0 refl in
-      (record { name = slot.name; below = slot.below; node = slot.node; must = h.0.must ∙ ap (λ b. (r || is_some d) || b) (sym own); key = slot.key; bit = slot.bit },
-      slots_beside path keys named es fs (λ m g is. same m g (rw (later_field l M r d fs o m g is) is)) o.2 h.1)
+      let slot = slot_over e path l M _ e.must h.0 refl in (
+        record { name = slot.name; below = slot.below; node = slot.node; must = h.0.must ∙ ap (λ b. (r || is_some d) || b) (sym own); key = slot.key; bit = slot.bit },
+        slots_beside path keys named es fs (λ m g is. same m g (rw (later_field l M r d fs o m g is) is)) o.2 h.1,
+      )
 
   -- the field at this place is on the way
   pub slots_renewed : (path : List ℕ) (keys named : List (List ℕ)) (k : List ℕ) (N : Node) (required : Bool) (default : Option Data) (must : Bool) (at : ℕ) (es : List SlotEntry) (fs : Fields) → must ≡ ((required || is_some default) || is_present (below path (step.field k)) Q)
@@ -202,16 +217,18 @@ module _ (P Q : Pools) (names : List (List ℕ)) (sites others : List Site) (n :
   slots_renewed path keys named k N r d must zero (e ∷ es) (field l M r2 d2 fs) is same o here h =
       let slot = slot_over e path l M _ must h.0 refl in
       let asked : must ≡ ((r2 || is_some d2) || is_present (below path (step.field l)) Q) =
-      is ∙ (ap (λ x. (x || is_some d) || is_present (below path (step.field k)) Q) (sym here.2) ∙ (ap (λ x. (r2 || is_some x) || is_present (below path (step.field k)) Q) (sym here.3) ∙ ap (λ x. (r2 || is_some d2) || is_present (below path (step.field x)) Q) (sym here.0))) in
-      (record { name = slot.name; below = slot.below; node = slot.node; must = asked; key = slot.key; bit = slot.bit },
-      slots_beside path keys named es fs (λ m g found. same m (λ e. let other = later_field l M r2 d2 fs o m g found in let t : m ≡ l = e ∙ sym here.0 in let own = own_name l in let bad = rw t at other in cc)) o.2 h.1)
+      is ∙ (ap (λ x. (x || is_some d) || is_present (below path (step.field k)) Q) (sym here.2) ∙ (ap (λ x. (r2 || is_some x) || is_present (below path (step.field k)) Q) (sym here.3) ∙ ap (λ x. (r2 || is_some d2) || is_present (below path (step.field x)) Q) (sym here.0))) in (
+        record { name = slot.name; below = slot.below; node = slot.node; must = asked; key = slot.key; bit = slot.bit },
+        slots_beside path keys named es fs (λ m g found. same m (λ e. let other = later_field l M r2 d2 fs o m g found in let t : m ≡ l = e ∙ sym here.0 in let own = own_name l in let bad = rw t at other in cc)) o.2 h.1,
+      )
   slots_renewed path keys named k N r d must (suc at) (e ∷ es) (field l M r2 d2 fs) is same o here h =
       let found = field_found at k N r d fs o.2 here in
       let other = later_field l M r2 d2 fs o k _ found in
       let own = same l (λ t. let self = own_name k in let wrong = rw t at other in cc) in
-      let slot = slot_over e path l M _ e.must h.0 refl in
-      (record { name = slot.name; below = slot.below; node = slot.node; must = h.0.must ∙ ap (λ b. (r2 || is_some d2) || b) (sym own); key = slot.key; bit = slot.bit },
-      slots_renewed path keys named k N r d must at es fs is same o.2 here h.1)
+      let slot = slot_over e path l M _ e.must h.0 refl in (
+        record { name = slot.name; below = slot.below; node = slot.node; must = h.0.must ∙ ap (λ b. (r2 || is_some d2) || b) (sym own); key = slot.key; bit = slot.bit },
+        slots_renewed path keys named k N r d must at es fs is same o.2 here h.1,
+      )
 
   -- the slots of a map
   value_slots_renewed : (path : List ℕ) (N : Node) (es : List SlotEntry) (ks : List (List ℕ)) → AreSlots names sites n es (map (value_slot P path N) ks) → AreSlots names others n (with_must 0 false es) (map (value_slot Q path N) ks)
@@ -220,11 +237,11 @@ module _ (P Q : Pools) (names : List (List ℕ)) (sites others : List Site) (n :
   value_slots_renewed path N (e ∷ es) [] h = absurd h
   value_slots_renewed path N (e ∷ es) (k ∷ ks) h =
       (record { name = h.0.name; below = h.0.below; node = over_are e.node h.0.below ∙ ap (over Q) h.0.node; must = refl; key = h.0.key; bit = h.0.bit }, rest es ks h.1) where
-    rest : (es : List SlotEntry) (ks : List (List ℕ)) → AreSlots names sites n es (map (value_slot P path N) ks) → AreSlots names others n es (map (value_slot Q path N) ks)
-    rest [] [] h = tt
-    rest [] (k ∷ ks) h = absurd h
-    rest (e ∷ es) [] h = absurd h
-    rest (e ∷ es) (k ∷ ks) h = (record { name = h.0.name; below = h.0.below; node = over_are e.node h.0.below ∙ ap (over Q) h.0.node; must = h.0.must; key = h.0.key; bit = h.0.bit }, rest es ks h.1)
+        rest : (es : List SlotEntry) (ks : List (List ℕ)) → AreSlots names sites n es (map (value_slot P path N) ks) → AreSlots names others n es (map (value_slot Q path N) ks)
+        rest [] [] h = tt
+        rest [] (k ∷ ks) h = absurd h
+        rest (e ∷ es) [] h = absurd h
+        rest (e ∷ es) (k ∷ ks) h = (record { name = h.0.name; below = h.0.below; node = over_are e.node h.0.below ∙ ap (over Q) h.0.node; must = h.0.must; key = h.0.key; bit = h.0.bit }, rest es ks h.1)
 
 value_bits : (P : Pools) (names : List (List ℕ)) (sites : List Site) (n : ℕ) (es : List SlotEntry) (path : List ℕ) (N : Node) (ks : List (List ℕ)) → AreSlots names sites n es (map (value_slot P path N) ks) → All (λ (e : SlotEntry). IfSome e.bit (λ j. j < 0)) es
 value_bits P names sites n [] path N ks h k d l = absurd (omega arith)
@@ -282,9 +299,9 @@ over_before way n inside j l = way.others_are j (omega arith)
 
 module _ (one : OneText) {Z : Type 0} (holds : Z → ℕ → Type 0) (limit : ℕ) (Q : Pools) (v : Values) where
   module _ (n : ℕ) (path : List ℕ) (m : Bool) (d : Option (List ℕ)) (fs : Fields) (preserves : Bool) (type : MapType) (b : Bounds) (cs : Validations) (rest : FieldPath) (k : List ℕ) (M : Node) (required : Bool) (default : Option Data) (at c : ℕ) (must nullable : Bool) (names : List (List ℕ)) (ends : List Bool)
-    (old mid new : List (Entry Z)) (free : fixed_at path Q ≡ None) (found : IsFieldAt at k M required default fs) (child : n < length old → (e : Entry Z) → Some c ≡ option_map (λ (s : SlotEntry). s.node) (slice_get (slots_in (get_or old n e).content) at))
-    (must_is : must ≡ ((required || is_some default) || is_present (below path (step.field k)) Q)) (null : nullable ≡ takes_null Q path (node m d (object fs preserves type b cs))) (ends_are : AreEndsOf cs names ends)
-    (under : IsRenewed holds limit Q v (below path (step.field k)) M c rest old mid) (made : IsRowRemade holds limit v n b names ends at must nullable mid new) where
+      (old mid new : List (Entry Z)) (free : fixed_at path Q ≡ None) (found : IsFieldAt at k M required default fs) (child : n < length old → (e : Entry Z) → Some c ≡ option_map (λ (s : SlotEntry). s.node) (slice_get (slots_in (get_or old n e).content) at))
+      (must_is : must ≡ ((required || is_some default) || is_present (below path (step.field k)) Q)) (null : nullable ≡ takes_null Q path (node m d (object fs preserves type b cs))) (ends_are : AreEndsOf cs names ends)
+      (under : IsRenewed holds limit Q v (below path (step.field k)) M c rest old mid) (made : IsRowRemade holds limit v n b names ends at must nullable mid new) where
     abbrev ObjectHere : Node
     ObjectHere = node m d (object fs preserves type b cs)
 
@@ -342,8 +359,8 @@ module _ (one : OneText) {Z : Type 0} (holds : Z → ℕ → Type 0) (limit : �
     }
 
   module _ (n : ℕ) (path : List ℕ) (m : Bool) (d : Option (List ℕ)) (M : Node) (type : MapType) (b : Bounds) (rest : FieldPath) (c : ℕ) (bounds : Bounds) (nullable : Bool) (old mid new : List (Entry Z)) (free : fixed_at path Q ≡ None) (child : c + 1 ≡ n)
-    (bounds_are : bounds ≡ raised (is_present (below path step.value) Q) b) (null : nullable ≡ takes_null Q path (node m d (nodes.map M type b))) (under : IsRenewed holds limit Q v (below path step.value) M c rest old mid)
-    (made : IsRowRemade holds limit v n bounds [] (true ∷ []) 0 false nullable mid new) where
+      (bounds_are : bounds ≡ raised (is_present (below path step.value) Q) b) (null : nullable ≡ takes_null Q path (node m d (nodes.map M type b))) (under : IsRenewed holds limit Q v (below path step.value) M c rest old mid)
+      (made : IsRowRemade holds limit v n bounds [] (true ∷ []) 0 false nullable mid new) where
     abbrev MapHere : Node
     MapHere = node m d (nodes.map M type b)
 
@@ -393,10 +410,10 @@ module _ (one : OneText) {Z : Type 0} (holds : Z → ℕ → Type 0) (limit : �
     }
 
   module _ (n : ℕ) (path : List ℕ) (m : Bool) (d : Option (List ℕ)) (M : Node) (type : ListType) (ks : List (List ℕ)) (b : Bounds) (rest : FieldPath) (c : ℕ) (bounds : Bounds) (nullable : Bool) (old mid new : List (Entry Z)) (entry : Entry Z) (free : fixed_at path Q ≡ None)
-    (child : n < length old → (e : Entry Z) → Some c ≡ item_in (get_or old n e).content) (bounds_are : bounds ≡ raised (is_present (below path step.item) Q) b) (null : nullable ≡ takes_null Q path (node m d (list M type ks b)))
-    (under : IsRenewed holds limit Q v (below path step.item) M c rest old mid) (put : new ≡ set mid n entry)
-    (right : (sites : List Site) (i : ℕ) (x : Bool) (y : Option (List ℕ)) → AreRightBelow holds limit Q v sites i mid → c < i → i ≤ length mid → (site_at sites i).node ≡ node x y (list M type ks b) → admits_null Q (site_at sites i) ≡ nullable → bounds_of Q (site_at sites i) ≡ bounds
-    → item_site Q (site_at sites i) ≡ Some (site_at sites c) → IsNode (site_at sites i).node → HasSoundItems (site_at sites i).node → IsRight holds limit Q v sites i entry) where
+      (child : n < length old → (e : Entry Z) → Some c ≡ item_in (get_or old n e).content) (bounds_are : bounds ≡ raised (is_present (below path step.item) Q) b) (null : nullable ≡ takes_null Q path (node m d (list M type ks b)))
+      (under : IsRenewed holds limit Q v (below path step.item) M c rest old mid) (put : new ≡ set mid n entry)
+      (right : (sites : List Site) (i : ℕ) (x : Bool) (y : Option (List ℕ)) → AreRightBelow holds limit Q v sites i mid → c < i → i ≤ length mid → (site_at sites i).node ≡ node x y (list M type ks b) → admits_null Q (site_at sites i) ≡ nullable → bounds_of Q (site_at sites i) ≡ bounds
+      → item_site Q (site_at sites i) ≡ Some (site_at sites c) → IsNode (site_at sites i).node → HasSoundItems (site_at sites i).node → IsRight holds limit Q v sites i entry) where
     abbrev ListHere : Node
     ListHere = node m d (list M type ks b)
 
@@ -481,3 +498,27 @@ module _ (one : OneText) {Z : Type 0} (holds : Z → ℕ → Type 0) (limit : �
       let e = some_of old (omega arith) in
       let here = list_content holds limit P v sites n (get_or old n e).content c (rights n e inside).content (child inside e) in
       absurd (let l = here.0 in omega arith))
+
+-- ---- the whole plan
+
+-- a plan over pools that differ along a path, where the entries along it were made anew
+pub plan_renewed : OneText → SchemaLaws → {Z : Type 0} (holds : Z → ℕ → Type 0) (BITS : ℕ) (root : Node) (P Q : Pools) (p : FieldPath) (limit : ℕ) (v : Values) (old new : List (Entry Z)) (first : ℕ) → IsSchema root → HasGoodPaths root P → HasGoodPaths root Q → DifferAlong root P Q p → ListTheSame P Q
+    → IsDeclared root p → IsPlan holds BITS root P limit v old first → IsRenewed holds limit Q v [] root first p old new → IsPlan holds BITS root Q limit v new first
+plan_renewed one laws holds BITS root P Q p limit v old new first schema good good_too differ lists declared plan renewed =
+    let way = way_made one root P Q good good_too p differ laws schema lists in
+    let sites = sites_of P root in
+    let inside : first < length sites = omega (arith, plan.last, plan.count) in
+    let at : AreSitesFrom sites 0 sites = λ i s below. rw (zero-add i) (get_or_default sites i no_site s below) in
+    let here = last_site P None sites 0 first [] root [] (omega (arith, plan.last, plan.count)) at in
+    let on : IsOnWay p sites first [] root p = record { front = []; whole = refl; text = refl; inside = inside; node = ap (λ s. Site.node s) here; path_is = ap (λ s. Site.path s) here; end = declared.1.0; leads = declared.1.1 } in
+    let values = values_over P Q v lists plan.values in
+    let done = renewed.right root P p sites (sites_of Q root) way on plan.count values plan.right in
+    let all : first + 1 ≡ length new = omega (arith, plan.last, renewed.count) in
+    record {
+      within = plan.within;
+      room = plan.room;
+      values = values;
+      count = renewed.count ∙ (plan.count ∙ sym way.count);
+      last = all;
+      right = λ i e l. done.right i e (omega arith);
+    }

@@ -16,3 +16,4 @@ pub mod Widest
 pub mod Frame
 pub mod Way
 pub mod Renewed
+pub mod MemberPlace
