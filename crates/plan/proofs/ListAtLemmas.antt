@@ -16,6 +16,12 @@ use Rattle.jtree.specs.declared.value.Member.{Member}
 use Rattle.plan.specs.Pools.Along.{with_list, with_lists, list_of, lists_of}
 use Rattle.std.specs.Prelude.{option_map}
 use Rattle.plan.specs.declared.list_at.ListAt.{ListAt}
+use Rattle.std.specs.Prelude.{◌-◌}
+use Rattle.std.proofs.lemmas.List.{length-append}
+use Rattle.explain.specs.Paths.FieldPath.{FieldPath}
+use Rattle.plan.specs.Pools.Pools.{Pools, with_paths}
+use Rattle.plan.specs.Pools.Along.{beginnings, narrowed, widened}
+use Rattle.plan.specs.Samples.Site.{below}
 use Rattle.plan.specs.Internal.MemberPlace.{IsPlace}
 
 pub place_here : (present : Bool) (k : List ℕ) (xs : List Member) (i : ℕ) (x : Member) → All (λ m. text_cmp k m.name ≡ Greater) (take i xs) → i < length xs
@@ -187,3 +193,25 @@ put_one xs olds rest x old before after start all sorted split put was whole bac
   ∙ (ap (λ ms. with_lists (lists_of olds) (with_list x.path (member_at x.path before) ms)) put
   ∙ (ap (with_lists (lists_of olds)) (put_back x.path (option_map data_of x.list) before sorted) ∙ back))),
 )
+
+-- ---- the pools
+
+beginnings_count : (front : List ℕ) (p : FieldPath) → length (beginnings front p) ≡ length p
+beginnings_count front [] = refl
+beginnings_count front (s ∷ p) = ap suc (beginnings_count (below front s) p)
+
+take_own : {X : Type 0} (xs ys : List X) → take (length xs) (xs ++ ys) ≡ xs
+take_own [] ys = refl
+take_own (x ∷ xs) ys = ap (λ zs. x ∷ zs) (take_own xs ys)
+
+take_front : {X : Type 0} (xs ys : List X) → take (length (xs ++ ys) - length ys) (xs ++ ys) ≡ xs
+take_front xs ys =
+    let e : length (xs ++ ys) - length ys ≡ length xs = omega (arith, length-append xs ys) in
+    rw e (take_own xs ys)
+
+pub pools_back : (P : Pools) (lists olds : List (List ℕ × Option Data)) (p : FieldPath) → with_lists olds (with_lists lists P.fixed) ≡ P.fixed → widened (narrowed P lists p) olds p ≡ P
+pools_back P lists olds p back =
+    let asked : take (length (P.present ++ beginnings [] p) - length p) (P.present ++ beginnings [] p) ≡ P.present =
+    subst (λ n. take (length (P.present ++ beginnings [] p) - n) (P.present ++ beginnings [] p) ≡ P.present) (beginnings_count [] p) (take_front P.present (beginnings [] p))
+    in
+    ap (λ ms. with_paths P ms (take (length (P.present ++ beginnings [] p) - length p) (P.present ++ beginnings [] p))) back ∙ ap (λ ps. with_paths P P.fixed ps) asked

@@ -50,6 +50,7 @@ use Rattle.stored.specs.Schemas.Accepted.{IsSchema}
 use Rattle.plan.specs.Pools.PlanFault.{HasGoodPaths}
 use Rattle.plan.specs.Pools.Along.{DifferAlong}
 use Rattle.plan.specs.Samples.Sites.{sites_of}
+use Rattle.plan.specs.Samples.Question.{Question}
 use Rattle.plan.specs.Internal.Laws.{SchemaLaws}
 use Rattle.plan.specs.Internal.Arena.{AreSitesFrom}
 use Rattle.plan.specs.Internal.Frame.{ListTheSame}
@@ -522,3 +523,14 @@ plan_renewed one laws holds BITS root P Q p limit v old new first schema good go
       last = all;
       right = λ i e l. done.right i e (omega arith);
     }
+
+-- in terms of the plan's view, where the pools are changed so
+pub plan_changed : OneText → SchemaLaws → {Z : Type 0} (holds : Z → ℕ → Type 0) (BITS : ℕ) (root : Node) (P Q : Pools) (p : FieldPath) (limit : ℕ) (v : Values) (old new : List (Entry Z)) (first : ℕ) (q : Question) (change : Pools → Pools)
+    → record { root = root; pools = P; limit = limit } ≡ q → Q ≡ change P → ListTheSame P (change P) → IsSchema root → HasGoodPaths q.root q.pools → HasGoodPaths q.root (change q.pools) → DifferAlong q.root q.pools (change q.pools) p → IsDeclared q.root p
+    → IsPlan holds BITS root P limit v old first → IsRenewed holds limit Q v [] root first p old new → IsPlan holds BITS root Q limit v new first
+plan_changed one laws holds BITS root P Q p limit v old new first q change view is lists schema good good_too differ declared plan renewed =
+    let at : HasGoodPaths root P → HasGoodPaths root (change P) → DifferAlong root P (change P) p → IsDeclared root p → IsPlan holds BITS root (change P) limit v new first = λ good good_too differ declared.
+    plan_renewed one laws holds BITS root P (change P) p limit v old new first schema good good_too differ lists declared plan (subst (λ X. IsRenewed holds limit X v [] root first p old new) is renewed)
+    in
+    subst (λ X. IsPlan holds BITS root X limit v new first) (sym is)
+    (subst (λ (x : Question). HasGoodPaths x.root x.pools → HasGoodPaths x.root (change x.pools) → DifferAlong x.root x.pools (change x.pools) p → IsDeclared x.root p → IsPlan holds BITS root (change P) limit v new first) view at good good_too differ declared)
