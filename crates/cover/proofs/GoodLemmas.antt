@@ -12,8 +12,9 @@ use Rattle.explain.specs.Fields.Declared.{IsDeclared}
 use Rattle.plan.specs.Pools.Pools.{Pools, fixed_at}
 use Rattle.plan.specs.Pools.PlanFault.{HasName, IsDeclaredPath, HasGoodPaths}
 use Rattle.plan.specs.Samples.Site.{below}
-use Rattle.cover.specs.Internal.Narrowed.{beginnings, kept_lists, with_member, with_end, narrowed, MayBeWanted}
-use Rattle.cover.proofs.KeptLemmas.{more_at}
+use Rattle.plan.specs.Pools.Along.{beginnings}
+use Rattle.cover.specs.Internal.Narrowed.{narrowed, MayBeWanted}
+use Rattle.cover.proofs.PoolLemmas.{list_name}
 use Rattle.cover.proofs.SampleLemmas.{no_item}
 use Rattle.cover.proofs.PathLemmas.{text_below, append_one}
 
@@ -41,37 +42,12 @@ beginnings_declared root front (s ∷ p) M e = All-cons (IsDeclaredPath root) (b
     (subst (λ t. All (IsDeclaredPath root) (beginnings t p)) (sym (text_below front s))
     (beginnings_declared root (front ++ s ∷ []) p M (subst (λ q. node_at root (place_of q) ≡ Some M) (sym (append_one front s p)) e)))
 
-kept_name : (o : Option Data) (p : FieldPath) (ms : Members) (text : List ℕ) → HasName (kept_lists o p ms) text → HasName ms text
-kept_name o p no_members text has = absurd (let e = has.1 in cc)
-kept_name o p (member k d ms) text has = elim (bool_cases (bytes_eq text k)) [
-  | inl same ↦ (d, rw same refl)
-  | inr other ↦
-      let there = kept_name o p ms text (has.0, rw other at has.1) in
-      (there.0, rw other there.1)
-]
-
--- the name of a member more is its own, or was there
-pub more_name : (k : List ℕ) (e : Data) (ms : Members) (text : List ℕ) → HasName (with_member k e ms) text → (text ≡ k) ⊎ HasName ms text
-more_name k e ms text has = elim (bool_cases (bytes_eq text k)) [
-  | inl same ↦ inl (same_name text k same)
-  | inr other ↦ inr (has.0, rw other at (sym (more_at k e ms text) ∙ has.1))
-]
-
-end_name : (o : Option Data) (text : List ℕ) (fixed : Option (List Data)) (ms : Members) (other : List ℕ) → HasName (with_end o text fixed ms) other
-    → ((w : Data) × (o ≡ Some w) × (other ≡ text)) ⊎ HasName ms other
-end_name None text fixed ms other has = inr has
-end_name (Some w) text (Some ds) ms other has = inr has
-end_name (Some w) text None ms other has = elim (more_name text (list (item w no_items)) ms other has) [
-  | inl same ↦ inl (w, refl, same)
-  | inr old ↦ inr old
-]
-
 pub narrowed_good : (root : Node) (P : Pools) (o : Option Data) (p : FieldPath) → IsDeclared root p → MayBeWanted root P o p → HasGoodPaths root P → HasGoodPaths root (narrowed P o p)
 narrowed_good root P o p declared may good = record {
   paths = good.paths;
-  fixed = λ text has. elim (end_name o (path_text p) (fixed_at (path_text p) P) (kept_lists o p P.fixed) text has) [
+  fixed = λ text has. elim (list_name P o [] p text has) [
     | inl end ↦ (p, sym end.2, (declared, no_item root P o p may end.0 end.1))
-    | inr old ↦ good.fixed text (kept_name o p P.fixed text old)
+    | inr old ↦ good.fixed text old
   ];
   present = λ text has. elim (Contains-append_cases P.present (beginnings [] p) text has) [
     | inl old ↦ good.present text old

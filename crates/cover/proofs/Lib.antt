@@ -1,10 +1,9 @@
 -- The lemmas of this crate, by subject.
 -- Ways: `WayLemmas` says where paths lead from a node, `PathLemmas` which texts are those of the beginnings of a path.
--- Narrowed pools: `PoolLemmas` says what they ask for and fix, `KeptLemmas` what is left of lists of fixed values, `ThereLemmas` where
--- the rest of a path is there, `NarrowLemmas` what is over them, `SampleLemmas` that their samples are those in which the path is
+-- Narrowed pools: `PoolLemmas` says what they ask for and fix and where they differ from the pools, `KeptLemmas` which fixed
+-- values are left, `ThereLemmas` where the rest of
+-- a path is there, `NarrowLemmas` what is over them, `SampleLemmas` that their samples are those in which the path is
 -- there, `GoodLemmas` that their paths are good, `ValueLemmas` that candidates of scalars may be wanted.
--- Fields that no first sample has: `DropLemmas` says what is left of a tree without such a field, `DropStoredLemmas` that it is stored,
--- `DropOverLemmas` that it is over the pools, `ClosedLemmas` that the first sample is the same where no value is left there.
 -- Covers: `FirstLemmas` says that the first sample over the narrowed pools is the first one in which the path is there, `LineLemmas` what
 -- a path adds, `CoverLemmas` is the law `lines_cover`.
 pub mod WayLemmas
@@ -16,10 +15,6 @@ pub mod NarrowLemmas
 pub mod SampleLemmas
 pub mod GoodLemmas
 pub mod ValueLemmas
-pub mod DropLemmas
-pub mod DropStoredLemmas
-pub mod DropOverLemmas
-pub mod ClosedLemmas
 pub mod FirstLemmas
 pub mod LineLemmas
 pub mod CoverLemmas

@@ -31,7 +31,7 @@ use Rattle.cover.specs.declared.covering.Wanted.{Wanted as CodeWanted}
 use Rattle.cover.proofs.CoverLemmas.{is_cover, lines_samples}
 use Rattle.plan.specs.Samples.Site.{below}
 use Rattle.cover.specs.Internal.Ways.{step_of, path_of}
-use Rattle.cover.specs.declared.way.PathStep.{PathStep}
+use Rattle.plan.specs.declared.path_step.PathStep.{PathStep}
 use Rattle.cover.proofs.PathLemmas.{OneText, text_below}
 use Rattle.cover.proofs.ThereLemmas.{there_before}
 use Rattle.cover.proofs.SampleLemmas.{has_text, text_there, first_has}

@@ -28,7 +28,7 @@ use Rattle.plan.specs.Samples.Over.{choices_or, listed, all_names, is_in, asks_f
 use Rattle.cover.specs.There.{has_value, is_there}
 use Rattle.cover.proofs.WayLemmas.{found_field}
 use Rattle.cover.proofs.PathLemmas.{IsLeft, text_below, append_one}
-use Rattle.cover.proofs.PoolLemmas.{end_alone, kept_fixed}
+use Rattle.cover.specs.Internal.Narrowed.{end_alone, kept_fixed}
 use Rattle.cover.proofs.ThereLemmas.{left_there, below_there, or_right, in_kept, in_all, kept_pass, enough_items, enough_values, tree_same_by, value_there, some_items, some_values}
 
 -- the narrowed pools, by what they ask for and fix: `left` is what is left of a path after a text

@@ -9,7 +9,8 @@ use Rattle.schema.specs.Document.Texts.{is_among}
 use Rattle.explain.specs.Paths.FieldPath.{FieldStep, FieldPath}
 use Rattle.explain.specs.Paths.PathText.{step_text, path_text}
 use Rattle.plan.specs.Samples.Site.{below}
-use Rattle.cover.specs.Internal.Narrowed.{beginnings, rest_at}
+use Rattle.plan.specs.Pools.Along.{beginnings}
+use Rattle.cover.specs.Internal.Narrowed.{rest_at}
 
 -- different paths have different texts
 abbrev pub OneText : Type 0

@@ -1,19 +1,30 @@
 -- What the narrowed pools ask for, and what they fix.
-use Rattle.std.proofs.Common.{◌≡◌, ◌≢◌, ℕ, List, [], ◌∷◌, ◌++◌, Bool, false, Option, Some, None, refl, sym, ap, subst, ◌∙◌, inl, inr}
+use Rattle.std.proofs.Common.{◌≡◌, ◌≢◌, ◌⊎◌, ℕ, List, [], ◌∷◌, ◌++◌, Bool, true, false, Option, Some, None, refl, sym, ap, subst, ◌∙◌, inl, inr, append-nil, append_assoc}
 use Rattle.std.specs.Prelude.{◌||◌, is_some, option_and_then, if◌then◌else◌}
+use Rattle.std.specs.Ordering.{ordering_reverse}
 use Rattle.std.specs.Str.{bytes_eq}
-use Rattle.jtree.specs.Data.{Data, list, Items, no_items, item, Members, no_members, member}
-use Rattle.jtree.specs.Data as tree
+use Rattle.std.specs.declared.cmp.Ordering.TheVariants.{Less, Equal, Greater}
+use Rattle.std.proofs.lemmas.Cmp.{nat_list_cmp_total}
+use Rattle.std.proofs.lemmas.List.{append_cancel_left}
+use Rattle.std.proofs.lemmas.Map.Lookups.{exact_bytes}
+use Rattle.jtree.specs.Data.{Data, list, Items, Members, no_members, member}
+use Rattle.jtree.specs.Order.{text_cmp}
 use Rattle.jtree.specs.Path.{member_at}
-use Rattle.jtree.specs.Internal.Lookups.{bool_cases, option_cases, same_name, own_name}
+use Rattle.jtree.specs.Internal.Lookups.{bool_cases, option_cases, ordering_cases, same_name, own_name, earlier_name}
 use Rattle.schema.specs.Document.Texts.{is_among}
-use Rattle.explain.specs.Paths.FieldPath.{FieldPath}
-use Rattle.explain.specs.Paths.PathText.{path_text}
+use Rattle.schema.specs.Nodes.Node.{Node}
+use Rattle.schema.specs.Nodes.ByPlace.{node_at}
+use Rattle.explain.specs.Paths.FieldPath.{FieldStep, FieldPath, place_of}
+use Rattle.explain.specs.Paths.PathText.{step_text, path_text}
+use Rattle.plan.specs.Pools.Along.{beginnings, with_list, with_lists, DifferAlong}
 use Rattle.plan.specs.Pools.Pools.{Pools, items_list, entries_in, fixed_at, is_present}
+use Rattle.plan.specs.Pools.PlanFault.{HasName}
+use Rattle.plan.specs.Samples.Candidates.{sort_at}
+use Rattle.plan.specs.Samples.Site.{below}
+use Rattle.plan.specs.declared.sort.Sort.TheVariants.{Leaf}
 use Rattle.cover.specs.There.{is_there}
-use Rattle.cover.specs.Internal.Narrowed.{beginnings, rest_at, kept_items, kept_list, kept_lists, narrowed}
-use Rattle.cover.proofs.KeptLemmas.{more_at}
-use Rattle.cover.proofs.PathLemmas.{OneText, among_beginnings, beginning, last_left}
+use Rattle.cover.specs.Internal.Narrowed.{rest_at, end_alone, kept_fixed, as_items, change_at, changes, narrowed, MayBeWanted}
+use Rattle.cover.proofs.PathLemmas.{OneText, among_beginnings, beginning}
 
 among_append : (text : List ℕ) (xs ys : List (List ℕ)) → is_among text (xs ++ ys) ≡ (is_among text xs || is_among text ys)
 among_append text [] ys = refl
@@ -25,98 +36,154 @@ among_append text (x ∷ xs) ys = elim (bool_cases (bytes_eq text x)) [
 pub asked_more : (P : Pools) (o : Option Data) (p : FieldPath) (text : List ℕ) → is_present text (narrowed P o p) ≡ (is_present text P || is_some (rest_at [] p text))
 asked_more P o p text = among_append text P.present (beginnings [] p) ∙ ap (λ b. is_present text P || b) (among_beginnings [] p text)
 
--- those that pass the test
-abbrev pub kept_of : (Data → Bool) → List Data → List Data
-kept_of test [] = []
-kept_of test (d ∷ ds) = if test d then d ∷ kept_of test ds else kept_of test ds
+-- ---- the value under a name
 
--- what is left of the values at the beginning of a path
-kept_then : Option Data → Option FieldPath → Option (List Data) → Option (List Data)
-kept_then o (Some r) (Some ds) = Some (kept_of (is_there o r) ds)
-kept_then o r fixed = fixed
+before_of : (k l : List ℕ) → text_cmp k l ≡ Greater → text_cmp l k ≡ Less
+before_of k l past = nat_list_cmp_total.antisymm l k ∙ ap ordering_reverse past
 
--- the value alone at the end of the path, where one is wanted
-abbrev pub end_alone : FieldPath → Option Data → Option (List Data)
-end_alone [] (Some w) = Some (w ∷ [])
-end_alone [] None = None
-end_alone (s ∷ r) o = None
-
-abbrev pub kept_fixed : Option Data → Option FieldPath → Option (List Data) → Option (List Data)
-kept_fixed o None fixed = fixed
-kept_fixed o (Some r) (Some ds) = Some (kept_of (is_there o r) ds)
-kept_fixed o (Some r) None = end_alone r o
-
-kept_entries : (test : Data → Bool) (ds : Items) → items_list (kept_items test ds) ≡ kept_of test (items_list ds)
-kept_entries test no_items = refl
-kept_entries test (item d ds) = elim (bool_cases (test d)) [
-  | inl t ↦ rw t (ap (λ es. d ∷ es) (kept_entries test ds))
-  | inr f ↦ rw f (kept_entries test ds)
+pub more_at : (k : List ℕ) (e : Data) (ms : Members) (j : List ℕ) → member_at j (with_list k (Some e) ms) ≡ (if bytes_eq j k then Some e else member_at j ms)
+more_at k e no_members j = refl
+more_at k e (member l d ms) j = elim (ordering_cases (text_cmp k l)) [
+  | inl first ↦ rw first refl
+  | inr (inl same) ↦
+      let is = exact_bytes k l same in
+      rw same (elim (bool_cases (bytes_eq j k)) [
+        | inl t ↦ rw t refl
+        | inr f ↦ rw f (sym (rw (subst (λ n. bytes_eq j n ≡ false) is f) refl))
+      ])
+  | inr (inr past) ↦ rw past (elim (bool_cases (bytes_eq j l)) [
+    | inl t ↦
+        let other : bytes_eq j k ≡ false = earlier_name j k (subst (λ n. text_cmp n k ≡ Less) (sym (same_name j l t)) (before_of k l past)) in
+        rw (t, other) refl
+    | inr f ↦ rw f (more_at k e ms j)
+  ])
 ]
 
-entries_kept : (o : Option Data) (r : Option FieldPath) (d : Data) → entries_in (kept_list o r d) ≡ kept_then o r (entries_in d)
-unfolding kept_then
-entries_kept o None tree.null = refl
-entries_kept o None (tree.boolean b) = refl
-entries_kept o None (tree.integer z) = refl
-entries_kept o None (tree.text s) = refl
-entries_kept o None (list ds) = refl
-entries_kept o None (tree.object ms) = refl
-entries_kept o (Some r) tree.null = refl
-entries_kept o (Some r) (tree.boolean b) = refl
-entries_kept o (Some r) (tree.integer z) = refl
-entries_kept o (Some r) (tree.text s) = refl
-entries_kept o (Some r) (list ds) = ap Some (kept_entries (is_there o r) ds)
-entries_kept o (Some r) (tree.object ms) = refl
+-- ---- what is fixed
 
-none_kept : (o : Option Data) (r : Option FieldPath) → None ≡ kept_then o r None
-unfolding kept_then
-none_kept o None = refl
-none_kept o (Some r) = refl
+entries_as : (ds : List Data) → items_list (as_items ds) ≡ ds
+entries_as [] = refl
+entries_as (d ∷ ds) = ap (λ es. d ∷ es) (entries_as ds)
 
-fixed_less : (o : Option Data) (p : FieldPath) (lists : Members) (text : List ℕ)
-    → option_and_then entries_in (member_at text (kept_lists o p lists)) ≡ kept_then o (rest_at [] p text) (option_and_then entries_in (member_at text lists))
-fixed_less o p no_members text = none_kept o (rest_at [] p text)
-fixed_less o p (member k d ms) text = elim (bool_cases (bytes_eq text k)) [
-  | inl same ↦ rw same (ap (λ t. entries_in (kept_list o (rest_at [] p t) d)) (sym (same_name text k same)) ∙ entries_kept o (rest_at [] p text) d)
-  | inr other ↦ rw other (fixed_less o p ms text)
-]
+-- nothing is left after the front itself
+front_left : OneText → (front : List ℕ) (p : FieldPath) → rest_at front p front ≡ None
+front_left one front p = elim (option_cases (rest_at front p front)) [
+  | inl none ↦ none
+  | inr some ↦
+      let b = beginning front p front some.0 some.1 in
+      let empty : [] ≡ path_text (b.before ++ b.step ∷ []) = append_cancel_left front [] (path_text (b.before ++ b.step ∷ [])) (append-nil front ∙ b.text_is) in
+      let same = one [] (b.before ++ b.step ∷ []) empty in
+      absurd (not_empty b.before b.step (sym same))
+] where
+  not_empty : (a : FieldPath) (s : FieldStep) → a ++ s ∷ [] ≢ []
+  not_empty [] s e = cc
+  not_empty (t ∷ a) s e = cc
 
--- where the end of the path is not in question, nothing else is fixed
-then_fixed : (o : Option Data) (r : Option FieldPath) (fixed : Option (List Data)) → ((w : Data) → o ≡ Some w → r ≡ Some [] → fixed ≡ None → ⊥) → kept_then o r fixed ≡ kept_fixed o r fixed
-unfolding kept_then
-then_fixed o None None more = refl
-then_fixed o None (Some ds) more = refl
-then_fixed o (Some r) (Some ds) more = refl
-then_fixed None (Some []) None more = refl
-then_fixed (Some w) (Some []) None more = absurd (more w refl refl refl)
-then_fixed o (Some (s ∷ r)) None more = refl
+none_kept : (o : Option Data) (r : FieldPath) (fixed : Option (List Data)) → kept_fixed o (Some r) fixed ≡ None → fixed ≡ None
+none_kept o r None e = refl
+none_kept o r (Some ds) e = absurd (cc)
 
--- the path is left as a whole after its own text
-end_left : OneText → (p : FieldPath) → p ≢ [] → rest_at [] p (path_text p) ≡ Some []
-end_left one [] some = absurd (some refl)
-end_left one (s ∷ p) some = last_left one [] s p
-
-left_end : (p : FieldPath) (text : List ℕ) → rest_at [] p text ≡ Some [] → text ≡ path_text p
-left_end p text e =
-    let b = beginning [] p text [] e in
-    b.text_is ∙ ap path_text b.whole
-
-pub fixed_kept : OneText → (P : Pools) (o : Option Data) (p : FieldPath) → p ≢ [] → (text : List ℕ) → fixed_at text (narrowed P o p) ≡ kept_fixed o (rest_at [] p text) (fixed_at text P)
-fixed_kept one P None p some text = fixed_less None p P.fixed text ∙ then_fixed None (rest_at [] p text) (fixed_at text P) (λ w e r f. absurd (cc))
-fixed_kept one P (Some w) p some text = elim (option_cases (fixed_at (path_text p) P)) [
-  | inr there ↦
-      rw there.1 (fixed_less (Some w) p P.fixed text ∙ then_fixed (Some w) (rest_at [] p text) (fixed_at text P)
-      (λ x e r f. let here : fixed_at (path_text p) P ≡ None = subst (λ t. fixed_at t P ≡ None) (left_end p text r) f in let h = there.1 in cc))
-  | inl none ↦
-      let F = kept_lists (Some w) p P.fixed in
-      let d : Data = list (item w no_items) in
-      let more = more_at (path_text p) d F text in
-      rw none (ap (option_and_then entries_in) more ∙ elim (bool_cases (bytes_eq text (path_text p))) [
+lists_at : OneText → (P : Pools) (o : Option Data) (front : List ℕ) (p : FieldPath) (text : List ℕ) → option_and_then entries_in (member_at text (with_lists (changes o P front p) P.fixed)) ≡ kept_fixed o (rest_at front p text) (fixed_at text P)
+lists_at one P o front [] text = refl
+lists_at one P o front (s ∷ p) text = elim (option_cases (kept_fixed o (Some p) (fixed_at (below front s) P))) [
+  | inl none ↦ rw none (elim (bool_cases (bytes_eq text (below front s))) [
+    | inl same ↦
+        let is = same_name text (below front s) same in
+        let free : fixed_at text P ≡ None = subst (λ t. fixed_at t P ≡ None) (sym is) (none_kept o p (fixed_at (below front s) P) none) in
+        let past : rest_at (below front s) p text ≡ None = subst (λ t. rest_at (below front s) p t ≡ None) (sym is) (front_left one (below front s) p) in
+        let whole : kept_fixed o (Some p) (fixed_at text P) ≡ None = subst (λ t. kept_fixed o (Some p) (fixed_at t P) ≡ None) (sym is) none in
+        rw same (lists_at one P o (below front s) p text ∙ (ap (λ r. kept_fixed o r (fixed_at text P)) past ∙ (free ∙ sym whole)))
+    | inr other ↦ rw other (lists_at one P o (below front s) p text)
+  ])
+  | inr some ↦
+      let rest = with_lists (changes o P (below front s) p) P.fixed in
+      rw some.1 (ap (option_and_then entries_in) (more_at (below front s) (list (as_items some.0)) rest text) ∙ elim (bool_cases (bytes_eq text (below front s))) [
         | inl same ↦
-            let is = same_name text (path_text p) same in
-            rw same (sym (rw (is, none, end_left one p some) refl))
-        | inr other ↦
-            rw other (fixed_less (Some w) p P.fixed text ∙ then_fixed (Some w) (rest_at [] p text) (fixed_at text P)
-            (λ x e r f. let t = own_name (path_text p) in let f = subst (λ t. bytes_eq t (path_text p) ≡ false) (left_end p text r) other in cc))
+            let is = same_name text (below front s) same in
+            let whole : kept_fixed o (Some p) (fixed_at text P) ≡ Some some.0 = subst (λ t. kept_fixed o (Some p) (fixed_at t P) ≡ Some some.0) (sym is) some.1 in
+            rw same (ap Some (entries_as some.0) ∙ sym whole)
+        | inr other ↦ rw other (lists_at one P o (below front s) p text)
       ])
 ]
+
+pub fixed_kept : OneText → (P : Pools) (o : Option Data) (p : FieldPath) (text : List ℕ) → fixed_at text (narrowed P o p) ≡ kept_fixed o (rest_at [] p text) (fixed_at text P)
+fixed_kept one P o p text = lists_at one P o [] p text
+
+-- ---- which names there are
+
+fixed_name : (P : Pools) (text : List ℕ) (ds : List Data) → fixed_at text P ≡ Some ds → HasName P.fixed text
+fixed_name P text ds e = elim (option_cases (member_at text P.fixed)) [
+  | inl none ↦ absurd (let h = rw none at e in cc)
+  | inr some ↦ some
+]
+
+end_only : (o : Option Data) (p : FieldPath) (ds : List Data) → end_alone p o ≡ Some ds → (p ≡ []) × ((w : Data) × (o ≡ Some w))
+end_only None [] ds e = absurd (cc)
+end_only (Some w) [] ds e = (refl, (w, refl))
+end_only o (s ∷ p) ds e = absurd (cc)
+
+-- the name of a list was there, or is the text of the path, where a value is wanted
+pub list_name : (P : Pools) (o : Option Data) (front : List ℕ) (p : FieldPath) (text : List ℕ) → HasName (with_lists (changes o P front p) P.fixed) text
+    → ((w : Data) × (o ≡ Some w) × (text ≡ front ++ path_text p)) ⊎ HasName P.fixed text
+list_name P o front [] text has = inr has
+list_name P o front (s ∷ p) text has =
+    let later : HasName (with_lists (changes o P (below front s) p) P.fixed) text → ((w : Data) × (o ≡ Some w) × (text ≡ front ++ path_text (s ∷ p))) ⊎ HasName P.fixed text = λ h.
+    elim (list_name P o (below front s) p text h) [ inl end ↦ inl (end.0, end.1, end.2 ∙ append_assoc front (step_text s) (path_text p)) | inr old ↦ inr old ]
+    in
+    elim (option_cases (kept_fixed o (Some p) (fixed_at (below front s) P))) [
+      | inl none ↦ later (rw none at has)
+      | inr some ↦
+          let rest = with_lists (changes o P (below front s) p) P.fixed in
+          let there : HasName (with_list (below front s) (Some (list (as_items some.0))) rest) text = rw some.1 at has in
+          elim (bool_cases (bytes_eq text (below front s))) [
+            | inr other ↦ later (there.0, rw other at (sym (more_at (below front s) (list (as_items some.0)) rest text) ∙ there.1))
+            | inl same ↦
+                let is = same_name text (below front s) same in
+                elim (option_cases (fixed_at (below front s) P)) [
+                  | inr fixed ↦ inr (subst (HasName P.fixed) (sym is) (fixed_name P (below front s) fixed.0 fixed.1))
+                  | inl free ↦
+                      let end = end_only o p some.0 (subst (λ f. kept_fixed o (Some p) f ≡ Some some.0) free some.1) in
+                      let whole : below front s ≡ front ++ path_text (s ∷ p) = ap (λ t. front ++ t) (sym (append-nil (step_text s)) ∙ ap (λ q. step_text s ++ path_text q) (sym end.0)) in
+                      inl (end.1.0, end.1.1, is ∙ whole)
+                ]
+          ]
+    ]
+
+-- ---- where they differ from the pools
+
+or_false : (a b : Bool) → b ≡ false → (a || b) ≡ a
+or_false true b e = refl
+or_false false b e = e
+
+not_left : (o : Option FieldPath) → is_some o ≡ false → o ≡ None
+not_left None e = refl
+not_left (Some x) e = absurd (cc)
+
+whole_text : OneText → (p q : FieldPath) → rest_at [] p (path_text q) ≡ Some [] → q ≡ p
+whole_text one p q e =
+    let b = beginning [] p (path_text q) [] e in
+    one q (b.before ++ b.step ∷ []) b.text_is ∙ b.whole
+
+pub narrowed_differ : OneText → (root : Node) (P : Pools) (o : Option Data) (p : FieldPath) → MayBeWanted root P o p → DifferAlong root P (narrowed P o p) p
+narrowed_differ one root P o p may = record {
+  beside = λ text off.
+      let none = not_left (rest_at [] p text) (sym (among_beginnings [] p text) ∙ off) in (
+        asked_more P o p text ∙ or_false (is_present text P) (is_some (rest_at [] p text)) (ap is_some none),
+        fixed_kept one P o p text ∙ ap (λ r. kept_fixed o r (fixed_at text P)) none,
+      );
+  whole = λ q N there.
+      subst (λ f. (sort_at N ≡ Leaf) ⊎ (is_some f ≡ is_some (fixed_at (path_text q) P))) (sym (fixed_kept one P o p (path_text q)))
+      (keeps o may (rest_at [] p (path_text q)) (fixed_at (path_text q) P) N (λ end. subst (λ x. node_at root (place_of x) ≡ Some N) (whole_text one p q end) there));
+} where
+  keeps : (o : Option Data) → MayBeWanted root P o p → (r : Option FieldPath) (fixed : Option (List Data)) (N : Node) → (r ≡ Some [] → node_at root (place_of p) ≡ Some N) → (sort_at N ≡ Leaf) ⊎ (is_some (kept_fixed o r fixed) ≡ is_some fixed)
+  keeps o may None fixed N at = inr refl
+  keeps o may (Some r) (Some ds) N at = inr refl
+  keeps None may (Some []) None N at = inr refl
+  keeps (Some w) may (Some []) None N at = inl (may.2 N (at refl))
+  keeps o may (Some (s ∷ r)) None N at = inr refl
+
+pub differ_back : (root : Node) (P Q : Pools) (p : FieldPath) → DifferAlong root P Q p → DifferAlong root Q P p
+differ_back root P Q p h = record {
+  beside = λ text off. let s = h.beside text off in (sym s.0, sym s.1);
+  whole = λ q N there. elim (h.whole q N there) [ inl leaf ↦ inl leaf | inr both ↦ inr (sym both) ];
+}

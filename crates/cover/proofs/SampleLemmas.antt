@@ -30,9 +30,10 @@ use Rattle.cover.specs.Cover.{Has}
 use Rattle.cover.specs.There.{is_there}
 use Rattle.cover.specs.Wanted.{Wanted}
 use Rattle.cover.specs.Internal.First.{IsSampleWith}
-use Rattle.cover.specs.Internal.Narrowed.{rest_at, kept_lists, with_end, beginnings, narrowed, narrower, MayBeWanted}
+use Rattle.plan.specs.Pools.Along.{beginnings, with_lists}
+use Rattle.cover.specs.Internal.Narrowed.{rest_at, kept_fixed, changes, narrowed, narrower, MayBeWanted}
 use Rattle.cover.proofs.PathLemmas.{OneText, is_left}
-use Rattle.cover.proofs.PoolLemmas.{kept_fixed, asked_more, fixed_kept}
+use Rattle.cover.proofs.PoolLemmas.{asked_more, fixed_kept}
 use Rattle.cover.proofs.NarrowLemmas.{StoredLaw, IsLeftAt, Narrows, narrow_along, wide_along, there_over}
 
 end_of : (p : FieldPath) → IsLeftAt p [] (Some p)
@@ -49,12 +50,12 @@ part_of root P (Some v) p may w e N at = let same : v ≡ w = cc in subst (IsPar
 
 -- the fixed values of the narrowed pools
 abbrev fixed_in : Pools → Option Data → FieldPath → Members
-fixed_in P o p = with_end o (path_text p) (fixed_at (path_text p) P) (kept_lists o p P.fixed)
+fixed_in P o p = with_lists (changes o P [] p) P.fixed
 
 narrows : OneText → (root : Node) (P : Pools) (o : Option Data) (p : FieldPath) → IsDeclared root p → MayBeWanted root P o p
     → Narrows o root P (fixed_in P o p) (P.present ++ beginnings [] p) p (rest_at [] p)
 narrows one root P o p declared may = record {
-  narrowed = record { asked = asked_more P o p; fixed = fixed_kept one P o p declared.0 };
+  narrowed = record { asked = asked_more P o p; fixed = fixed_kept one P o p };
   is_left = is_left one p;
   no_item = no_item root P o p may;
 }
@@ -111,32 +112,8 @@ text_there one q w p v e h = subst (λ x. is_there w.value x v ≡ true) (one h.
 
 -- ---- the first sample
 
-not_greater : (a b : ℕ) (x y : Ordering) → ordering_then (ordering_then (nat_cmp a b) x) y ≡ Less → a ≤ b
-not_greater a b x y e = elim (cases_lt b a) [
-  | inr le ↦ le
-  | inl gt ↦
-      let greater : Greater ≡ nat_cmp a b = nat_cmp_is a b Greater (omega (arith, gt)) in
-      absurd (let h = rw (← greater) at e in cc)
-]
-
-pub before_less : (u v : Data) → tree_cmp u v ≡ Less → nodes u ≤ nodes v
-before_less u v e = not_greater (nodes u) (nodes v) (nat_cmp (kind u) (kind v)) (content_cmp u v) e
-
--- the first sample within a limit is the first one within each larger limit
-pub first_larger : (root : Node) (P : Pools) (few limit : ℕ) (v : Data) → few ≤ limit → IsNextSample (record { root = root; pools = P; limit = few }) None (Some v)
-    → IsNextSample (record { root = root; pools = P; limit = limit }) None (Some v)
-first_larger root P few limit v le first = record {
-  is = record { sample = record { part = first.is.sample.part; within = omega (arith, first.is.sample.within) }; past = tt };
-  least = λ u h before. first.least u (record { sample = record { part = h.sample.part; within = omega (arith, before_less u v before, first.is.sample.within) }; past = tt }) before;
-}
-
 pub first_has : OneText → (q : Question) (w : Wanted) (p : FieldPath) (v : Data) → path_text p ≡ w.path → IsLeast tree_cmp (IsSampleWith q w.value p) v → IsLeast tree_cmp (Has q w) v
 first_has one q w p v e first = record {
   is = has_text q w p v e first.is.0 first.is.1;
   least = λ u h before. first.least u (h.0, text_there one q w p u e h) before;
 }
-
-pub first_some : (root : Node) (P : Pools) (few limit : ℕ) (tree : Option Tree) → few ≤ limit → is_some tree ≡ true → IsNextSample (record { root = root; pools = P; limit = few }) None (tree_of tree)
-    → IsNextSample (record { root = root; pools = P; limit = limit }) None (tree_of tree)
-first_some root P few limit None le some first = absurd (cc)
-first_some root P few limit (Some t) le some first = first_larger root P few limit (data_of t) le first

@@ -18,7 +18,7 @@ use Rattle.stored.specs.Objects.Tests.{is_same}
 use Rattle.explain.specs.Paths.FieldPath.{FieldStep, field, item as item_step, value, FieldPath}
 use Rattle.plan.specs.Samples.Over.{is_in, StepFollows}
 use Rattle.cover.specs.There.{has_value, all_items, all_values, has_items, has_values, is_there}
-use Rattle.cover.proofs.PoolLemmas.{kept_of}
+use Rattle.cover.specs.Internal.Narrowed.{kept_of}
 
 -- ---- of lists and objects
 

@@ -1,5 +1,5 @@
 -- The candidates of a scalar may be wanted: no scalar is an item of a map list.
-use Rattle.std.proofs.Common.{◌≡◌, ℕ, List, [], ◌∷◌, ◌++◌, Bool, true, false, Option, Some, refl, sym, subst, ◌∙◌, inl, arith, All, Contains, map, get_or}
+use Rattle.std.proofs.Common.{ap, ◌≡◌, ℕ, List, [], ◌∷◌, ◌++◌, Bool, true, false, Option, Some, refl, sym, subst, ◌∙◌, inl, arith, All, Contains, map, get_or}
 use Rattle.std.proofs.lemmas.List.{get_or-map, length-map}
 use Rattle.jtree.specs.Data.{Data}
 use Rattle.jtree.specs.View.{data_of}
@@ -25,6 +25,7 @@ use Rattle.plan.specs.Samples.Candidates.{AreCandidates}
 use Rattle.plan.specs.Samples.Part.{IsPart}
 use Rattle.plan.specs.Samples.Site.{plain}
 use Rattle.cover.specs.Wanted.{AreValuesAt}
+use Rattle.plan.specs.Samples.Candidates.{sort_at}
 use Rattle.cover.specs.Internal.Narrowed.{MayBeWanted}
 use Rattle.cover.proofs.NarrowLemmas.{node_after}
 use Rattle.cover.proofs.PathLemmas.{OneText}
@@ -76,6 +77,7 @@ may_be law root schema P nullable description kind cs p ds at are v has = (
   λ N there.
       let same : node nullable description (scalar kind cs) ≡ N = cc in
       subst (λ M. IsPart P (plain P (path_text p) M) v) same ((are.each v).0 has),
+  λ N there. let same : node nullable description (scalar kind cs) ≡ N = cc in sym (ap sort_at same),
 )
 
 pub values_wanted : ItemsLaw → (root : Node) → IsSchema root → (values : Bool) (P : Pools) (p : FieldPath) (N : Node) → node_at root (place_of p) ≡ Some N → (ts : List Tree)

@@ -1,5 +1,5 @@
 //! The lines of what is wanted of a schema, one after the other.
-ghost use Rattle.std.specs.Prelude.{◌≡◌, ◌≤◌, ◌<◌, ◌++◌, ◌∷◌, [], true, false, ℕ, IfOk, List, Contains, All, map, option_map};
+ghost use Rattle.std.specs.Prelude.{◌≡◌, ◌++◌, ◌∷◌, [], true, false, ℕ, IfOk, List, Contains, All, map, option_map};
 ghost use Rattle.jtree.specs.View.{data_of};
 ghost use Rattle.explain.specs.Fields.Declared.{AreFields, IsDeclared};
 ghost use Rattle.explain.specs.Fields.Field.{Field as FieldData};
@@ -23,9 +23,8 @@ use crate::values::values_of;
 use crate::way::{PathStep, below, steps_of};
 use explain::Listing;
 use jtree::{Text, Tree};
-use plan::{Plan, Pools, SizeSet};
+use plan::{Plan, SizeSet};
 use std::alloc::{AllocError, Global};
-use stored::Schema;
 
 /// What is wanted of a sample: that the path of this text is there, or that it is there with this value.
 #[derive(Drop)]
@@ -58,86 +57,79 @@ pub fn cover<Z: SizeSet>(alloc: Global, plan: Plan<Z>, values: bool) -> Result<C
     requires paths { HasGoodPaths plan.root plan.pools }
     ensures { IfOk result (λ c. (fields : List FieldData) × AreFields plan.root fields × (wanted : List WantedData) × AreWanted values plan (map (λ f. f.path) fields) wanted × AreCovered plan wanted (covered_of c)) }
 {
-    let limit = plan.limit();
-    let (mut schema, pools) = plan.into_parts();
-    let listing = Listing::new(alloc, &schema)?;
+    let mut plan = plan;
+    let listing = Listing::new(alloc, plan.schema())?;
     let mut covered = Covered {
         lines: Vec::new(alloc),
         missed: Vec::new(alloc),
     };
     for field in listing.fields() {
         let path = field.path.as_str();
-        let found = values_of(alloc, values, &schema, &pools, path)?;
-        schema = add_wanted::<Z>(alloc, schema, &pools, limit, path, None, &mut covered)?;
-        schema = add_values::<Z>(alloc, schema, &pools, limit, path, &found, &mut covered)?;
+        let found = values_of(alloc, values, plan.schema(), plan.pools(), path)?;
+        plan = add_wanted(alloc, plan, path, None, &mut covered)?;
+        plan = add_values(alloc, plan, path, &found, &mut covered)?;
     }
     Ok(covered)
 }
 
-/// Adds what the declared path of this text adds with each of these values, and answers the schema.
+/// Adds what the declared path of this text adds with each of these values, and answers the plan.
 fn add_values<Z: SizeSet>(
     alloc: Global,
-    schema: Schema,
-    pools: &Pools,
-    limit: u32,
+    plan: Plan<Z>,
     path: &str,
     values: &[Tree],
     covered: &mut Covered,
-) -> Result<Schema, AllocError>
-    requires limit { (1 ≤ limit) × (limit < Z.BITS) }
-    requires paths { HasGoodPaths schema pools.now }
-    requires declared { IsTextOf (IsDeclared schema) path.now }
-    requires values { (p : FieldPath) → path_text p ≡ path.now → All (λ v. MayBeWanted schema pools.now (Some (data_of v)) p) values.now }
-    ensures schema { IfOk result (λ s. s ≡ schema) }
-    ensures adds { IfOk result (λ _. (q : Question) (wanted : List WantedData) → q ≡ record { root = schema; pools = pools.now; limit = limit } → AreCovered q wanted (covered_of covered.old)
+) -> Result<Plan<Z>, AllocError>
+    requires paths { HasGoodPaths plan.root plan.pools }
+    requires declared { IsTextOf (IsDeclared plan.root) path.now }
+    requires values { (p : FieldPath) → path_text p ≡ path.now → All (λ v. MayBeWanted plan.root plan.pools (Some (data_of v)) p) values.now }
+    ensures plan { IfOk result (λ r. r ≡ plan) }
+    ensures adds { IfOk result (λ _. (q : Question) (wanted : List WantedData) → q ≡ plan → AreCovered q wanted (covered_of covered.old)
         → AreCovered q (wanted ++ map (with_value path.now) (map (λ v. data_of v) values.now)) (covered_of covered.new)) }
 {
-    let mut schema = schema;
+    let mut plan = plan;
     for value in values {
-        schema = add_wanted::<Z>(alloc, schema, pools, limit, path, Some(value), covered)?;
+        plan = add_wanted(alloc, plan, path, Some(value), covered)?;
     }
-    Ok(schema)
+    Ok(plan)
 }
 
-/// Adds what the declared path of this text adds, or that path with the value, and answers the schema.
+/// Adds what the declared path of this text adds, or that path with the value, and answers the plan.
 fn add_wanted<Z: SizeSet>(
     alloc: Global,
-    schema: Schema,
-    pools: &Pools,
-    limit: u32,
+    plan: Plan<Z>,
     path: &str,
     value: Option<&Tree>,
     covered: &mut Covered,
-) -> Result<Schema, AllocError>
-    requires limit { (1 ≤ limit) × (limit < Z.BITS) }
-    requires paths { HasGoodPaths schema pools.now }
-    requires declared { IsTextOf (IsDeclared schema) path.now }
-    requires value { (p : FieldPath) → path_text p ≡ path.now → MayBeWanted schema pools.now (option_map (λ v. data_of v.now) value) p }
-    ensures schema { IfOk result (λ s. s ≡ schema) }
-    ensures adds { IfOk result (λ _. (q : Question) (wanted : List WantedData) → q ≡ record { root = schema; pools = pools.now; limit = limit } → AreCovered q wanted (covered_of covered.old)
+) -> Result<Plan<Z>, AllocError>
+    requires paths { HasGoodPaths plan.root plan.pools }
+    requires declared { IsTextOf (IsDeclared plan.root) path.now }
+    requires value { (p : FieldPath) → path_text p ≡ path.now → MayBeWanted plan.root plan.pools (option_map (λ v. data_of v.now) value) p }
+    ensures plan { IfOk result (λ r. r ≡ plan) }
+    ensures adds { IfOk result (λ _. (q : Question) (wanted : List WantedData) → q ≡ plan → AreCovered q wanted (covered_of covered.old)
         → AreCovered q (wanted ++ record { path = path.now; value = option_map (λ v. data_of v.now) value.entry } ∷ []) (covered_of covered.new)) }
 {
-    let steps = steps_of(alloc, &schema, path)?;
+    let steps = steps_of(alloc, plan.schema(), path)?;
     explain::laws::paths_have_one_text();
     if is_had(covered.lines.as_slice(), value, steps.as_slice()) {
-        return Ok(schema);
+        return Ok(plan);
     }
     let wanted = wanted_of(alloc, path, value)?;
     if is_missed(alloc, covered.missed.as_slice(), steps.as_slice())? {
         covered.missed.push(wanted)?;
-        return Ok(schema);
+        return Ok(plan);
     }
     let aim = Aim {
         path,
         value,
         steps: steps.as_slice(),
     };
-    let (schema, tree) = find_first::<Z>(alloc, schema, pools, limit, aim)?;
+    let (plan, tree) = find_first(alloc, plan, aim)?;
     match tree {
         Some(tree) => covered.lines.push(Line { wanted, tree })?,
         None => covered.missed.push(wanted)?,
     }
-    Ok(schema)
+    Ok(plan)
 }
 
 /// That the path of this text is there, or that it is there with the value.

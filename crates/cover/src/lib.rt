@@ -12,7 +12,6 @@
 //! What such lines say together is in `laws`.
 #![tactic(auto)]
 
-mod closing;
 mod covering;
 mod first;
 pub mod laws;

@@ -9,32 +9,16 @@ ghost use Rattle.explain.specs.Paths.PathText.{path_text};
 ghost use Rattle.plan.specs.Samples.Site.{below as below_of};
 ghost use Rattle.cover.specs.Internal.Ways.{step_of, path_of, LeadsNowhere, NoneLeads};
 
-use explain::{Step, path_below};
-use jtree::Text;
+pub(crate) use plan::PathStep;
 use schema::{Fields, Node, Sort};
 use std::alloc::{AllocError, Global};
 use stored::Schema;
-
-/// A step of the path of a field.
-#[derive(Drop)]
-pub(crate) enum PathStep {
-    /// To the field of this name.
-    Field(Text),
-    /// To the items of a list.
-    Item,
-    /// To the values of a map.
-    Value,
-}
 
 /// The text of the path of this text extended by a step.
 pub(crate) fn below(alloc: Global, front: &str, step: &PathStep) -> Result<String, AllocError>
     ensures { IfOk result (λ s. string_bytes s ≡ below_of front.now (step_of step.now)) }
 {
-    match step {
-        PathStep::Field(name) => path_below(alloc, front, Step::Field(name.as_str())),
-        PathStep::Item => path_below(alloc, front, Step::Item),
-        PathStep::Value => path_below(alloc, front, Step::Value),
-    }
+    step.below(alloc, front)
 }
 
 /// The steps of the declared path of this text.

@@ -1,5 +1,5 @@
 -- What is added to a plan, node by node.
-use Rattle.std.specs.Prelude.{◌≡◌, ℕ, ◌+◌, ◌^◌, ◌<◌, List, map, take, Bool, false, Option, Some, None, option_map, ◌||◌, is_some}
+use Rattle.std.specs.Prelude.{◌≡◌, ℕ, ◌+◌, ◌^◌, ◌≤◌, ◌<◌, List, map, take, Bool, false, Option, Some, None, option_map, ◌||◌, is_some}
 use Rattle.std.proofs.Common.{Result, Ok, Err, IfOk, refl, ap, sym, ◌∙◌, arith, [], ◌∷◌, ◌++◌, length, get_or}
 use Rattle.std.proofs.lemmas.List.{get_or_append_left, get_or_push, get_or-append-add, append-nil, append_assoc, length_push, length-append, take_more}
 use Rattle.jtree.specs.View.{data_of}
@@ -25,7 +25,7 @@ use Rattle.schema.specs.declared.node.Bounds.{Bounds}
 use Rattle.plan.specs.Internal.Values.{AreValues, candidates_of}
 use Rattle.plan.specs.declared.leaf.Leaf.{Leaf}
 use Rattle.plan.specs.declared.arena.Content.TheVariants as content
-use Rattle.plan.specs.Internal.Arena.{IsSlot, AreSlots, AreRight, AreSitesFrom}
+use Rattle.plan.specs.Internal.Arena.{IsSlot, AreSlots, IsRight, AreRightBelow, AreRight, AreSitesFrom}
 use Rattle.plan.specs.Samples.Sites.{site_at}
 use Rattle.plan.specs.Internal.Building.{IsSound, IsSortSound, AreFieldsSound, IsBuilt, AreBuilt, IsFieldSlot}
 use Rattle.plan.specs.declared.values.Values.{Values}
@@ -156,30 +156,37 @@ three_ok (Ok x) A B C D a b c d = d x a b c
 three_ok (Err e) A B C D a b c d = tt
 
 -- a row whose slots' nodes are there
-pub row_built : {Z : Type 0} (holds : Z → ℕ → Type 0) (limit : ℕ) (P : Pools) (v : Values) (old mid new : List (Entry Z)) (path : List ℕ) (nullable : Bool) (description : Option (List ℕ)) (sort : Sort) (keys : List (List ℕ)) (b : Bounds) (cs : Validations) (ends : List Bool) (es : List SlotEntry) (null_ok : Bool) (n : ℕ)
+pub row_built : {Z : Type 0} (holds : Z → ℕ → Type 0) (limit : ℕ) (P : Pools) (v : Values) (old mid new : List (Entry Z)) (path : List ℕ) (nullable : Bool) (description : Option (List ℕ)) (sort : Sort) (keys : List (List ℕ)) (b : Bounds) (cs : Validations) (ends : List Bool) (es : List SlotEntry) (null_ok : Bool) (n : ℕ) (e : Entry Z)
     → takes_null P path (node nullable description sort) ≡ null_ok → IsNode (node nullable description sort) → sort_at (node nullable description sort) ≡ Row → ending_at P path (node nullable description sort) ≡ record { bounds = b; asked = cs } → (HasSoundJunctors (node nullable description sort) → AreMet cs ends)
     → n ≡ length old + length (sites_below P path sort) → length new ≡ n + 1
     → ((sites : List Site) → AreValues P v → IsSortSound sort → AreSitesFrom sites (length old) (sites_below P path sort) → AreRight holds limit P v sites old → AreRight holds limit P v sites mid)
     → ((sites : List Site) → AreValues P v → HasSoundJunctors (node nullable description sort) → AreSitesFrom sites (length old) (sites_below P path sort) → AreSlots v.names.items sites n es (slots_at P path (node nullable description sort) keys))
-    → ((Q : Pools) (sites : List Site) (asked : Validations) → AreRight holds limit Q v sites mid → IsNode (site_at sites n).node → sort_of (site_at sites n) ≡ Row → ending_of Q (site_at sites n) ≡ record { bounds = b; asked = asked } → AreMet asked ends
-    → admits_null Q (site_at sites n) ≡ null_ok → AreSlots v.names.items sites n es (slots Q (site_at sites n)) → AreRight holds limit Q v sites new)
+    → new ≡ mid ++ e ∷ [] → n ≡ length mid
+    → ((Q : Pools) (sites : List Site) (i : ℕ) (asked : Validations) → AreRightBelow holds limit Q v sites i mid → i ≤ length mid → IsNode (site_at sites i).node → sort_of (site_at sites i) ≡ Row → ending_of Q (site_at sites i) ≡ record { bounds = b; asked = asked } → AreMet asked ends
+    → admits_null Q (site_at sites i) ≡ null_ok → AreSlots v.names.items sites i es (slots Q (site_at sites i)) → IsRight holds limit Q v sites i e)
     → IsBuilt holds limit P v old new None path (node nullable description sort) keys n
-row_built holds limit P v old mid new path nullable description sort keys b cs ends es null_ok n takes o row ending met number count under are right =
+row_built holds limit P v old mid new path nullable description sort keys b cs ends es null_ok n e takes o row ending met number count under are added last right =
     node_built holds limit P v old new None path nullable description sort keys n number count
     (λ sites values sound placed here before.
-    right P sites cs (under sites values sound.2 placed before) (rw here o) (rw here row) (rw here ending) (met sound.1) (rw here takes) (rw here (are sites values sound.1 placed)))
+    let rights = under sites values sound.2 placed before in
+    let rights_below : AreRightBelow holds limit P v sites n mid = λ i x l. rights i x (omega (arith, last)) in
+    right_push holds limit P v sites mid new e n rights added last (right P sites n cs rights_below (omega (arith, last)) (rw here o) (rw here row) (rw here ending) (met sound.1) (rw here takes) (rw here (are sites values sound.1 placed))))
 
 -- a list whose item is there
-pub list_built : {Z : Type 0} (holds : Z → ℕ → Type 0) (limit : ℕ) (P : Pools) (v : Values) (old mid new : List (Entry Z)) (path : List ℕ) (nullable : Bool) (description : Option (List ℕ)) (M : Node) (type : ListType) (item_names : List (List ℕ)) (b c : Bounds) (keys : List (List ℕ)) (item : PlanNode) (null_ok : Bool) (n : ℕ)
+pub list_built : {Z : Type 0} (holds : Z → ℕ → Type 0) (limit : ℕ) (P : Pools) (v : Values) (old mid new : List (Entry Z)) (path : List ℕ) (nullable : Bool) (description : Option (List ℕ)) (M : Node) (type : ListType) (item_names : List (List ℕ)) (b c : Bounds) (keys : List (List ℕ)) (item : PlanNode) (null_ok : Bool) (n : ℕ) (e : Entry Z)
     → takes_null P path (node nullable description (list M type item_names b)) ≡ null_ok → bounds_at P path (node nullable description (list M type item_names b)) ≡ c → IsNode M → IsBuilt holds limit P v old mid (fixed_item P type (below path step.item)) (below path step.item) M (item_keys type item_names) item → n ≡ length mid → length new ≡ n + 1
-    → ((Q : Pools) (sites : List Site) (m : Bool) (d : Option (List ℕ)) → AreRight holds limit Q v sites mid → (site_at sites n).node ≡ node m d (list M type item_names b) → admits_null Q (site_at sites n) ≡ null_ok → bounds_of Q (site_at sites n) ≡ c → item_site Q (site_at sites n) ≡ Some (site_at sites item)
-    → IsNode (site_at sites n).node → HasSoundItems (site_at sites n).node → AreRight holds limit Q v sites new)
+    → new ≡ mid ++ e ∷ []
+    → ((Q : Pools) (sites : List Site) (i : ℕ) (m : Bool) (d : Option (List ℕ)) → AreRightBelow holds limit Q v sites i mid → item < i → i ≤ length mid → (site_at sites i).node ≡ node m d (list M type item_names b) → admits_null Q (site_at sites i) ≡ null_ok → bounds_of Q (site_at sites i) ≡ c
+    → item_site Q (site_at sites i) ≡ Some (site_at sites item) → IsNode (site_at sites i).node → HasSoundItems (site_at sites i).node → IsRight holds limit Q v sites i e)
     → IsBuilt holds limit P v old new None path (node nullable description (list M type item_names b)) keys n
-list_built holds limit P v old mid new path nullable description M type item_names b c keys item null_ok n takes bounds o built number count right =
+list_built holds limit P v old mid new path nullable description M type item_names b c keys item null_ok n e takes bounds o built number count added right =
     node_built holds limit P v old new None path nullable description (list M type item_names b) keys n (number ∙ built.count) count
     (λ sites values sound placed here before.
     let under = last_site P (fixed_item P type (below path step.item)) sites (length old) item (below path step.item) M (item_keys type item_names) (omega (arith, built.last, built.count)) placed in
-    right P sites nullable description (built.right sites values sound.2 placed before) (ap (λ s. Site.node s) here) (rw here takes) (rw here bounds) (rw (here, under) refl) (rw here o) (rw here sound.0))
+    let rights = built.right sites values sound.2 placed before in
+    let rights_below : AreRightBelow holds limit P v sites n mid = λ i x l. rights i x (omega (arith, number)) in
+    right_push holds limit P v sites mid new e n rights added number
+    (right P sites n nullable description rights_below (omega (arith, number, built.last)) (omega (arith, number)) (ap (λ s. Site.node s) here) (rw here takes) (rw here bounds) (rw (here, under) refl) (rw here o) (rw here sound.0)))
 
 -- no site is below a leaf
 leaf_below : (P : Pools) (fixed : Option (List Data)) (path : List ℕ) (nullable : Bool) (description : Option (List ℕ)) (sort : Sort) → where_fixed fixed LeafSort (sort_at (node nullable description sort)) ≡ LeafSort
@@ -192,12 +199,11 @@ leaf_below P None path n t (list M type keys b) leaf = absurd (cc)
 leaf_below P None path n t open_ leaf = refl
 
 -- a leaf
-pub leaf_built : {Z : Type 0} (holds : Z → ℕ → Type 0) (limit : ℕ) (P : Pools) (v : Values) (old new : List (Entry Z)) (fixed : Option (List Data)) (path : List ℕ) (N : Node) (keys : List (List ℕ)) (l : Leaf) (sizes : Z) (null_ok : Bool) (n : ℕ)
-    → takes_null P path N ≡ null_ok → where_fixed fixed LeafSort (sort_at N) ≡ LeafSort → new ≡ old ++ record { sizes = sizes; nullable = null_ok; content = content.Leaf l } ∷ [] → n ≡ length old → length new ≡ n + 1
-    → (AreValues P v → AreCandidates P (record { node = N; keys = keys; path = path; fixed = fixed }) (candidates_of v l)) → (AreValues P v → IsUpTo limit (holds sizes) (HasSize P (record { node = N; keys = keys; path = path; fixed = fixed })))
+pub leaf_built : {Z : Type 0} (holds : Z → ℕ → Type 0) (limit : ℕ) (P : Pools) (v : Values) (old new : List (Entry Z)) (fixed : Option (List Data)) (path : List ℕ) (N : Node) (keys : List (List ℕ)) (n : ℕ) (e : Entry Z)
+    → where_fixed fixed LeafSort (sort_at N) ≡ LeafSort → new ≡ old ++ e ∷ [] → n ≡ length old → length new ≡ n + 1
+    → ((sites : List Site) (i : ℕ) → AreValues P v → site_at sites i ≡ record { node = N; keys = keys; path = path; fixed = fixed } → IsRight holds limit P v sites i e)
     → IsBuilt holds limit P v old new fixed path N keys n
-leaf_built holds limit P v old new fixed path (node nullable description sort) keys l sizes null_ok n takes leaf is number count candidates sized =
+leaf_built holds limit P v old new fixed path (node nullable description sort) keys n e leaf is number count right =
     let none = leaf_below P fixed path nullable description sort leaf in
     node_built holds limit P v old new fixed path nullable description sort keys n (omega (arith, none)) count
-    (λ sites values sound placed here right.
-    right_push holds limit P v sites old new _ n right is number (record { sizes = rw here (sized values); nullable = rw here (sym takes); content = record { sort = rw here leaf; candidates = rw here (candidates values) } }))
+    (λ sites values sound placed here before. right_push holds limit P v sites old new e n before is number (right sites n values here))

@@ -14,7 +14,7 @@ use Rattle.plan.specs.Samples.Sizes.{HasSize, Ending, nothing, ending_of, CanFil
 use Rattle.plan.specs.Samples.RuleOfParts.{admits_null}
 use Rattle.plan.specs.Internal.Tables.{IsClosed, AreMet, columns, IsTable, AreChoices, AreShaped, AreTables}
 use Rattle.plan.specs.Internal.PartLaws.{PartLaws}
-use Rattle.plan.specs.Internal.Arena.{AreSlots, AreLater, IsChosen, AreChosen, IsRight, AreRight}
+use Rattle.plan.specs.Internal.Arena.{AreSlots, AreLater, IsChosen, AreChosen, IsRight, AreRightBelow, AreRight}
 use Rattle.plan.specs.Samples.Sites.{site_at}
 use Rattle.plan.specs.declared.sort.Sort.TheVariants.{Row}
 use Rattle.plan.specs.declared.values.Values.{Values}
@@ -39,7 +39,7 @@ chosen_count es (d ∷ cs) [] h = absurd h
 chosen_count es (d ∷ cs) (y ∷ xs) h = ap suc (chosen_count es cs xs h.1)
 
 pub chosen_choices : {Z : Type 0} (holds : Z → ℕ → Type 0) (limit : ℕ) (P : Pools) (v : Values) (sites : List Site) (es : List (Entry Z)) (i : ℕ) (cs : List (Choice Z)) (xs : List SlotEntry) (ss : List Slot)
-    → AreRight holds limit P v sites es → AreChosen es cs xs → AreSlots v.names.items sites i xs ss → AreChoices holds limit P cs ss
+    → AreRightBelow holds limit P v sites i es → AreChosen es cs xs → AreSlots v.names.items sites i xs ss → AreChoices holds limit P cs ss
 chosen_choices holds limit P v sites es i [] [] [] right h s = tt
 chosen_choices holds limit P v sites es i [] [] (y ∷ ss) right h s = absurd s
 chosen_choices holds limit P v sites es i [] (x ∷ xs) ss right h s = absurd h
@@ -47,7 +47,7 @@ chosen_choices holds limit P v sites es i (c ∷ cs) [] ss right h s = absurd h
 chosen_choices holds limit P v sites es i (c ∷ cs) (x ∷ xs) [] right h s = absurd s
 chosen_choices {Z = Z} holds limit P v sites es i (c ∷ cs) (x ∷ xs) (y ∷ ss) right h s =
     let e = h.0.entry in
-    let r : IsRight holds limit P v sites x.node e = rw (← h.0.is) at (right x.node e h.0.below) in
+    let r : IsRight holds limit P v sites x.node e = rw (← h.0.is) at (right x.node e s.0.below) in
     let sizes : IsUpTo limit (holds c.sizes) (HasSize P y.site) = rw (h.0.sizes, ← s.0.node) r.sizes in
     (sizes, h.0.must ∙ s.0.must, h.0.bit ∙ s.0.bit, chosen_choices holds limit P v sites es i cs xs ss right h.1 s.1)
 

@@ -50,3 +50,9 @@ pub mod MapListLemmas
 pub mod DeadEndLemmas
 pub mod SoundPartLemmas
 pub mod PlanSites
+pub mod FrameLemmas
+pub mod PlaceLemmas
+pub mod WayLemmas
+pub mod RenewLemmas
+pub mod StepLemmas
+pub mod ListAtLemmas

@@ -33,7 +33,7 @@ no_pools : Pools
 no_pools = record { integers = []; strings = []; names = []; any = []; paths = no_members; present = []; fixed = no_members }
 
 -- a field after the first has another name
-later_field : (l : List ℕ) (N : Node) (required : Bool) (default : Option Data) (fs : Fields) → AreOrdered (field l N required default fs) → (k : List ℕ) (f : Declared) → field_at k fs ≡ Some f → bytes_eq k l ≡ false
+pub later_field : (l : List ℕ) (N : Node) (required : Bool) (default : Option Data) (fs : Fields) → AreOrdered (field l N required default fs) → (k : List ℕ) (f : Declared) → field_at k fs ≡ Some f → bytes_eq k l ≡ false
 later_field l N required default fs o k f is =
     let s = slot_of_field no_pools [] [] [] fs k f is in
     later_name k l (subst (λ n. text_cmp l n ≡ Less) s.1.1.0 ((fields_in_order no_pools [] [] [] (field l N required default fs) o).0 s.0 (contains (field_slots no_pools [] [] [] fs) s.0 s.1.0)))

@@ -13,3 +13,7 @@ pub mod Keyed
 pub mod Plan
 pub mod Tuples
 pub mod Widest
+pub mod Frame
+pub mod Way
+pub mod Renewed
+pub mod MemberPlace

@@ -5,3 +5,5 @@ pub mod PoolsFault
 pub mod Oversized
 pub mod FixedPaths
 pub mod PlanFault
+pub mod PathSteps
+pub mod Along

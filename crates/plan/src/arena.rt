@@ -3,7 +3,7 @@ ghost use Rattle.std.specs.Prelude.{◌≡◌, ◌<◌, ◌≤◌, ◌+◌, ◌+
 ghost use Rattle.plan.specs.Pools.Pools.{Pools};
 ghost use Rattle.plan.specs.Samples.Sites.{Site};
 ghost use Rattle.plan.specs.Samples.Candidates.{sort_of, HasCount};
-ghost use Rattle.plan.specs.Internal.Arena.{AreRight};
+ghost use Rattle.plan.specs.Internal.Arena.{AreRightBelow};
 ghost use Rattle.plan.specs.Samples.Sites.{site_at};
 ghost use Rattle.plan.specs.declared.values.Values.{Values};
 ghost use Rattle.plan.specs.declared.sort.Sort.TheVariants.{Leaf as LeafSort};
@@ -29,6 +29,30 @@ impl Model for PlanNode {
     ghost view = { λ n. n.number };
 
     ghost inverse = { λ n. record { number = n } };
+}
+
+impl PlanNode {
+    ghost use Rattle.std.specs.Prelude.{◌≡◌, ◌<◌, ◌+◌, ◌↔◌, true, IfSome, IfNone};
+
+    /// The node before this one.
+    pub(crate) fn before(self) -> Option<PlanNode>
+        ensures some { IfSome result (λ n. n + 1 ≡ self) }
+        ensures none { IfNone result (self ≡ 0) }
+    {
+        if self.number == 0 {
+            return None;
+        }
+        Some(PlanNode {
+            number: self.number - 1,
+        })
+    }
+
+    /// Whether it is among so many nodes.
+    pub(crate) fn is_below(self, count: usize) -> bool
+        ensures { (result ≡ true) ↔ (self < count) }
+    {
+        self.number < count
+    }
 }
 
 /// The name of a slot: that of a field, or the place of a name of the pools.
@@ -142,7 +166,49 @@ pub(crate) struct Arena<Z> {
 }
 
 impl<Z: SizeSet> Arena<Z> {
-    ghost use Rattle.plan.specs.Internal.Arena.{IsEntry, IsKept};
+    ghost use Rattle.std.specs.Prelude.{slice_set, slice_index_or, option_map, true, ◌↔◌};
+    ghost use Rattle.std.specs.List.{slice_get};
+    ghost use Rattle.plan.specs.Internal.Arena.{IsEntry, IsKept, slots_in, item_in};
+    ghost use Rattle.plan.specs.declared.arena.Entry.{Entry as EntryDeclared};
+
+    /// The node of the slot at a place of a row.
+    pub(crate) fn slot_node(&self, node: PlanNode, place: usize) -> Option<PlanNode>
+        ensures { node < length self.now.entries.items → (e : EntryDeclared Z) → result ≡ option_map (λ s. s.node) (slice_get (slots_in (slice_index_or self.now.entries.items node e).content) place) }
+    {
+        match &self.find(node)?.content {
+            Content::Row(row) => Some(row.slots.get(place)?.node),
+            Content::Leaf(_) | Content::List(_) => None,
+        }
+    }
+
+    /// The node of the items of a list.
+    pub(crate) fn item_node(&self, node: PlanNode) -> Option<PlanNode>
+        ensures { node < length self.now.entries.items → (e : EntryDeclared Z) → result ≡ item_in (slice_index_or self.now.entries.items node e).content }
+    {
+        match &self.find(node)?.content {
+            Content::List(list) => Some(list.item),
+            Content::Leaf(_) | Content::Row(_) => None,
+        }
+    }
+
+    /// Whether the node has an entry.
+    pub(crate) fn has(&self, node: PlanNode) -> bool
+        ensures { (result ≡ true) ↔ (node < length self.now.entries.items) }
+    {
+        node.is_below(self.entries.len())
+    }
+
+    /// Puts an entry in the place of that of the node, and answers this one, or the same entry where the node has none.
+    pub(crate) fn put(&mut self, node: PlanNode, entry: Entry<Z>) -> Entry<Z>
+        ensures kept { IsKept self.old self.new }
+        ensures entries { self.new.entries.items ≡ slice_set self.old.entries.items node entry }
+        ensures old { node < length self.old.entries.items → IsEntry self.old.entries.items node result }
+    {
+        if node.number >= self.entries.len() {
+            return entry;
+        }
+        std::mem::replace(&mut self.entries[node.number], entry)
+    }
 
     /// The entry of a node.
     pub(crate) fn entry(&self, node: PlanNode) -> &Entry<Z>
@@ -162,7 +228,7 @@ impl<Z: SizeSet> Arena<Z> {
 
     /// How many candidates the leaf has; 0 where the node is not a leaf of the arena.
     pub(crate) fn count(&self, node: PlanNode) -> u64
-        ensures { (P : Pools) (sites : List Site) → AreRight Z.holds self.now.limit P self.now.values sites self.now.entries.items → node < length self.now.entries.items
+        ensures { (P : Pools) (sites : List Site) (i : ℕ) → AreRightBelow Z.holds self.now.limit P self.now.values sites i self.now.entries.items → node < i → i ≤ length self.now.entries.items
             → sort_of (site_at sites node) ≡ LeafSort → HasCount P (site_at sites node) result }
     {
         match self.find(node) {

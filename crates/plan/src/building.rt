@@ -8,11 +8,11 @@ ghost use Rattle.std.specs.Prelude.{option_map, All, map as map_list};
 ghost use Rattle.explain.specs.Paths.FieldPath.{field as field_step, value as value_step};
 ghost use Rattle.plan.specs.Samples.Sites.{Site, plain, below, where_fixed, value_slot, item_keys, fixed_item as fixed_item_of};
 ghost use Rattle.plan.specs.Pools.Pools.{Pools as PoolsData, fixed_at};
-ghost use Rattle.plan.specs.Internal.Values.{trees_of};
+ghost use Rattle.plan.specs.Internal.Values.{trees_of, AreValues};
 ghost use Rattle.plan.specs.Samples.Candidates.{sort_at};
 ghost use Rattle.plan.specs.Samples.RuleOfParts.{takes_null as takes_null_at};
 ghost use Rattle.plan.specs.declared.sort.Sort.TheVariants.{Leaf};
-ghost use Rattle.plan.specs.Internal.Arena.{AreSlots, IsLimit, IsKept};
+ghost use Rattle.plan.specs.Internal.Arena.{AreSlots, IsLimit, IsKept, IsRight};
 ghost use Rattle.plan.specs.Samples.Sites.{site_at};
 ghost use Rattle.plan.specs.declared.arena.SlotEntry.{SlotEntry as SlotDeclared};
 ghost use Rattle.schema.specs.Nodes.Junctors.{most_named};
@@ -21,9 +21,9 @@ ghost use Rattle.plan.specs.Internal.Building.{IsBuilt, AreBuilt, IsFieldSlot};
 
 use crate::arena::{Arena, Content, Entry, PlanNode, SlotEntry, SlotName};
 use crate::asked::{raised, takes_null};
-use crate::entries::add_row;
+use crate::entries::row_entry;
 use crate::leaf::{leaf_of, leaf_sizes};
-use crate::list_entries::add_list;
+use crate::list_entries::list_entry;
 use crate::presence::{bit_of, ends, named_fields};
 use crate::{Pools, SizeSet};
 use explain::{Step, path_below};
@@ -80,7 +80,8 @@ fn build_object<Z: SizeSet>(
     let named = named_fields(alloc, &object.junctors)?;
     let slots = build_fields(arena, alloc, pools, path, &object.fields, keys, &named)?;
     let ends = ends(alloc, &object.junctors, &named)?;
-    add_row(arena, alloc, slots, object.bounds, &ends, nullable)
+    let entry = row_entry(arena, alloc, slots, object.bounds, &ends, nullable)?;
+    arena.add(entry)
 }
 
 /// Adds the entries of the fields' nodes, and answers their slots; `named` are the fields that the junctors name.
@@ -171,7 +172,8 @@ fn build_map<Z: SizeSet>(
     )?;
     let slots = value_slots(alloc, arena.values.names.len(), value)?;
     let bounds = raised(map.bounds, pools.is_present(&below));
-    add_row(arena, alloc, slots, bounds, &[true], nullable)
+    let entry = row_entry(arena, alloc, slots, bounds, &[true], nullable)?;
+    arena.add(entry)
 }
 
 #[cycle(build)]
@@ -201,7 +203,8 @@ fn build_list<Z: SizeSet>(
         item_keys(list),
     )?;
     let bounds = raised(list.bounds, pools.is_present(&below));
-    add_list(arena, alloc, item, list, bounds, nullable)
+    let entry = list_entry(arena, alloc, item, list, bounds, nullable)?;
+    arena.add(entry)
 }
 
 /// The values that the pools fix for the items of a list: none for those of a map list.
@@ -240,18 +243,36 @@ fn build_leaf<Z: SizeSet>(
     ensures built { IfOk result (λ n. (keys : List (List ℕ)) → takes_null_at pools.now path.now (node_of node.now) ≡ nullable
         → IsBuilt Z.holds arena.old.limit pools.now arena.old.values arena.old.entries.items arena.new.entries.items (option_map (λ ts. trees_of ts.now) fixed.entry) path.now (node_of node.now) keys n) }
 {
+    let entry = leaf_entry(arena, alloc, pools, fixed, path, node, nullable)?;
+    arena.add(entry)
+}
+
+/// The entry of a leaf.
+pub(crate) fn leaf_entry<Z: SizeSet>(
+    arena: &Arena<Z>,
+    alloc: Global,
+    pools: &Pools,
+    fixed: Option<&[Tree]>,
+    path: &str,
+    node: &Node,
+    nullable: bool,
+) -> Result<Entry<Z>, AllocError>
+    requires limit { arena.now.limit < Z.BITS }
+    requires leaf { where_fixed (option_map (λ ts. trees_of ts.now) fixed) Leaf (sort_at (node_of node.now)) ≡ Leaf }
+    ensures { IfOk result (λ e. (sites : List Site) (i : ℕ) (keys : List (List ℕ)) → AreValues pools.now arena.now.values → site_at sites i ≡ record { node = node_of node.now; keys = keys; path = path.now; fixed = option_map (λ ts. trees_of ts.now) fixed.entry }
+        → takes_null_at pools.now path.now (node_of node.now) ≡ nullable → IsRight Z.holds arena.now.limit pools.now arena.now.values sites i e) }
+{
     let leaf = leaf_of(alloc, pools, &arena.values, fixed, path, node)?;
     let sizes = leaf_sizes(&arena.values, &leaf, arena.limit);
-    let node = arena.add(Entry {
+    Ok(Entry {
         sizes,
         nullable,
         content: Content::Leaf(leaf),
-    })?;
-    Ok(node)
+    })
 }
 
 /// The node below a map or a list.
-fn node_below(below: &Below) -> &Node
+pub(crate) fn node_below(below: &Below) -> &Node
     ensures { node_of result.now ≡ below.now }
 {
     &below.node

@@ -1,18 +1,18 @@
 //! The entries of rows, over the nodes that were added before.
-ghost use Rattle.std.specs.Prelude.{◌≡◌, ℕ, ◌+◌, ◌≤◌, ◌<◌, List, All, length, IfOk};
+ghost use Rattle.std.specs.Prelude.{◌≡◌, ℕ, ◌≤◌, ◌<◌, List, All, length, IfOk};
 ghost use Rattle.schema.specs.Nodes.Node.{IsNode, Validations};
 ghost use Rattle.plan.specs.Pools.Pools.{Pools};
 ghost use Rattle.plan.specs.Samples.Sites.{Site, Slot, slots as slots_of};
 ghost use Rattle.plan.specs.Samples.Candidates.{sort_of};
 ghost use Rattle.plan.specs.Samples.Sizes.{ending_of};
 ghost use Rattle.plan.specs.Samples.RuleOfParts.{admits_null};
-ghost use Rattle.plan.specs.Internal.Arena.{AreChosen, AreSlots, AreLater, AreRight, IsLimit, IsKept};
+ghost use Rattle.plan.specs.Internal.Arena.{AreChosen, AreSlots, AreLater, AreRightBelow, IsRight, IsLimit};
 ghost use Rattle.plan.specs.Samples.Sites.{site_at};
 ghost use Rattle.plan.specs.Internal.Tables.{IsClosed, AreMet};
 ghost use Rattle.plan.specs.declared.arena.SlotEntry.{SlotEntry};
 ghost use Rattle.plan.specs.declared.sort.Sort.TheVariants.{Row};
 
-use crate::arena::{Arena, Content, Entry, PlanNode, RowEntry, SlotEntry};
+use crate::arena::{Arena, Content, Entry, RowEntry, SlotEntry};
 use crate::list_entries::tuples_from;
 use crate::rows::{Choice, tables};
 use crate::sizing::whole_sizes;
@@ -47,7 +47,7 @@ fn later_tuples<Z: SizeSet>(
     slots: &[SlotEntry],
 ) -> Result<Vec<u64>, AllocError>
     ensures whole { IfOk result (λ later. length later.items ≡ length slots.now) }
-    ensures later { IfOk result (λ later. (P : Pools) (sites : List Site) (i : ℕ) (ss : List Slot) → AreRight Z.holds arena.now.limit P arena.now.values sites arena.now.entries.items → i ≤ length arena.now.entries.items
+    ensures later { IfOk result (λ later. (P : Pools) (sites : List Site) (i : ℕ) (ss : List Slot) → AreRightBelow Z.holds arena.now.limit P arena.now.values sites i arena.now.entries.items → i ≤ length arena.now.entries.items
         → AreSlots arena.now.values.names.items sites i slots.now ss → AreLater P ss later.items) }
 {
     let count = slots.len();
@@ -61,33 +61,30 @@ fn later_tuples<Z: SizeSet>(
     Ok(later)
 }
 
-/// Adds the entry of a row with these slots; `ends` has whether its junctors hold for each set of the named fields.
-pub(crate) fn add_row<Z: SizeSet>(
-    arena: &mut Arena<Z>,
+/// The entry of a row with these slots; `ends` has whether its junctors hold for each set of the named fields.
+pub(crate) fn row_entry<Z: SizeSet>(
+    arena: &Arena<Z>,
     alloc: Global,
     slots: Vec<SlotEntry>,
     bounds: Bounds,
     ends: &[bool],
     nullable: bool,
-) -> Result<PlanNode, AllocError>
-    requires limit { IsLimit Z.BITS arena.old.limit }
-    requires below { All (λ (s : SlotEntry). s.node < length arena.old.entries.items) slots.items }
+) -> Result<Entry<Z>, AllocError>
+    requires limit { IsLimit Z.BITS arena.now.limit }
+    requires below { All (λ (s : SlotEntry). s.node < length arena.now.entries.items) slots.items }
     requires some { 0 < length ends.now }
     requires closed { All (λ (s : SlotEntry). IsClosed (length ends.now) s.bit) slots.items }
     requires few { length slots.items < 18446744073709551615 }
-    ensures kept { IsKept arena.old arena.new }
-    ensures number { IfOk result (λ n. n ≡ length arena.old.entries.items) }
-    ensures count { IfOk result (λ n. length arena.new.entries.items ≡ n + 1) }
-    ensures right { IfOk result (λ n. (P : Pools) (sites : List Site) (cs : Validations) → AreRight Z.holds arena.old.limit P arena.old.values sites arena.old.entries.items
-        → IsNode (site_at sites n).node → sort_of (site_at sites n) ≡ Row → ending_of P (site_at sites n) ≡ record { bounds = bounds; asked = cs } → AreMet cs ends.now → admits_null P (site_at sites n) ≡ nullable
-        → AreSlots arena.old.values.names.items sites n slots.items (slots_of P (site_at sites n)) → AreRight Z.holds arena.old.limit P arena.old.values sites arena.new.entries.items) }
+    ensures { IfOk result (λ e. (P : Pools) (sites : List Site) (i : ℕ) (cs : Validations) → AreRightBelow Z.holds arena.now.limit P arena.now.values sites i arena.now.entries.items → i ≤ length arena.now.entries.items
+        → IsNode (site_at sites i).node → sort_of (site_at sites i) ≡ Row → ending_of P (site_at sites i) ≡ record { bounds = bounds; asked = cs } → AreMet cs ends.now → admits_null P (site_at sites i) ≡ nullable
+        → AreSlots arena.now.values.names.items sites i slots.items (slots_of P (site_at sites i)) → IsRight Z.holds arena.now.limit P arena.now.values sites i e) }
 {
     laws::parts_one_level();
     let choices = choices(arena, alloc, &slots)?;
     let later = later_tuples(arena, alloc, &slots)?;
     let tables = tables(alloc, &choices, bounds, ends, arena.limit)?;
     let sizes = whole_sizes(tables[slots.len()][0][0], nullable, arena.limit);
-    let node = arena.add(Entry {
+    Ok(Entry {
         sizes,
         nullable,
         content: Content::Row(RowEntry {
@@ -95,6 +92,5 @@ pub(crate) fn add_row<Z: SizeSet>(
             later,
             tables,
         }),
-    })?;
-    Ok(node)
+    })
 }

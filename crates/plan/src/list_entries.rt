@@ -1,5 +1,5 @@
 //! The entries of lists, over the nodes that were added before.
-ghost use Rattle.std.specs.Prelude.{◌≡◌, ◌<◌, ◌≤◌, ℕ, ◌+◌, ◌∷◌, List, Bool, Option, Some, length, IfOk};
+ghost use Rattle.std.specs.Prelude.{◌≡◌, ◌<◌, ◌≤◌, ℕ, ◌∷◌, List, Bool, Option, Some, length, IfOk};
 ghost use Rattle.schema.specs.Nodes.Node.{IsNode, node as node_with};
 ghost use Rattle.schema.specs.Nodes.Items.{HasSoundItems};
 ghost use Rattle.schema.specs.Nodes.View.{list_of};
@@ -8,7 +8,7 @@ ghost use Rattle.plan.specs.Samples.Sites.{Site, item_site, slots, Slot};
 ghost use Rattle.plan.specs.Samples.Candidates.{sort_of, distinct_by};
 ghost use Rattle.plan.specs.Samples.Sizes.{bounds_of};
 ghost use Rattle.plan.specs.Samples.RuleOfParts.{admits_null};
-ghost use Rattle.plan.specs.Internal.Arena.{IsSlot, AreRight, IsLimit, IsKept};
+ghost use Rattle.plan.specs.Internal.Arena.{IsSlot, AreRightBelow, IsRight, IsLimit};
 ghost use Rattle.plan.specs.Samples.Sites.{site_at};
 ghost use Rattle.plan.specs.Samples.Keys.{HasTuples};
 ghost use Rattle.plan.specs.Internal.Tuples.{AreKeysLeaves, IsCutTo};
@@ -22,30 +22,27 @@ use crate::{Distinct, SizeSet, laws};
 use schema::{Bounds, ListNode, ListType};
 use std::alloc::{AllocError, Global};
 
-/// Adds the entry of a list with this item and these bounds on the number of its items.
-pub(crate) fn add_list<Z: SizeSet>(
-    arena: &mut Arena<Z>,
+/// The entry of a list with this item and these bounds on the number of its items.
+pub(crate) fn list_entry<Z: SizeSet>(
+    arena: &Arena<Z>,
     alloc: Global,
     item: PlanNode,
     list: &ListNode,
     bounds: Bounds,
     nullable: bool,
-) -> Result<PlanNode, AllocError>
-    requires limit { IsLimit Z.BITS arena.old.limit }
-    requires item { item < length arena.old.entries.items }
-    ensures kept { IsKept arena.old arena.new }
-    ensures number { IfOk result (λ n. n ≡ length arena.old.entries.items) }
-    ensures count { IfOk result (λ n. length arena.new.entries.items ≡ n + 1) }
-    ensures right { IfOk result (λ n. (P : Pools) (sites : List Site) (m : Bool) (d : Option (List ℕ)) → AreRight Z.holds arena.old.limit P arena.old.values sites arena.old.entries.items
-        → (site_at sites n).node ≡ node_with m d (list_of list.now) → admits_null P (site_at sites n) ≡ nullable → bounds_of P (site_at sites n) ≡ bounds → item_site P (site_at sites n) ≡ Some (site_at sites item) → IsNode (site_at sites n).node → HasSoundItems (site_at sites n).node
-        → AreRight Z.holds arena.old.limit P arena.old.values sites arena.new.entries.items) }
+) -> Result<Entry<Z>, AllocError>
+    requires limit { IsLimit Z.BITS arena.now.limit }
+    requires item { item < length arena.now.entries.items }
+    ensures { IfOk result (λ e. (P : Pools) (sites : List Site) (i : ℕ) (m : Bool) (d : Option (List ℕ)) → AreRightBelow Z.holds arena.now.limit P arena.now.values sites i arena.now.entries.items → item < i → i ≤ length arena.now.entries.items
+        → (site_at sites i).node ≡ node_with m d (list_of list.now) → admits_null P (site_at sites i) ≡ nullable → bounds_of P (site_at sites i) ≡ bounds → item_site P (site_at sites i) ≡ Some (site_at sites item) → IsNode (site_at sites i).node → HasSoundItems (site_at sites i).node
+        → IsRight Z.holds arena.now.limit P arena.now.values sites i e) }
 {
     laws::parts_one_level();
     let limit = arena.limit;
     let bounds = item_bounds(arena, item, list, bounds);
     let more = more_sets(alloc, arena.entry(item).sizes, bounds, limit)?;
     let sizes = whole_sizes(more[0], nullable, limit);
-    let node = arena.add(Entry {
+    Ok(Entry {
         sizes,
         nullable,
         content: Content::List(ListEntry {
@@ -53,8 +50,7 @@ pub(crate) fn add_list<Z: SizeSet>(
             distinct: distinct(list.list_type),
             more,
         }),
-    })?;
-    Ok(node)
+    })
 }
 
 /// Which items may not be in one list of this type.
@@ -70,7 +66,7 @@ fn distinct(list_type: ListType) -> Distinct
 
 /// How many tuples the keys of a slot and of those after it have, where those after it have `later`; at most 2^64 - 1.
 pub(crate) fn tuples_from<Z: SizeSet>(arena: &Arena<Z>, slot: &SlotEntry, later: u64) -> u64
-    ensures { (P : Pools) (sites : List Site) (i : ℕ) (s : Slot) (ss : List Slot) → AreRight Z.holds arena.now.limit P arena.now.values sites arena.now.entries.items → i ≤ length arena.now.entries.items
+    ensures { (P : Pools) (sites : List Site) (i : ℕ) (s : Slot) (ss : List Slot) → AreRightBelow Z.holds arena.now.limit P arena.now.values sites i arena.now.entries.items → i ≤ length arena.now.entries.items
         → IsSlot arena.now.values.names.items sites i slot.now s → AreKeysLeaves (s ∷ ss) → HasTuples P ss later → HasTuples P (s ∷ ss) result }
 {
     if slot.key {
@@ -104,7 +100,7 @@ fn item_bounds<Z: SizeSet>(
 ) -> Bounds
     requires item { item < length arena.now.entries.items }
     requires limit { arena.now.limit < 18446744073709551615 }
-    ensures { (P : Pools) (sites : List Site) (s : Site) → AreRight Z.holds arena.now.limit P arena.now.values sites arena.now.entries.items
+    ensures { (P : Pools) (sites : List Site) (i : ℕ) (s : Site) → AreRightBelow Z.holds arena.now.limit P arena.now.values sites i arena.now.entries.items → item < i → i ≤ length arena.now.entries.items
         → (n : Bool) (d : Option (List ℕ)) → s.node ≡ node_with n d (list_of list.now) → bounds_of P s ≡ bounds → item_site P s ≡ Some (site_at sites item) → IsNode s.node → HasSoundItems s.node
         → IsCutTo P arena.now.limit s (site_at sites item) result }
 {
@@ -120,7 +116,7 @@ fn item_bounds<Z: SizeSet>(
 /// How many tuples of keys the row has; 0 where the node is not a row.
 fn item_tuples<Z: SizeSet>(arena: &Arena<Z>, node: PlanNode) -> u64
     requires { node < length arena.now.entries.items }
-    ensures { (P : Pools) (sites : List Site) → AreRight Z.holds arena.now.limit P arena.now.values sites arena.now.entries.items
+    ensures { (P : Pools) (sites : List Site) (i : ℕ) → AreRightBelow Z.holds arena.now.limit P arena.now.values sites i arena.now.entries.items → node < i → i ≤ length arena.now.entries.items
         → sort_of (site_at sites node) ≡ Row → AreKeysLeaves (slots P (site_at sites node)) → HasTuples P (slots P (site_at sites node)) result }
 {
     match &arena.entry(node).content {

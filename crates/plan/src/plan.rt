@@ -7,10 +7,11 @@ use crate::arena::{Arena, Content, PlanNode};
 use crate::building::build;
 use crate::leaf::candidate;
 use crate::pool_paths::check_paths;
+use crate::renewing::{Place, renew};
 use crate::values::Values;
-use crate::{Distinct, Meter, PFault, Pools, SizeSet, Sort, laws};
+use crate::{Distinct, ListAt, Meter, PFault, PathStep, Pools, SizeSet, Sort, laws};
 use jtree::Tree;
-use std::alloc::Global;
+use std::alloc::{AllocError, Global};
 use std::marker::Model;
 use stored::Schema;
 
@@ -353,6 +354,107 @@ impl<Z: SizeSet> Plan<Z> {
         ensures same { self.new ≡ self.old }
     {
         Meter::new()
+    }
+}
+
+impl<Z: SizeSet> Plan<Z> {
+    ghost use Rattle.std.specs.Prelude.{◌≡◌, IfOk};
+    ghost use Rattle.explain.specs.Fields.Declared.{IsDeclared};
+    ghost use Rattle.plan.specs.Pools.Along.{narrowed, widened, lists_of, DifferAlong};
+    ghost use Rattle.plan.specs.Pools.PathSteps.{path_of};
+    ghost use Rattle.plan.specs.Pools.PlanFault.{HasGoodPaths};
+
+    /// The plan over pools that ask for this path and its beginnings too, and have these lists there, the last one put in first; and the
+    /// lists that they take the place of, with which [`Plan::widen`] gives this plan back. A list may stand at a place whose values are fixed,
+    /// or at a scalar or an open node. Work is as the nodes along the path, not as the plan. `AllocError` where an allocation fails.
+    pub fn narrow(
+        self,
+        alloc: Global,
+        steps: &[PathStep],
+        lists: Vec<ListAt>,
+    ) -> Result<(Plan<Z>, Vec<ListAt>), AllocError>
+        requires good { HasGoodPaths self.root self.pools }
+        requires good_then { HasGoodPaths self.root (narrowed self.pools (lists_of lists.items) (path_of steps.now)) }
+        requires along { DifferAlong self.root self.pools (narrowed self.pools (lists_of lists.items) (path_of steps.now)) (path_of steps.now) }
+        requires declared { IsDeclared self.root (path_of steps.now) }
+        ensures plan { IfOk result (λ r. r.0 ≡ record { root = self.root; pools = narrowed self.pools (lists_of lists.items) (path_of steps.now); limit = self.limit }) }
+        ensures back { IfOk result (λ r. widened (narrowed self.pools (lists_of lists.items) (path_of steps.now)) (lists_of r.1.items) (path_of steps.now) ≡ self.pools) }
+    {
+        let Plan {
+            schema,
+            pools,
+            mut arena,
+            root,
+        } = self;
+        laws::schemas_are_sound();
+        explain::laws::paths_have_one_text();
+        let (pools, old) = pools.with_lists(alloc, lists)?;
+        let pools = pools.asking(alloc, steps)?;
+        let place = Place {
+            path: "",
+            node: schema.root(),
+            number: root,
+        };
+        renew(&mut arena, alloc, &pools, &place, steps)?;
+        let plan = Plan {
+            schema,
+            pools,
+            arena,
+            root,
+        };
+        Ok((plan, old))
+    }
+
+    /// The plan over pools that no longer ask for the last paths, as many as this path has beginnings, and have these lists, the last one put
+    /// in first. Work is as that of [`Plan::narrow`]. `AllocError` where an allocation fails.
+    pub fn widen(
+        self,
+        alloc: Global,
+        steps: &[PathStep],
+        lists: Vec<ListAt>,
+    ) -> Result<Plan<Z>, AllocError>
+        requires good { HasGoodPaths self.root self.pools }
+        requires good_then { HasGoodPaths self.root (widened self.pools (lists_of lists.items) (path_of steps.now)) }
+        requires along { DifferAlong self.root self.pools (widened self.pools (lists_of lists.items) (path_of steps.now)) (path_of steps.now) }
+        requires declared { IsDeclared self.root (path_of steps.now) }
+        ensures { IfOk result (λ plan. plan ≡ record { root = self.root; pools = widened self.pools (lists_of lists.items) (path_of steps.now); limit = self.limit }) }
+    {
+        let Plan {
+            schema,
+            pools,
+            mut arena,
+            root,
+        } = self;
+        laws::schemas_are_sound();
+        explain::laws::paths_have_one_text();
+        let (pools, _) = pools.with_lists(alloc, lists)?;
+        let pools = pools.asking_less(steps.len());
+        let place = Place {
+            path: "",
+            node: schema.root(),
+            number: root,
+        };
+        renew(&mut arena, alloc, &pools, &place, steps)?;
+        Ok(Plan {
+            schema,
+            pools,
+            arena,
+            root,
+        })
+    }
+
+    /// The schema.
+    pub fn schema(&self) -> &Schema
+        ensures { result.now ≡ self.now.root }
+    {
+        &self.schema
+    }
+
+    /// The pools.
+    pub fn pools(&self) -> &Pools
+        ensures { result.now ≡ self.now.pools }
+    {
+        &self.pools
     }
 }
 

@@ -1,5 +1,7 @@
 //! The values that samples may have.
 use crate::fault::PFault;
+use crate::list_at::{ListAt, put_all};
+use crate::path_step::PathStep;
 use crate::pool_form::check_form;
 use crate::pool_limits::PoolLimits;
 use crate::pool_sizes::oversized_pool;
@@ -55,11 +57,13 @@ impl Model for Pools {
 }
 
 impl Pools {
-    ghost use Rattle.std.specs.Prelude.{◌≡◌, All, map, option_map, FitsSigned, IfOk, IfErr, OnOk, []};
+    ghost use Rattle.std.specs.Prelude.{◌≡◌, ◌++◌, ◌-◌, All, map, option_map, take, length, FitsSigned, IfOk, IfErr, OnOk, []};
     ghost use Rattle.std.specs.Int.{w64};
     ghost use Rattle.jtree.specs.Data.{IsTree, no_members};
     ghost use Rattle.jtree.specs.View.{data_of};
     ghost use Rattle.plan.specs.Pools.Pools.{standard, AreSmall, list_at as list_of, fixed_at as fixed_of, is_present as is_present_of, with_paths as with_paths_of};
+    ghost use Rattle.plan.specs.Pools.Along.{beginnings, with_lists as with_lists_of, lists_of};
+    ghost use Rattle.plan.specs.Pools.PathSteps.{path_of};
     ghost use Rattle.plan.specs.Pools.Document.{HasForm, pools_of};
     ghost use Rattle.plan.specs.Pools.PoolsFault.{IsPoolsFault};
 
@@ -141,6 +145,56 @@ impl Pools {
         })
     }
 
+    /// These pools with such lists of fixed values, and the lists that were there, in the order in which they are put back.
+    pub(crate) fn with_lists(
+        self,
+        alloc: Global,
+        lists: Vec<ListAt>,
+    ) -> Result<(Pools, Vec<ListAt>), AllocError>
+        ensures pools { IfOk result (λ r. r.0 ≡ with_paths_of self (with_lists_of (lists_of lists.items) self.fixed) self.present) }
+        ensures back { IfOk result (λ r. with_lists_of (lists_of r.1.items) (with_lists_of (lists_of lists.items) self.fixed) ≡ self.fixed) }
+    {
+        let Pools {
+            integers,
+            strings,
+            names,
+            any,
+            paths,
+            fixed,
+            present,
+        } = self;
+        let (fixed, old) = put_all(alloc, fixed, lists)?;
+        let pools = Pools {
+            integers,
+            strings,
+            names,
+            any,
+            paths,
+            fixed,
+            present,
+        };
+        Ok((pools, old))
+    }
+
+    /// These pools, which ask for the path of the steps and its beginnings too.
+    pub(crate) fn asking(self, alloc: Global, steps: &[PathStep]) -> Result<Pools, AllocError>
+        ensures { IfOk result (λ p. p ≡ with_paths_of self self.fixed (self.present ++ beginnings [] (path_of steps.now))) }
+    {
+        let mut pools = self;
+        push_beginnings(alloc, steps, &mut pools.present)?;
+        Ok(pools)
+    }
+
+    /// These pools without the last ones of the paths that they ask for.
+    pub(crate) fn asking_less(self, count: usize) -> Pools
+        ensures { result ≡ with_paths_of self self.fixed (take (length self.present - count) self.present) }
+    {
+        let mut pools = self;
+        let left = pools.present.len().saturating_sub(count);
+        pools.present.truncate(left);
+        pools
+    }
+
     /// The integers, as the document has them: repeats among them.
     pub fn integers(&self) -> &[i64]
         ensures entries { result.now ≡ self.now.integers }
@@ -220,11 +274,13 @@ impl Pools {
 }
 
 ghost use Rattle.std.specs.Int.{w64};
-ghost use Rattle.std.specs.Prelude.{◌≡◌, All, FitsSigned, IfOk, Some, map, filter_map, option_map, option_and_then};
+ghost use Rattle.std.specs.Prelude.{◌≡◌, ◌++◌, [], All, FitsSigned, IfOk, Some, map, filter_map, option_map, option_and_then};
 ghost use Rattle.jtree.specs.Data.{IsTree, no_members as no_members_of};
 ghost use Rattle.jtree.specs.Order.{text_cmp};
 ghost use Rattle.jtree.specs.Path.{member_at, under};
 ghost use Rattle.jtree.specs.View.{data_of};
+ghost use Rattle.plan.specs.Pools.Along.{beginnings};
+ghost use Rattle.plan.specs.Pools.PathSteps.{path_of};
 ghost use Rattle.plan.specs.Pools.Pools.{entries_in};
 ghost use Rattle.plan.specs.Pools.Document.{entries_of, integer_of, text_of, members_of};
 
@@ -350,6 +406,22 @@ fn members_from(alloc: Global, members: &Members) -> Result<Members, AllocError>
         copies.push(Member { name, tree })?;
     }
     Ok(Members { members: copies })
+}
+
+/// Adds the texts of the beginnings of the path.
+fn push_beginnings(
+    alloc: Global,
+    steps: &[PathStep],
+    texts: &mut Vec<Text>,
+) -> Result<(), AllocError>
+    ensures { IfOk result (λ _. texts.new.items ≡ texts.old.items ++ beginnings [] (path_of steps.now)) }
+{
+    let mut front = String::new(alloc);
+    for step in steps {
+        front = step.below(alloc, &front)?;
+        texts.push(Text::from_str(alloc, &front)?)?;
+    }
+    Ok(())
 }
 
 fn no_members(alloc: Global) -> Members

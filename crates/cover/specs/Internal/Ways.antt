@@ -1,20 +1,11 @@
--- The steps of a path in the code, and where a path leads from a node.
-use Rattle.std.specs.Prelude.{◌≡◌, ◌≢◌, ◌++◌, ℕ, List, map, Some}
+-- Where a path leads from a node.
+use Rattle.std.specs.Prelude.{◌≡◌, ◌≢◌, ◌++◌, ℕ, List, Some}
 use Rattle.schema.specs.Nodes.Node.{Node, Fields}
 use Rattle.schema.specs.Nodes.ByPlace.{Declared, field_at, node_at}
-use Rattle.explain.specs.Paths.FieldPath.{FieldStep, field, item, value, FieldPath, place_of}
+use Rattle.explain.specs.Paths.FieldPath.{field, FieldPath, place_of}
 use Rattle.explain.specs.Paths.PathText.{path_text}
 use Rattle.plan.specs.Samples.Site.{below}
-use Rattle.cover.specs.declared.way.PathStep.{PathStep}
-use Rattle.cover.specs.declared.way.PathStep.TheVariants as steps
-
-abbrev pub step_of : PathStep → FieldStep
-step_of (steps.Field k) = field k
-step_of steps.Item = item
-step_of steps.Value = value
-
-abbrev pub path_of : List PathStep → FieldPath
-path_of ss = map step_of ss
+pub use Rattle.plan.specs.Pools.PathSteps.{step_of, path_of}
 
 -- behind this front, no path that leads somewhere from the node has the text
 abbrev pub LeadsNowhere : List ℕ → Node → List ℕ → Type 0

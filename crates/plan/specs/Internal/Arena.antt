@@ -1,5 +1,5 @@
 -- What the entries of a plan represent: each the site of its number.
-use Rattle.std.specs.Prelude.{◌≡◌, ℕ, ◌+◌, ◌^◌, ◌≤◌, ◌<◌, List, [], ◌∷◌, length, get_or, drop, Some, All, IfSome}
+use Rattle.std.specs.Prelude.{◌≡◌, ℕ, zero, suc, ◌+◌, ◌^◌, ◌≤◌, ◌<◌, List, [], ◌∷◌, length, get_or, drop, Bool, Option, Some, None, All, IfSome}
 use Rattle.schema.specs.Nodes.Junctors.{most_named}
 use Rattle.plan.specs.Pools.Pools.{Pools}
 use Rattle.plan.specs.Samples.Sites.{Site, site_at, item_site, Slot, slots}
@@ -103,9 +103,29 @@ pub record IsRight {Z : Type 0} (holds : Z → ℕ → Type 0) (limit : ℕ) (P 
   pub nullable : e.nullable ≡ admits_null P (site_at sites i)
   pub content : HasContent holds limit P v sites i e.content
 
--- the entries represent the first of these sites
+-- the entries before the n-th represent the sites of their numbers
+abbrev pub AreRightBelow : {Z : Type 0} → (Z → ℕ → Type 0) → ℕ → Pools → Values → List Site → ℕ → List (Entry Z) → Type 0
+AreRightBelow {Z} holds limit P v sites n es = (i : ℕ) (e : Entry Z) → i < n → IsRight holds limit P v sites i (get_or es i e)
+
+-- and so do all
 abbrev pub AreRight : {Z : Type 0} → (Z → ℕ → Type 0) → ℕ → Pools → Values → List Site → List (Entry Z) → Type 0
-AreRight {Z} holds limit P v sites es = (i : ℕ) (e : Entry Z) → i < length es → IsRight holds limit P v sites i (get_or es i e)
+AreRight holds limit P v sites es = AreRightBelow holds limit P v sites (length es) es
+
+-- the slots of a row; none where it is not one
+abbrev pub slots_in : {Z : Type 0} → Content Z → List SlotEntry
+slots_in (content.Row r) = r.slots.items
+slots_in _ = []
+
+-- the node of the items of a list
+abbrev pub item_in : {Z : Type 0} → Content Z → Option ℕ
+item_in (content.List l) = Some l.item
+item_in _ = None
+
+-- the slots, with this one to be filled or not
+abbrev pub with_must : ℕ → Bool → List SlotEntry → List SlotEntry
+with_must place must [] = []
+with_must zero must (s ∷ ss) = record { name = s.name; node = s.node; must = must; key = s.key; bit = s.bit } ∷ ss
+with_must (suc place) must (s ∷ ss) = s ∷ with_must place must ss
 
 -- these sites have the numbers from `start` on
 abbrev pub AreSitesFrom : List Site → ℕ → List Site → Type 0

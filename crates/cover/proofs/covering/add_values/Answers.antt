@@ -13,31 +13,29 @@ use Rattle.cover.proofs.LineLemmas.{more_values}
 use Rattle.cover.proofs.covering.add_values.Goals as goal
 
 pub loop-value-init : goal.loop-value-init
-loop-value-init g c = record { schema = refl; covered = λ q wanted is covered. subst (λ ws. AreCovered q ws (covered_of c.args.covered.now)) (sym (append-nil wanted)) covered }
+loop-value-init g c = record { plan = refl; covered = λ q wanted is covered. subst (λ ws. AreCovered q ws (covered_of c.args.covered.now)) (sym (append-nil wanted)) covered }
 
 pub add_wanted-requires-clause-paths : goal.add_wanted-requires-clause-paths
-add_wanted-requires-clause-paths g c = subst (λ r. HasGoodPaths r c.args.pools.now) (sym c.loop-value.invariant.schema) c.requires.paths
+add_wanted-requires-clause-paths g c = subst (λ (q : Question). HasGoodPaths q.root q.pools) (sym c.loop-value.invariant.plan) c.requires.paths
 
 pub add_wanted-requires-clause-declared : goal.add_wanted-requires-clause-declared
-add_wanted-requires-clause-declared g c = subst (λ r. IsTextOf (IsDeclared r) c.args.path.now) (sym c.loop-value.invariant.schema) c.requires.declared
+add_wanted-requires-clause-declared g c = subst (λ (q : Question). IsTextOf (IsDeclared q.root) c.args.path.now) (sym c.loop-value.invariant.plan) c.requires.declared
 
 pub add_wanted-requires-clause-value : goal.add_wanted-requires-clause-value
 add_wanted-requires-clause-value g c = λ p text.
-    subst (λ r. MayBeWanted r c.args.pools.now (Some (data_of c.value-item.result)) p) (sym c.loop-value.invariant.schema)
-    (subst (λ v. MayBeWanted c.args.schema c.args.pools.now (Some (data_of v)) p) (sym c.value-item.is) (c.requires.values p text c.loop-value.value-index c.value-item.result (omega arith)))
+    subst (λ (q : Question). MayBeWanted q.root q.pools (Some (data_of c.value-item.result)) p) (sym c.loop-value.invariant.plan)
+    (subst (λ v. MayBeWanted c.args.plan.root c.args.plan.pools (Some (data_of v)) p) (sym c.value-item.is) (c.requires.values p text c.loop-value.value-index c.value-item.result (omega arith)))
 
 pub loop-value-preserved : goal.loop-value-preserved
 loop-value-preserved g c =
     let inv = c.loop-value.invariant in
     let xs = c.args.values.now in
-    let here = λ (q : Question). λ (is : q ≡ record { root = c.args.schema; pools = c.args.pools.now; limit = c.args.limit }).
-    is ∙ ap (λ r. record { root = r; pools = c.args.pools.now; limit = c.args.limit }) (sym inv.schema) in
     record {
-      schema = c.in_ok-schema.ensures.schema ∙ inv.schema;
+      plan = c.in_ok-plan.ensures.plan ∙ inv.plan;
       covered = λ q wanted is covered.
           let before = wanted ++ map (with_value c.args.path.now) (map (λ v. data_of v) (take c.loop-value.value-index xs)) in
           subst (λ ws. AreCovered q ws (covered_of c.add_wanted.new.covered)) (more_values wanted c.args.path.now xs c.loop-value.value-index c.value-item.result (omega arith) c.value-item.is)
-          (c.in_ok-schema.ensures.adds q before (here q is) (inv.covered q wanted is covered));
+          (c.in_ok-plan.ensures.adds q before (is ∙ sym inv.plan) (inv.covered q wanted is covered));
     }
 
 pub returns-clause-adds : goal.returns-clause-adds

@@ -8,7 +8,7 @@ use Rattle.cover.proofs.covering.add_values.Given as goal
 
 abbrev pub invariant-loop-value : goal.invariant-loop-value
 invariant-loop-value g l = record {
-  schema : l.schema ≡ l.fn.schema;
-  covered : (q : Question) (wanted : List Wanted) → q ≡ record { root = l.fn.schema; pools = l.pools; limit = l.limit } → AreCovered q wanted (covered_of l.initial.covered)
+  plan : l.plan ≡ l.fn.plan;
+  covered : (q : Question) (wanted : List Wanted) → q ≡ l.fn.plan → AreCovered q wanted (covered_of l.initial.covered)
       → AreCovered q (wanted ++ map (with_value l.path) (map (λ v. data_of v) (take l.value-index l.values))) (covered_of l.covered);
 }

@@ -35,8 +35,8 @@ returns-then-branch-clause-adds g c = λ q wanted is covered.
 pub find_first-requires-clause-declared : goal.find_first-requires-clause-declared
 find_first-requires-clause-declared g c =
     let ss = c.as_slice-5.ensures.value in
-    subst (λ xs. IsDeclared c.args.schema (path_of xs)) (sym ss)
-    (steps_declared c.paths_have_one_text.ensures c.args.schema (path_of c.in_ok-steps.steps.items) c.args.path.now c.in_ok-steps.ensures c.requires.declared)
+    subst (λ xs. IsDeclared c.args.plan.root (path_of xs)) (sym ss)
+    (steps_declared c.paths_have_one_text.ensures c.args.plan.root (path_of c.in_ok-steps.steps.items) c.args.path.now c.in_ok-steps.ensures c.requires.declared)
 
 pub find_first-requires-clause-text : goal.find_first-requires-clause-text
 find_first-requires-clause-text g c = ap (λ xs. path_text (path_of xs)) c.as_slice-5.ensures.value ∙ c.in_ok-steps.ensures
@@ -44,7 +44,7 @@ find_first-requires-clause-text g c = ap (λ xs. path_text (path_of xs)) c.as_sl
 pub find_first-requires-clause-value : goal.find_first-requires-clause-value
 find_first-requires-clause-value g c =
     let o = option_map (λ v. data_of v.now) c.args.value in
-    subst (λ xs. MayBeWanted c.args.schema c.args.pools.now o (path_of xs)) (sym c.as_slice-5.ensures.value) (c.requires.value (path_of c.in_ok-steps.steps.items) c.in_ok-steps.ensures)
+    subst (λ xs. MayBeWanted c.args.plan.root c.args.plan.pools o (path_of xs)) (sym c.as_slice-5.ensures.value) (c.requires.value (path_of c.in_ok-steps.steps.items) c.in_ok-steps.ensures)
 
 pub returns-clause-adds : goal.returns-clause-adds
 returns-clause-adds g c = λ q wanted is covered.
@@ -56,8 +56,8 @@ returns-clause-adds g c = λ q wanted is covered.
     let old = c.args.covered.now in
     let new = subst (λ ls. All (λ l. is_there o p (data_of l.tree) ≡ false) ls) c.as_slice.ensures.value
     (subst (λ ss. All (λ l. is_there o (path_of ss) (data_of l.tree) ≡ false) c.as_slice.result.now) c.as_slice-2.ensures.value (c.is_had.ensures.new c.if-is_had.false)) in
-    let found = subst (λ q. IsFirstSample q o p (tree_of c.in_ok-schema.tree)) (sym is)
-    (subst (λ xs. IsFirstSample (record { root = c.args.schema; pools = c.args.pools.now; limit = c.args.limit }) o (path_of xs) (tree_of c.in_ok-schema.tree)) c.as_slice-5.ensures.value c.in_ok-schema.ensures.sample) in
+    let found = subst (λ q. IsFirstSample q o p (tree_of c.in_ok-plan.tree)) (sym is)
+    (subst (λ xs. IsFirstSample (c.args.plan) o (path_of xs) (tree_of c.in_ok-plan.tree)) c.as_slice-5.ensures.value c.in_ok-plan.ensures.sample) in
     elim c.match-tree.branch [
       | in-Some+in_ok-push-in-Some x ↦ added_line one q wanted w p text old c.match-tree.covered (record { wanted = c.in_ok-wanted.wanted; tree = x.in-Some.tree }) covered new
           (subst (λ t. IsFirstSample q o p (tree_of t)) x.in-Some.is found)

@@ -7,7 +7,7 @@ use Rattle.cover.proofs.covering.cover.Given as goal
 
 abbrev pub invariant-loop-field : goal.invariant-loop-field
 invariant-loop-field g l = record {
-  schema : l.schema ≡ l.fn.plan.root;
+  plan : l.plan ≡ l.fn.plan;
   wanted : List Wanted;
   are : AreWanted l.fn.values l.fn.plan (map text_of (take l.field-index l.field-items)) wanted;
   covered : AreCovered l.fn.plan wanted (covered_of l.covered);

@@ -35,13 +35,13 @@ build_object-returns-clause-built g t c =
     let names = c.in_ok-named.named.items in
     let b = rw c.deref.ensures.value at c.in_ok-slots.ensures.built in
     let ends = c.in_ok-ends.ends.items in
-    let added = rw c.deref-3.ensures.value at c.add_row.ensures in
-    three_ok c.add_row.result _ _ _ _ added.number added.count (rw (c.in_ok-slots.ensures.kept.1, c.in_ok-slots.ensures.kept.0) at added.right)
-    (λ n number count right m d takes. row_built g.Z.SizeSet.holds c.args.arena.now.limit c.args.pools.now v c.args.arena.now.entries.items mid c.add_row.new.arena.entries.items c.args.path.now m d (object o.fields o.preserves o.map_type o.bounds cs) c.args.keys.now o.bounds cs ends c.in_ok-slots.slots.items c.args.nullable n
+    let right = rw (c.deref-3.ensures.value, c.in_ok-slots.ensures.kept.1, c.in_ok-slots.ensures.kept.0) at c.in_ok-entry.ensures in
+    three_ok c.add.result _ _ _ _ c.add.ensures.number c.add.ensures.count c.add.ensures.added
+    (λ n number count added m d takes. row_built g.Z.SizeSet.holds c.args.arena.now.limit c.args.pools.now v c.args.arena.now.entries.items mid c.add.new.self.entries.items c.args.path.now m d (object o.fields o.preserves o.map_type o.bounds cs) c.args.keys.now o.bounds cs ends c.in_ok-slots.slots.items c.args.nullable n c.in_ok-entry.entry
     takes c.reveal_invariant.ensures refl refl
     (λ sound. object_met cs names ends (c.in_ok-named.ensures.names (few_named o.fields cs sound)) (rw c.deref-2.ensures.value at c.in_ok-ends.ensures.whole) (rw c.deref-2.ensures.value at c.in_ok-ends.ensures.each))
     (number ∙ b.count) count b.right
-    (λ sites values sound placed. subst (λ ns. AreSlots v.names.items sites n c.in_ok-slots.slots.items (field_slots c.args.pools.now c.args.path.now c.args.keys.now ns o.fields)) (c.in_ok-named.ensures.names (few_named o.fields cs sound)) (b.slots_are v.names.items sites n placed (omega arith))) right)
+    (λ sites values sound placed. subst (λ ns. AreSlots v.names.items sites n c.in_ok-slots.slots.items (field_slots c.args.pools.now c.args.path.now c.args.keys.now ns o.fields)) (c.in_ok-named.ensures.names (few_named o.fields cs sound)) (b.slots_are v.names.items sites n placed (omega arith))) added number right)
 
 pub build_map-returns-clause-built : goal.build_map-returns-clause-built
 build_map-returns-clause-built g t c =
@@ -52,25 +52,25 @@ build_map-returns-clause-built g t c =
     let p = c.in_ok-value.value in
     let b = rw (c.fixed_at.ensures, c.node_below.ensures, c.deref.ensures, c.deref-2.ensures, c.in_ok-below.ensures) at c.in_ok-value.ensures.built in
     let names = rw c.in_ok-value.ensures.kept.0 at c.len.ensures in
-    let added = c.add_row.ensures in
+    let right = rw (c.in_ok-value.ensures.kept.1, c.in_ok-value.ensures.kept.0) at c.in_ok-entry.ensures in
     let asked = rw (c.deref-3.ensures, c.in_ok-below.ensures) at c.is_present.ensures in
     let bounds : ending_at c.args.pools.now c.args.path.now (node false None (map_sort m.value m.map_type m.bounds)) ≡ record { bounds = c.raised-bounds.result; asked = no_validations } =
     rw (c.raised-bounds.ensures, asked) refl in
-    three_ok c.add_row.result _ _ _ _ added.number added.count (rw (c.in_ok-value.ensures.kept.1, c.in_ok-value.ensures.kept.0) at added.right)
-    (λ n number count right k d takes. row_built g.Z.SizeSet.holds c.args.arena.now.limit c.args.pools.now v old mid c.add_row.new.arena.entries.items c.args.path.now k d (map_sort m.value m.map_type m.bounds) c.args.keys.now c.raised-bounds.result no_validations _ c.in_ok-slots.slots.items c.args.nullable n
+    three_ok c.add.result _ _ _ _ c.add.ensures.number c.add.ensures.count c.add.ensures.added
+    (λ n number count added k d takes. row_built g.Z.SizeSet.holds c.args.arena.now.limit c.args.pools.now v old mid c.add.new.self.entries.items c.args.path.now k d (map_sort m.value m.map_type m.bounds) c.args.keys.now c.raised-bounds.result no_validations _ c.in_ok-slots.slots.items c.args.nullable n c.in_ok-entry.entry
     takes c.reveal_invariant.ensures refl bounds (λ sound. map_met) (number ∙ b.count) count b.right
-    (λ sites values sound placed. rw (← values.names) (c.in_ok-slots.ensures.slots v.names.items sites n c.args.pools.now c.args.path.now m.value (omega (arith, names)) (omega (arith, b.last, number)) (last_site c.args.pools.now _ sites (length old) p (below c.args.path.now value) m.value [] (omega (arith, b.last, b.count)) placed))) right)
+    (λ sites values sound placed. rw (← values.names) (c.in_ok-slots.ensures.slots v.names.items sites n c.args.pools.now c.args.path.now m.value (omega (arith, names)) (omega (arith, b.last, number)) (last_site c.args.pools.now _ sites (length old) p (below c.args.path.now value) m.value [] (omega (arith, b.last, b.count)) placed))) added number right)
 
 pub build_list-returns-clause-built : goal.build_list-returns-clause-built
 build_list-returns-clause-built g t c =
     let l = c.args.list.now in
     let b = rw (c.fixed_item.ensures, c.node_below.ensures, c.item_keys.ensures, c.deref.ensures, c.deref-2.ensures, c.in_ok-below.ensures) at c.in_ok-item.ensures.built in
-    let added = c.add_list.ensures in
+    let right = rw (c.in_ok-item.ensures.kept.1, c.in_ok-item.ensures.kept.0) at c.in_ok-entry.ensures in
     let asked = rw (c.deref-3.ensures, c.in_ok-below.ensures) at c.is_present.ensures in
     let bounds : bounds_at c.args.pools.now c.args.path.now (node false None (list_sort l.item l.list_type l.keys.items l.bounds)) ≡ c.raised-bounds.result = rw (c.raised-bounds.ensures, asked) refl in
-    three_ok c.add_list.result _ _ _ _ added.number added.count (rw (c.in_ok-item.ensures.kept.1, c.in_ok-item.ensures.kept.0) at added.right)
-    (λ n number count right m d takes. list_built g.Z.SizeSet.holds c.args.arena.now.limit c.args.pools.now c.args.arena.now.values c.args.arena.now.entries.items c.build.new.arena.entries.items c.add_list.new.arena.entries.items c.args.path.now m d l.item l.list_type l.keys.items l.bounds c.raised-bounds.result c.args.keys.now
-    c.in_ok-item.item c.args.nullable n takes bounds c.reveal_invariant.ensures b number count right)
+    three_ok c.add.result _ _ _ _ c.add.ensures.number c.add.ensures.count c.add.ensures.added
+    (λ n number count added m d takes. list_built g.Z.SizeSet.holds c.args.arena.now.limit c.args.pools.now c.args.arena.now.values c.args.arena.now.entries.items c.build.new.arena.entries.items c.add.new.self.entries.items c.args.path.now m d l.item l.list_type l.keys.items l.bounds c.raised-bounds.result c.args.keys.now
+    c.in_ok-item.item c.args.nullable n c.in_ok-entry.entry takes bounds c.reveal_invariant.ensures b number count added right)
 
 pub build_field-returns-clause-slot : goal.build_field-returns-clause-slot
 build_field-returns-clause-slot g t c = record { name_is = λ names. c.in_ok-copy.ensures; must = search rules; key = c.is_key.ensures; bit = c.bit_of.ensures.bit }
@@ -80,11 +80,11 @@ build_fields-loop-field-init g t c =
     let a = c.args.arena.now in
     record { kept = (refl, refl); built = rw c.in_ok-slots.ensures.items (no_fields_built g.Z.SizeSet.holds a.limit c.args.pools.now a.values a.entries.items c.args.path.now c.args.keys.now c.args.named.now) }
 
-pub build_map-add_row-requires-clause-below : goal.build_map-add_row-requires-clause-below
-build_map-add_row-requires-clause-below g t c = λ k d l. let h = c.in_ok-slots.ensures.below k d l in omega (arith, c.in_ok-value.ensures.built.last)
+pub build_map-row_entry-requires-clause-below : goal.build_map-row_entry-requires-clause-below
+build_map-row_entry-requires-clause-below g t c = λ k d l. let h = c.in_ok-slots.ensures.below k d l in omega (arith, c.in_ok-value.ensures.built.last)
 
-pub build_list-add_list-requires-clause-item : goal.build_list-add_list-requires-clause-item
-build_list-add_list-requires-clause-item g t c = omega (arith, c.in_ok-item.ensures.built.last)
+pub build_list-list_entry-requires-clause-item : goal.build_list-list_entry-requires-clause-item
+build_list-list_entry-requires-clause-item g t c = omega (arith, c.in_ok-item.ensures.built.last)
 
 pub build_field-returns-clause-bit : goal.build_field-returns-clause-bit
 build_field-returns-clause-bit g t c = closed_of _ _ (search rules) c.bit_of.ensures.below

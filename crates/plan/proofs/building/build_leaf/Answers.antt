@@ -1,18 +1,12 @@
-use Rattle.std.proofs.Common.{refl}
 use Rattle.std.specs.Prelude.{option_map}
 use Rattle.schema.specs.Nodes.View.{node_of}
-use Rattle.plan.specs.Samples.Sites.{Site}
-use Rattle.plan.specs.Samples.Candidates.{AreCandidates}
-use Rattle.plan.specs.Internal.Values.{trees_of, AreValues, candidates_of}
-use Rattle.plan.proofs.BuildingLemmas.{leaf_built}
+use Rattle.plan.specs.Internal.Values.{trees_of}
+use Rattle.plan.proofs.BuildingLemmas.{leaf_built, three_ok}
 use Rattle.plan.proofs.building.build_leaf.Goals as goal
 
 pub returns-clause-built : goal.returns-clause-built
-returns-clause-built g c = λ keys takes.
-    let N = node_of c.args.node.now in
-    let fixed = option_map (λ ts. trees_of ts.now) c.args.fixed in
-    let s : Site = record { node = N; keys = keys; path = c.args.path.now; fixed = fixed } in
-    let v = c.args.arena.now.values in
-    let are : AreValues c.args.pools.now v → AreCandidates c.args.pools.now s (candidates_of v c.in_ok-leaf.leaf) = λ values. c.in_ok-leaf.ensures s values refl refl refl c.requires.leaf in
-    leaf_built g.Z.SizeSet.holds c.args.arena.now.limit c.args.pools.now v c.args.arena.now.entries.items c.add.new.self.entries.items fixed c.args.path.now N keys c.in_ok-leaf.leaf c.leaf_sizes-sizes.result c.args.nullable c.in_ok-node.node
-    takes c.requires.leaf c.in_ok-node.ensures.added c.in_ok-node.ensures.number c.in_ok-node.ensures.count are (λ values. c.leaf_sizes-sizes.ensures c.args.pools.now s (are values))
+returns-clause-built g c =
+    let a = c.args.arena.now in
+    three_ok c.add.result _ _ _ _ c.add.ensures.number c.add.ensures.count c.add.ensures.added (λ n number count added keys takes.
+    leaf_built g.Z.SizeSet.holds a.limit c.args.pools.now a.values a.entries.items c.add.new.self.entries.items (option_map (λ ts. trees_of ts.now) c.args.fixed) c.args.path.now (node_of c.args.node.now) keys n c.in_ok-entry.entry
+    c.requires.leaf added number count (λ sites i values here. c.in_ok-entry.ensures sites i keys values here takes))

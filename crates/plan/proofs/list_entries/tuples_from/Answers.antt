@@ -6,7 +6,7 @@ use Rattle.plan.proofs.list_entries.tuples_from.Goals as goal
 pub returns-then-slot : goal.returns-then-slot
 returns-then-slot g c = λ P sites i s ss right inside is leaves h.
     let key : s.key ≡ true = sym is.key ∙ c.if-slot.true in
-    let count : HasCount P s.site c.count.result = rw is.node at (c.count.ensures P sites right (omega (arith, is.below)) (rw is.node (leaves s (inl refl) key))) in
+    let count : HasCount P s.site c.count.result = rw is.node at (c.count.ensures P sites i right is.below inside (rw is.node (leaves s (inl refl) key))) in
     rw c.saturating_mul.ensures (key_first P s ss c.args.later c.count.result key h count)
 
 pub returns-else-slot : goal.returns-else-slot
