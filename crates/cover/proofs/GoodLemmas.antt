@@ -1,16 +1,15 @@
 -- The paths of the narrowed pools are good.
-use Rattle.std.proofs.Common.{◌≡◌, ◌≢◌, ◌⊎◌, ℕ, List, [], ◌∷◌, ◌++◌, Option, Some, None, refl, sym, subst, ◌∙◌, inl, inr, All}
-use Rattle.std.specs.Str.{bytes_eq}
+use Rattle.std.proofs.Common.{◌≡◌, ◌≢◌, [], ◌∷◌, ◌++◌, Option, Some, refl, sym, subst, inl, inr, All}
 use Rattle.std.proofs.lemmas.List.Elements.{All-cons, All-nil, All-contains, Contains-append_cases}
-use Rattle.jtree.specs.Data.{Data, list, item, no_items, Members, no_members, member}
-use Rattle.jtree.specs.Internal.Lookups.{bool_cases, option_cases, same_name}
+use Rattle.jtree.specs.Data.{Data}
+use Rattle.jtree.specs.Internal.Lookups.{option_cases}
 use Rattle.schema.specs.Nodes.Node.{Node}
 use Rattle.schema.specs.Nodes.ByPlace.{node_below, node_at}
 use Rattle.explain.specs.Paths.FieldPath.{FieldStep, FieldPath, place_step, place_of}
 use Rattle.explain.specs.Paths.PathText.{path_text}
 use Rattle.explain.specs.Fields.Declared.{IsDeclared}
-use Rattle.plan.specs.Pools.Pools.{Pools, fixed_at}
-use Rattle.plan.specs.Pools.PlanFault.{HasName, IsDeclaredPath, HasGoodPaths}
+use Rattle.plan.specs.Pools.Pools.{Pools}
+use Rattle.plan.specs.Pools.PlanFault.{IsDeclaredPath, HasGoodPaths}
 use Rattle.plan.specs.Samples.Site.{below}
 use Rattle.plan.specs.Pools.Along.{beginnings}
 use Rattle.cover.specs.Internal.Narrowed.{narrowed, MayBeWanted}

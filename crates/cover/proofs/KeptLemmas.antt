@@ -1,5 +1,5 @@
 -- Fixed values in which the rest of a path is there.
-use Rattle.std.proofs.Common.{◌≡◌, List, [], ◌∷◌, ◌++◌, Bool, true, false, refl, sym, ap, subst, ◌∙◌, inl, inr, map}
+use Rattle.std.proofs.Common.{◌≡◌, List, [], ◌∷◌, ◌++◌, Bool, true, false, refl, sym, ap, ◌∙◌, inl, inr, map}
 use Rattle.jtree.specs.Data.{Data, IsTree, AreTrees}
 use Rattle.jtree.specs.View.{data_of, items_of}
 use Rattle.jtree.specs.Internal.Lookups.{bool_cases}

@@ -1,6 +1,5 @@
 -- What a path adds to the lines.
-use Rattle.std.proofs.Common.{append_assoc, ◌≡◌, ◌+◌, ◌≤◌, ◌<◌, ℕ, List, [], ◌∷◌, ◌++◌, true, false, Some, None, refl, sym, ap, subst, ◌∙◌, inl, inr, arith, All, Contains, map, length, get_or, take, drop}
-use Rattle.std.specs.Prelude.{string_bytes}
+use Rattle.std.proofs.Common.{append_assoc, ◌≡◌, ◌+◌, ◌≤◌, ◌<◌, ℕ, List, [], ◌∷◌, ◌++◌, true, false, Some, None, refl, sym, ap, subst, ◌∙◌, arith, All, Contains, map, length, get_or, take, drop}
 use Rattle.std.proofs.lemmas.List.{get_or-map, map-append, length-map, take_more, take_all, take-append-drop}
 use Rattle.std.proofs.lemmas.List.Elements.{All-map, All-weaker, All-contains}
 use Rattle.jtree.specs.Data.{Data}
@@ -14,11 +13,7 @@ use Rattle.explain.specs.Fields.View.{field_of}
 use Rattle.explain.specs.declared.field.Field.{Field as CodeField}
 use Rattle.explain.specs.Paths.FieldPath.{FieldPath}
 use Rattle.explain.specs.Paths.PathText.{path_text}
-use Rattle.plan.specs.Pools.Pools.{Pools}
-use Rattle.plan.specs.Pools.PlanFault.{HasGoodPaths, IsFirstBadPath, in_paths, in_fixed, in_present, IsPlanFault}
 use Rattle.plan.specs.Samples.Question.{Question}
-use Rattle.plan.specs.declared.fault.PFault.{PFault}
-use Rattle.plan.specs.declared.fault.PFault.TheVariants.{NoMemory, BadLimit, BadPath, Form, TooLarge}
 use Rattle.enumerate.specs.Page.{IsSampleOf}
 use Rattle.cover.specs.There.{is_there}
 use Rattle.cover.specs.Wanted.{Wanted, with_any, with_value}
@@ -37,20 +32,6 @@ use Rattle.cover.proofs.ThereLemmas.{there_before}
 use Rattle.cover.proofs.SampleLemmas.{has_text, text_there, first_has}
 
 -- ---- faults
-
-bad : (root : Node) (P : Pools) (text : List ℕ) → HasGoodPaths root P → IsFirstBadPath root P text → ⊥
-bad root P text good (in_paths f) = f.0.1 (good.paths text f.0.0)
-bad root P text good (in_fixed a f) = f.0.1 (good.fixed text f.0.0)
-bad root P text good (in_present a b f) = f.0.1 (good.present text f.0.0)
-
--- there is no other fault at a limit and paths that are good
-pub only_memory : (root : Node) (P : Pools) (limit bits : ℕ) → (1 ≤ limit) × (limit < bits) → HasGoodPaths root P → (e : PFault) → IsPlanFault root P limit bits e → e ≡ NoMemory
-only_memory root P limit bits room good NoMemory f = refl
-only_memory root P limit bits room good BadLimit (inl a) = let low = room.0 in absurd (omega arith)
-only_memory root P limit bits room good BadLimit (inr a) = let high = room.1 in absurd (omega arith)
-only_memory root P limit bits room good (BadPath text) f = absurd (bad root P (string_bytes text) good f.1)
-only_memory root P limit bits room good (Form p) f = absurd f
-only_memory root P limit bits room good TooLarge f = absurd f
 
 -- ---- lines
 
@@ -126,9 +107,6 @@ declared_field root listing fs i f a same lt is =
     let all : AreFields root (map field_of fs) = subst (AreFields root) (sym same) a in
     let within : i < length (map field_of fs) = omega arith in
     subst (λ g. IsTextOf (IsDeclared root) g.path) (get_or-map field_of fs i f (field_of f) lt ∙ ap field_of (sym is)) (declared_path root (map field_of fs) all i (field_of f) within)
-
-pub same_question : (q : Question) (root : Node) (P : Pools) (limit : ℕ) → root ≡ q.root → P ≡ q.pools → limit ≡ q.limit → q ≡ record { root = root; pools = P; limit = limit }
-same_question q root P limit a b c = rw (a, b, c) refl
 
 -- ---- the values of a path
 

@@ -3,14 +3,14 @@ use Rattle.std.proofs.Common.{◌≡◌, ◌≢◌, ◌⊎◌, ℕ, List, [], �
 use Rattle.std.specs.Prelude.{◌||◌, is_some, option_and_then, if◌then◌else◌}
 use Rattle.std.specs.Ordering.{ordering_reverse}
 use Rattle.std.specs.Str.{bytes_eq}
-use Rattle.std.specs.declared.cmp.Ordering.TheVariants.{Less, Equal, Greater}
+use Rattle.std.specs.declared.cmp.Ordering.TheVariants.{Less, Greater}
 use Rattle.std.proofs.lemmas.Cmp.{nat_list_cmp_total}
 use Rattle.std.proofs.lemmas.List.{append_cancel_left}
 use Rattle.std.proofs.lemmas.Map.Lookups.{exact_bytes}
-use Rattle.jtree.specs.Data.{Data, list, Items, Members, no_members, member}
+use Rattle.jtree.specs.Data.{Data, list, Members, no_members, member}
 use Rattle.jtree.specs.Order.{text_cmp}
 use Rattle.jtree.specs.Path.{member_at}
-use Rattle.jtree.specs.Internal.Lookups.{bool_cases, option_cases, ordering_cases, same_name, own_name, earlier_name}
+use Rattle.jtree.specs.Internal.Lookups.{bool_cases, option_cases, ordering_cases, same_name, earlier_name}
 use Rattle.schema.specs.Document.Texts.{is_among}
 use Rattle.schema.specs.Nodes.Node.{Node}
 use Rattle.schema.specs.Nodes.ByPlace.{node_at}
@@ -22,8 +22,7 @@ use Rattle.plan.specs.Pools.PlanFault.{HasName}
 use Rattle.plan.specs.Samples.Candidates.{sort_at}
 use Rattle.plan.specs.Samples.Site.{below}
 use Rattle.plan.specs.declared.sort.Sort.TheVariants.{Leaf}
-use Rattle.cover.specs.There.{is_there}
-use Rattle.cover.specs.Internal.Narrowed.{rest_at, end_alone, kept_fixed, as_items, change_at, changes, narrowed, MayBeWanted}
+use Rattle.cover.specs.Internal.Narrowed.{rest_at, end_alone, kept_fixed, as_items, changes, narrowed, MayBeWanted}
 use Rattle.cover.proofs.PathLemmas.{OneText, among_beginnings, beginning}
 
 among_append : (text : List ℕ) (xs ys : List (List ℕ)) → is_among text (xs ++ ys) ≡ (is_among text xs || is_among text ys)

@@ -1,13 +1,7 @@
 -- The samples of a narrowed question are those of the question in which the path is there.
-use Rattle.std.proofs.Common.{◌≡◌, ◌≢◌, ◌≤◌, ℕ, [], ◌∷◌, ◌++◌, true, Option, Some, None, refl, sym, ap, subst, ◌∙◌, inl, inr, arith}
-use Rattle.std.specs.Ordering.{nat_cmp, ordering_then}
-use Rattle.std.specs.Cmp.{nat_cmp_is}
-use Rattle.std.proofs.lemmas.Bool.{cases_lt}
-use Rattle.std.specs.declared.cmp.Ordering.{Ordering}
-use Rattle.std.specs.declared.cmp.Ordering.TheVariants.{Less, Greater}
+use Rattle.std.proofs.Common.{◌≡◌, ◌≢◌, [], ◌∷◌, ◌++◌, true, Option, Some, None, refl, sym, ap, subst, ◌∙◌}
 use Rattle.jtree.specs.Data.{Data, Members}
-use Rattle.jtree.specs.Nodes.{nodes}
-use Rattle.jtree.specs.Order.{kind, tree_cmp, content_cmp}
+use Rattle.jtree.specs.Order.{tree_cmp}
 use Rattle.schema.specs.Nodes.Node.{Node}
 use Rattle.schema.specs.Nodes.ByPlace.{node_at}
 use Rattle.explain.specs.Fields.Declared.{IsDeclared}
@@ -20,12 +14,7 @@ use Rattle.plan.specs.Samples.Question.{Question}
 use Rattle.plan.specs.Samples.Site.{plain}
 use Rattle.plan.specs.Samples.Part.{IsPart}
 use Rattle.enumerate.specs.Least.{IsLeast}
-use Rattle.enumerate.specs.Live.{IsNextSample}
 use Rattle.enumerate.specs.Page.{IsSampleOf}
-use Rattle.std.specs.Prelude.{is_some}
-use Rattle.jtree.specs.View.{data_of}
-use Rattle.jtree.specs.declared.value.Tree.{Tree}
-use Rattle.enumerate.specs.View.{tree_of}
 use Rattle.cover.specs.Cover.{Has}
 use Rattle.cover.specs.There.{is_there}
 use Rattle.cover.specs.Wanted.{Wanted}

@@ -15,16 +15,14 @@ use Rattle.jtree.specs.Data.{Data}
 use Rattle.plan.specs.Pools.Pools.{Pools, fixed_at, is_present}
 use Rattle.explain.specs.Paths.FieldPath as step
 use Rattle.plan.specs.Samples.Sites.{Site, plain, below, where_fixed, fixed_item, item_site, item_keys, sites_from, sites_below, sites_of_fields, Slot, slots, slots_at, field_slots, value_slot}
-use Rattle.plan.specs.Samples.Candidates.{sort_at, sort_of, AreCandidates}
-use Rattle.plan.specs.Samples.Sizes.{HasSize, bounds_at, bounds_of, ending_at, ending_of, IsUpTo}
+use Rattle.plan.specs.Samples.Candidates.{sort_at, sort_of}
+use Rattle.plan.specs.Samples.Sizes.{bounds_at, bounds_of, ending_at, ending_of}
 use Rattle.plan.specs.Samples.Presence.{bit_of}
 use Rattle.plan.specs.Internal.Tables.{IsClosed, AreMet}
 use Rattle.plan.specs.Samples.RuleOfParts.{takes_null, admits_null}
 use Rattle.plan.specs.declared.sort.Sort.TheVariants.{Leaf as LeafSort, Row}
 use Rattle.schema.specs.declared.node.Bounds.{Bounds}
-use Rattle.plan.specs.Internal.Values.{AreValues, candidates_of}
-use Rattle.plan.specs.declared.leaf.Leaf.{Leaf}
-use Rattle.plan.specs.declared.arena.Content.TheVariants as content
+use Rattle.plan.specs.Internal.Values.{AreValues}
 use Rattle.plan.specs.Internal.Arena.{IsSlot, AreSlots, IsRight, AreRightBelow, AreRight, AreSitesFrom}
 use Rattle.plan.specs.Samples.Sites.{site_at}
 use Rattle.plan.specs.Internal.Building.{IsSound, IsSortSound, AreFieldsSound, IsBuilt, AreBuilt, IsFieldSlot}

@@ -1,6 +1,6 @@
 -- What is known of a site stays true where the pools differ elsewhere.
-use Rattle.std.proofs.Common.{◌≡◌, ◌↔◌, ◌≤◌, ◌<◌, ◌+◌, ◌-◌, ℕ, zero, suc, List, [], ◌∷◌, ◌++◌, Bool, true, false, Option, Some, None, refl, sym, ap, subst, ◌∙◌, inl, inr, append-nil, append_assoc, length, get_or, drop}
-use Rattle.std.specs.Prelude.{◌&&◌, ◌||◌, not, is_some, unwrap_or, option_and_then, map, filter}
+use Rattle.std.proofs.Common.{◌≡◌, ◌↔◌, ◌+◌, ◌-◌, ℕ, zero, suc, List, [], ◌∷◌, Bool, false, Option, Some, None, refl, sym, ap, subst, ◌∙◌, inl, inr, append-nil, append_assoc, length, get_or, drop}
+use Rattle.std.specs.Prelude.{◌&&◌, not, is_some, unwrap_or, option_and_then, map, filter}
 use Rattle.std.specs.declared.vec.Vec.{Vec}
 use Rattle.std.specs.declared.alloc.Global.{Global}
 use Rattle.jtree.specs.Data.{Data, Items, Members}
@@ -14,25 +14,25 @@ use Rattle.schema.specs.Document.Texts.{is_among}
 use Rattle.schema.specs.Nodes.Node.{Node, node, Validations, scalar, object, list, open_, Fields, no_fields, field}
 use Rattle.schema.specs.Nodes.Node as nodes
 use Rattle.schema.specs.Nodes.ByPlace.{field_at}
-use Rattle.stored.specs.Objects.Fault.{is_null, constraints_of, items_count, members_count}
+use Rattle.stored.specs.Objects.Fault.{constraints_of, items_count, members_count}
 use Rattle.stored.specs.Objects.Becomes.{is_nullable}
 use Rattle.explain.specs.Paths.FieldPath.{FieldStep, FieldPath}
 use Rattle.explain.specs.Paths.FieldPath as step
 use Rattle.explain.specs.Paths.PathText.{step_text, path_text}
-use Rattle.plan.specs.Pools.Pools.{Pools, items_list, entries_in, fixed_at, is_present}
-use Rattle.plan.specs.Samples.Over.{scalars_of, choices_or, listed, is_in, all_names, asks_field, asks_below, has_present, has_enough, is_over_here, IsOverAlong}
+use Rattle.plan.specs.Pools.Pools.{Pools, entries_in, is_present}
+use Rattle.plan.specs.Samples.Over.{choices_or, listed, all_names, asks_field, asks_below, has_present, has_enough, is_over_here, IsOverAlong}
 use Rattle.plan.specs.Samples.Part.{IsPart}
 use Rattle.plan.specs.Samples.Names.{in_order}
 use Rattle.plan.specs.Samples.Presence.{named}
 use Rattle.plan.specs.Samples.Site.{fixed_below}
-use Rattle.plan.specs.Samples.Sites.{Site, plain, below, where_fixed, fixed_item, item_site, item_site_at, item_keys, Slot, slots, slots_at, field_slots, value_slot, site_at}
-use Rattle.plan.specs.Samples.Candidates.{AreCandidates, HasCount}
-use Rattle.plan.specs.Samples.Sizes.{IsUpTo, HasSize, AreFillings, CanFill, HasMore, Before, Ending, ending_at, ending_of, bounds_at, raised}
-use Rattle.plan.specs.Samples.RuleOfParts.{takes_null, admits_null}
+use Rattle.plan.specs.Samples.Sites.{Site, below, where_fixed, fixed_item, item_site, item_site_at, Slot, slots, slots_at, field_slots, value_slot, site_at}
+use Rattle.plan.specs.Samples.Candidates.{AreCandidates}
+use Rattle.plan.specs.Samples.Sizes.{IsUpTo, HasSize, AreFillings, CanFill, HasMore, Before, Ending, ending_at, ending_of}
+use Rattle.plan.specs.Samples.RuleOfParts.{admits_null}
 use Rattle.plan.specs.Samples.NoDeadEnd.{is_key, AreCounts}
 use Rattle.plan.specs.Samples.Keys.{HasTuples}
 use Rattle.plan.specs.Internal.Tables.{AreTables}
-use Rattle.plan.specs.Internal.Arena.{IsSlot, AreSlots, AreLater, IsRight, HasContent}
+use Rattle.plan.specs.Internal.Arena.{AreSlots, AreLater, IsRight, HasContent}
 use Rattle.plan.specs.Internal.Values.{AreValues}
 use Rattle.plan.specs.Internal.Frame.{ListTheSame, IsSameAt, AreSameBelow}
 use Rattle.plan.specs.declared.values.Values.{Values}

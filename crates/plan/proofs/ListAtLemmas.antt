@@ -9,7 +9,7 @@ use Rattle.std.proofs.lemmas.Cmp.{nat_list_cmp_total}
 use Rattle.std.proofs.lemmas.Map.Lookups.{exact_bytes}
 use Rattle.jtree.specs.Data.{Data, Members, no_members, member, IsTree, AreMembers, IsNameBefore}
 use Rattle.jtree.specs.View.{data_of, members_of}
-use Rattle.jtree.specs.Internal.Lookups.{bool_cases, option_cases, ordering_cases, same_name, own_name, earlier_name}
+use Rattle.jtree.specs.Internal.Lookups.{bool_cases, ordering_cases, same_name, own_name, earlier_name}
 use Rattle.jtree.specs.Order.{text_cmp}
 use Rattle.jtree.specs.Path.{member_at}
 use Rattle.jtree.specs.declared.value.Member.{Member}
@@ -170,6 +170,7 @@ put_there k o x (member l d ms) sorted is = elim (ordering_cases (text_cmp k l))
   at_first : (o : Option Data) → text_cmp k l ≡ Less → with_list k None (with_list k o (member l d ms)) ≡ member l d ms
   at_first None first = ap (with_list k None) (none_less k l d ms first) ∙ none_less k l d ms first
   at_first (Some e) first = ap (with_list k None) (list_less k e l d ms first) ∙ none_equal k k e (member l d ms) (self_cmp k)
+
   at_same : (o : Option Data) → text_cmp k l ≡ Equal → k ≡ l → IsNameBefore k ms → with_list k (Some d) (with_list k o (member l d ms)) ≡ member l d ms
   at_same None same name before = ap (with_list k (Some d)) (none_equal k l d ms same) ∙ (list_first k d ms before ∙ ap (λ n. member n d ms) name)
   at_same (Some e) same name before = ap (with_list k (Some d)) (list_equal k e l d ms same) ∙ (list_equal k d k e ms (self_cmp k) ∙ ap (λ n. member n d ms) name)
@@ -189,9 +190,9 @@ pub put_one : (xs olds rest : List ListAt) (x old : ListAt) (before after start 
 put_one xs olds rest x old before after start all sorted split put was whole back = (
   ap (with_lists (lists_of rest)) put ∙ (sym (lists_last rest x before) ∙ (ap (λ ys. with_lists (lists_of ys) before) (sym split) ∙ whole)),
   lists_last olds old after
-  ∙ (ap (λ y. with_lists (lists_of olds) (with_list y.0 y.1 after)) was
-  ∙ (ap (λ ms. with_lists (lists_of olds) (with_list x.path (member_at x.path before) ms)) put
-  ∙ (ap (with_lists (lists_of olds)) (put_back x.path (option_map data_of x.list) before sorted) ∙ back))),
+      ∙ (ap (λ y. with_lists (lists_of olds) (with_list y.0 y.1 after)) was
+      ∙ (ap (λ ms. with_lists (lists_of olds) (with_list x.path (member_at x.path before) ms)) put
+      ∙ (ap (with_lists (lists_of olds)) (put_back x.path (option_map data_of x.list) before sorted) ∙ back))),
 )
 
 -- ---- the pools

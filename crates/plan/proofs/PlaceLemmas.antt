@@ -1,15 +1,14 @@
 -- The places of the sites of a schema, and the sites over other pools.
-use Rattle.std.proofs.Common.{◌≡◌, ◌≢◌, ◌⊎◌, ◌<◌, ◌≤◌, ◌+◌, ◌-◌, ℕ, zero, suc, List, [], ◌∷◌, ◌++◌, Bool, true, false, Option, Some, None, refl, sym, ap, subst, ◌∙◌, inl, inr, append-nil, append_assoc, arith, length, get_or, length-append, zero-add}
-use Rattle.std.specs.Prelude.{is_some, map, option_and_then, All}
-use Rattle.std.specs.Str.{bytes_eq}
+use Rattle.std.proofs.Common.{◌≡◌, ◌<◌, ◌+◌, ◌-◌, ℕ, List, [], ◌∷◌, ◌++◌, Bool, true, Option, Some, None, refl, sym, ap, subst, ◌∙◌, inl, inr, append-nil, append_assoc, arith, length, length-append, zero-add}
+use Rattle.std.specs.Prelude.{is_some, map}
 use Rattle.std.proofs.lemmas.Option.{same_Some}
 use Rattle.std.proofs.lemmas.Bool.{cases_lt}
 use Rattle.std.proofs.lemmas.List.{append_cancel_left, length-map, get_or-map, get_or_default, length_push}
 use Rattle.std.proofs.lemmas.List.Concat.{flat_map-append}
 use Rattle.std.proofs.lemmas.List.Elements.{All-contains}
 use Rattle.jtree.specs.Data.{Data}
-use Rattle.jtree.specs.Internal.Lookups.{option_cases, bool_cases, own_name}
-use Rattle.jtree.specs.Internal.Rising.{Among, Rising, contains, contained, among_parts, rising_join, all_pairs}
+use Rattle.jtree.specs.Internal.Lookups.{option_cases, own_name}
+use Rattle.jtree.specs.Internal.Rising.{Among, Rising, contained, among_parts, rising_join, all_pairs}
 use Rattle.schema.specs.Nodes.Node.{Node, node, Sort, scalar, object, list, open_, Fields, no_fields, field, Validations, IsNode, IsSort, AreOrdered}
 use Rattle.schema.specs.Nodes.Node as nodes
 use Rattle.schema.specs.Nodes.ByPlace.{Declared, field_at, node_below, node_at}
@@ -22,12 +21,12 @@ use Rattle.stored.specs.Schemas.Accepted.{IsSchema}
 use Rattle.explain.specs.Paths.FieldPath.{FieldStep, FieldPath, place_step, place_of}
 use Rattle.explain.specs.Paths.FieldPath as step
 use Rattle.explain.specs.Paths.PathText.{step_text, path_text}
-use Rattle.plan.specs.Pools.Pools.{Pools, fixed_at, entries_in}
+use Rattle.plan.specs.Pools.Pools.{Pools, fixed_at}
 use Rattle.plan.specs.Pools.FixedPaths.{is_map_list}
 use Rattle.plan.specs.Pools.PlanFault.{HasName, HasGoodPaths}
 use Rattle.plan.specs.Pools.Along.{DifferAlong}
 use Rattle.plan.specs.Samples.Sites.{Site, no_site, plain, below, where_fixed, fixed_item, item_keys, sites_from, sites_below, sites_of_fields, sites_of, site_at}
-use Rattle.plan.specs.Samples.Candidates.{sort_at, sort_of}
+use Rattle.plan.specs.Samples.Candidates.{sort_at}
 use Rattle.plan.specs.Internal.Laws.{SchemaLaws}
 use Rattle.plan.specs.Internal.Arena.{AreSitesFrom}
 use Rattle.plan.specs.Internal.Frame.{ListTheSame}

@@ -3,16 +3,13 @@ use Rattle.std.proofs.Common.{◌≡◌, ◌≢◌, ◌⊎◌, ◌<◌, ◌≤�
 use Rattle.std.specs.Prelude.{◌||◌, is_some, map, option_map, option_and_then, All, IfSome}
 use Rattle.std.specs.List.{slice_get}
 use Rattle.std.specs.Str.{bytes_eq}
-use Rattle.std.proofs.lemmas.Bool.{cases_lt}
 use Rattle.std.proofs.lemmas.Option.{same_Some}
-use Rattle.std.proofs.lemmas.List.{get_or-set_same, get_or-set_other, length-set, append-nil, append_cancel_left, append_assoc}
+use Rattle.std.proofs.lemmas.List.{get_or-set_same, get_or-set_other, length-set, append-nil, append_cancel_left}
 use Rattle.jtree.specs.Data.{Data}
-use Rattle.jtree.specs.Internal.Lookups.{option_cases, bool_cases, own_name, same_name}
-use Rattle.schema.specs.Document.Texts.{is_among}
+use Rattle.jtree.specs.Internal.Lookups.{bool_cases, own_name}
 use Rattle.schema.specs.Nodes.Node.{Node, node, Sort, scalar, object, list, open_, Fields, no_fields, field, Validations, IsNode, AreOrdered}
 use Rattle.schema.specs.Nodes.Node as nodes
 use Rattle.schema.specs.Nodes.ByPlace.{Declared, field_at, node_at}
-use Rattle.schema.specs.Nodes.Junctors.{most_named}
 use Rattle.schema.specs.declared.node.Bounds.{Bounds}
 use Rattle.schema.specs.declared.node.MapType.{MapType}
 use Rattle.schema.specs.declared.node.ListType.{ListType}
@@ -21,20 +18,18 @@ use Rattle.schema.specs.Nodes.Items.{HasSoundItems}
 use Rattle.plan.specs.Pools.FixedPaths.{is_map_list}
 use Rattle.explain.specs.Paths.FieldPath.{FieldStep, FieldPath, place_of}
 use Rattle.explain.specs.Paths.FieldPath as step
-use Rattle.explain.specs.Paths.PathText.{step_text, path_text}
+use Rattle.explain.specs.Paths.PathText.{path_text}
 use Rattle.plan.specs.Pools.Pools.{Pools, fixed_at, is_present}
 use Rattle.plan.specs.Samples.Sites.{Site, no_site, plain, below, where_fixed, fixed_item, item_keys, item_site, site_at, Slot, slots, slots_at, field_slots, value_slot}
 use Rattle.plan.specs.Samples.Names.{in_order}
 use Rattle.plan.specs.Samples.Presence.{named, bit_of, no_validations}
 use Rattle.plan.specs.Samples.Candidates.{sort_at, sort_of}
-use Rattle.plan.specs.Samples.Sizes.{ending_of, bounds_of, raised}
+use Rattle.plan.specs.Samples.Sizes.{bounds_of, raised}
 use Rattle.plan.specs.Samples.RuleOfParts.{takes_null, admits_null}
-use Rattle.plan.specs.Internal.Arena.{IsSlot, AreSlots, HasContent, IsRight, AreRightBelow, AreRight, slots_in, item_in, with_must, name_of}
-use Rattle.plan.specs.Internal.Tables.{AreMet}
+use Rattle.plan.specs.Internal.Arena.{IsSlot, AreSlots, HasContent, IsRight, AreRightBelow, AreRight, slots_in, item_in, with_must}
 use Rattle.plan.specs.Internal.Building.{IsSound}
 use Rattle.plan.specs.Internal.Values.{AreValues}
-use Rattle.plan.specs.Internal.Frame.{IsSameAt}
-use Rattle.plan.specs.Internal.Way.{over, IsPlaced, values_node, IsAfterValues, IsWay}
+use Rattle.plan.specs.Internal.Way.{over, values_node, IsWay}
 use Rattle.plan.specs.Internal.Renewed.{IsOnWay, AreRenewedTo, IsRenewed, IsRowRemade, IsFieldAt, AreEndsOf}
 use Rattle.plan.specs.declared.values.Values.{Values}
 use Rattle.plan.specs.declared.arena.SlotEntry.{SlotEntry}
@@ -59,7 +54,7 @@ use Rattle.plan.proofs.BuildingLemmas.{last_site}
 use Rattle.plan.proofs.FrameLemmas.{values_over}
 use Rattle.plan.proofs.PlaceLemmas.{way_made}
 use Rattle.plan.proofs.PoolPathLemmas.{OneText}
-use Rattle.plan.proofs.FixedLemmas.{leaf_any, item_unfixed}
+use Rattle.plan.proofs.FixedLemmas.{leaf_any}
 use Rattle.plan.proofs.NameLemmas.{few_named}
 use Rattle.plan.proofs.PlanLemmas.{item_sort}
 use Rattle.plan.proofs.PlaceLemmas.{text_below, join_one}

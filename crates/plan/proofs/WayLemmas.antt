@@ -1,30 +1,23 @@
 -- Along a way: which sites are beside it, and the entries that are right over the changed pools.
-use Rattle.std.proofs.Common.{◌≡◌, ◌⊎◌, ◌<◌, ◌≤◌, ◌+◌, ℕ, zero, suc, List, [], ◌∷◌, ◌++◌, Bool, true, false, Option, Some, None, refl, sym, ap, subst, ◌∙◌, inl, inr, append-nil, append_assoc, arith, length, get_or}
-use Rattle.std.specs.Prelude.{◌||◌, is_some, map}
+use Rattle.std.proofs.Common.{◌≡◌, ◌<◌, ◌≤◌, ◌+◌, ℕ, zero, suc, List, [], ◌∷◌, ◌++◌, true, false, refl, sym, ap, subst, ◌∙◌, inl, inr, append-nil, append_assoc, arith, length, get_or}
 use Rattle.std.specs.Str.{bytes_eq}
-use Rattle.std.proofs.lemmas.Option.{same_Some}
 use Rattle.std.proofs.lemmas.Bool.{cases_lt}
 use Rattle.std.proofs.lemmas.List.{append_cancel_left}
-use Rattle.jtree.specs.Data.{Data}
-use Rattle.jtree.specs.Internal.Lookups.{option_cases, bool_cases, own_name, same_name}
+use Rattle.jtree.specs.Internal.Lookups.{bool_cases, same_name}
 use Rattle.schema.specs.Document.Texts.{is_among}
-use Rattle.schema.specs.Nodes.Node.{Node, node, Sort, scalar, object, list, open_, Fields, no_fields, field}
-use Rattle.schema.specs.Nodes.Node as nodes
-use Rattle.schema.specs.Nodes.ByPlace.{Declared, field_at, node_at}
-use Rattle.explain.specs.Paths.FieldPath.{FieldStep, FieldPath, place_of}
-use Rattle.explain.specs.Paths.FieldPath as step
-use Rattle.explain.specs.Paths.PathText.{step_text, path_text}
-use Rattle.plan.specs.Pools.Pools.{Pools, fixed_at, is_present}
+use Rattle.schema.specs.Nodes.Node.{Node}
+use Rattle.explain.specs.Paths.FieldPath.{FieldStep, FieldPath}
+use Rattle.explain.specs.Paths.PathText.{path_text}
+use Rattle.plan.specs.Pools.Pools.{Pools, fixed_at}
 use Rattle.plan.specs.Pools.Along.{beginnings, DifferAlong}
-use Rattle.plan.specs.Samples.Sites.{Site, no_site, plain, below, site_at, Slot, slots, field_slots, value_slot}
-use Rattle.plan.specs.Samples.Candidates.{sort_at, sort_of}
-use Rattle.plan.specs.Internal.Arena.{IsSlot, AreSlots, IsRight, AreRightBelow, AreRight}
-use Rattle.plan.specs.Internal.Frame.{ListTheSame, IsSameAt, AreSameBelow}
-use Rattle.plan.specs.Internal.Way.{over, IsPlaced, IsEarlier, IsWay}
+use Rattle.plan.specs.Samples.Sites.{Site, no_site, below, site_at}
+use Rattle.plan.specs.Samples.Candidates.{sort_of}
+use Rattle.plan.specs.Internal.Arena.{IsRight, AreRightBelow, AreRight}
+use Rattle.plan.specs.Internal.Frame.{IsSameAt, AreSameBelow}
+use Rattle.plan.specs.Internal.Way.{IsWay}
 use Rattle.plan.specs.declared.values.Values.{Values}
-use Rattle.plan.specs.declared.arena.SlotEntry.{SlotEntry}
 use Rattle.plan.specs.declared.arena.Entry.{Entry}
-use Rattle.plan.specs.declared.sort.Sort.TheVariants.{Leaf, Row}
+use Rattle.plan.specs.declared.sort.Sort.TheVariants.{Leaf}
 use Rattle.plan.proofs.PoolPathLemmas.{OneText}
 use Rattle.plan.proofs.FrameLemmas.{AreAlike, right_over}
 use Rattle.plan.proofs.PlaceLemmas.{text_join, text_below, join_one}

@@ -1,12 +1,10 @@
 -- Pools that differ along one path alone, and what is the same at a site beside it.
-use Rattle.std.specs.Prelude.{◌≡◌, ◌++◌, ◌⊎◌, ℕ, List, [], ◌∷◌, is_some, true, Some, Contains}
-use Rattle.schema.specs.Nodes.Node.{Node}
-use Rattle.schema.specs.Nodes.ByPlace.{node_at}
-use Rattle.explain.specs.Paths.FieldPath.{FieldStep, FieldPath, place_of}
+use Rattle.std.specs.Prelude.{◌≡◌, ◌++◌, ℕ, List}
+use Rattle.explain.specs.Paths.FieldPath.{FieldStep, FieldPath}
 use Rattle.explain.specs.Paths.PathText.{path_text}
 use Rattle.plan.specs.Pools.Pools.{Pools, fixed_at, is_present}
 use Rattle.plan.specs.Samples.Over.{scalars_of}
-use Rattle.plan.specs.Samples.Sites.{Site, below}
+use Rattle.plan.specs.Samples.Sites.{below}
 
 -- they list the same values and names
 pub record ListTheSame (P Q : Pools) : Type 0 where

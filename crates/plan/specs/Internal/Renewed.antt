@@ -1,6 +1,5 @@
 -- What is made anew along a way: the entries of the nodes on it.
 use Rattle.std.specs.Prelude.{◌≡◌, ◌++◌, ◌+◌, ◌<◌, ◌≤◌, ℕ, zero, suc, List, length, get_or, Bool, Option, Some, All, IfSome}
-use Rattle.std.specs.Str.{bytes_eq}
 use Rattle.jtree.specs.Data.{Data}
 use Rattle.schema.specs.Nodes.Node.{Node, IsNode, Validations, Fields, no_fields, field}
 use Rattle.schema.specs.Nodes.ByPlace.{node_at}

@@ -1,6 +1,5 @@
 -- The sites of a schema over pools that differ along a path.
 use Rattle.std.specs.Prelude.{◌≡◌, ◌++◌, ◌<◌, ◌+◌, ℕ, List, length, Option, Some, None, true}
-use Rattle.jtree.specs.Data.{Data}
 use Rattle.schema.specs.Nodes.Node.{Node, node, map, IsNode}
 use Rattle.schema.specs.Nodes.ByPlace.{node_at}
 use Rattle.explain.specs.Paths.FieldPath.{FieldPath, place_of}

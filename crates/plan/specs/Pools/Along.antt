@@ -1,6 +1,6 @@
 -- Pools that are changed along a path: they ask for the path and each beginning of it or no longer do, and have other lists of fixed
 -- values there (this project's own).
-use Rattle.std.specs.Prelude.{◌≡◌, ◌⊎◌, ◌++◌, ◌-◌, ℕ, List, [], ◌∷◌, length, take, map, option_map, Bool, false, Option, Some, None, is_some}
+use Rattle.std.specs.Prelude.{◌≡◌, ◌⊎◌, ◌++◌, ◌-◌, ℕ, List, [], ◌∷◌, length, take, map, option_map, false, Option, Some, None, is_some}
 use Rattle.std.specs.Ordering.{match_ordering}
 use Rattle.jtree.specs.Data.{Data, Members, no_members, member}
 use Rattle.jtree.specs.Order.{text_cmp}

@@ -1,4 +1,4 @@
-use Rattle.std.proofs.Common.{◌≡◌, ◌∙◌, ◌++◌, Some, refl, sym, subst, ap, append-nil, arith, map, take}
+use Rattle.std.proofs.Common.{◌∙◌, ◌++◌, Some, refl, sym, subst, append-nil, arith, map, take}
 use Rattle.std.proofs.lemmas.List.{take_all}
 use Rattle.jtree.specs.View.{data_of}
 use Rattle.explain.specs.Fields.Declared.{IsDeclared}

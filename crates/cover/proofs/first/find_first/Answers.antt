@@ -8,7 +8,6 @@ use Rattle.plan.specs.Pools.Pools.{Pools}
 use Rattle.plan.specs.Samples.Question.{Question}
 use Rattle.enumerate.specs.Live.{IsNextSample}
 use Rattle.enumerate.specs.View.{tree_of}
-use Rattle.cover.specs.Internal.First.{IsFirstSample}
 use Rattle.cover.specs.Internal.Narrowed.{narrower, narrowed}
 use Rattle.cover.specs.Internal.Ways.{path_of}
 use Rattle.cover.proofs.FirstLemmas.{own_first}

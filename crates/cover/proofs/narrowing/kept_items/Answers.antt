@@ -1,7 +1,6 @@
-use Rattle.std.proofs.Common.{◌≡◌, ◌+◌, ◌++◌, ◌∷◌, [], ◌∙◌, sym, ap, subst, arith, take, map, option_map}
+use Rattle.std.proofs.Common.{◌≡◌, ◌+◌, ◌++◌, ◌∷◌, [], ◌∙◌, sym, ap, arith, take, map, option_map}
 use Rattle.std.proofs.lemmas.List.{take_more, take_all}
-use Rattle.jtree.specs.Data.{AreTrees}
-use Rattle.jtree.specs.View.{data_of, items_of}
+use Rattle.jtree.specs.View.{data_of}
 use Rattle.cover.specs.There.{is_there}
 use Rattle.cover.specs.Internal.Narrowed.{kept_of, as_items}
 use Rattle.cover.specs.Internal.Ways.{path_of}

@@ -1,4 +1,4 @@
-use Rattle.std.proofs.Common.{◌≡◌, ap, sym, refl, subst}
+use Rattle.std.proofs.Common.{sym, refl}
 use Rattle.std.specs.Prelude.{option_map}
 use Rattle.schema.specs.Nodes.View.{node_of}
 use Rattle.plan.specs.Samples.Sites.{Site}

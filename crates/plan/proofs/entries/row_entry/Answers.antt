@@ -1,4 +1,4 @@
-use Rattle.std.proofs.Common.{arith, ap, length, refl, ◌≡◌, ◌-◌, ◌≤◌, ◌<◌, ◌∙◌}
+use Rattle.std.proofs.Common.{arith, ap, length, refl, ◌≡◌, ◌-◌, ◌<◌, ◌∙◌}
 use Rattle.plan.specs.Samples.Sites.{slots as slots_of}
 use Rattle.plan.specs.Samples.Sites.{site_at}
 use Rattle.plan.specs.Samples.Sizes.{Ending}

@@ -1,4 +1,3 @@
-use Rattle.std.proofs.Common.{refl}
 use Rattle.plan.specs.Pools.Along.{with_lists, lists_of}
 use Rattle.plan.proofs.ListAtLemmas.{put_one}
 use Rattle.plan.proofs.list_at.put_all.Goals as goal

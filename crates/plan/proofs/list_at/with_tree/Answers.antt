@@ -1,4 +1,4 @@
-use Rattle.std.proofs.Common.{◌≡◌, Some, None, sym, ap, subst, ◌∙◌, set}
+use Rattle.std.proofs.Common.{Some, sym, ap, subst, ◌∙◌, set}
 use Rattle.std.proofs.lemmas.Option.{same_Some}
 use Rattle.jtree.specs.Data.{IsTree, AreMembers}
 use Rattle.jtree.specs.Path.{member_at}

@@ -1,8 +1,7 @@
-use Rattle.std.proofs.Common.{◌≡◌, Some, None, sym, ap, subst, ◌∙◌}
+use Rattle.std.proofs.Common.{None, sym, ap, subst, ◌∙◌}
 use Rattle.jtree.specs.Data.{AreMembers}
 use Rattle.jtree.specs.Path.{member_at}
-use Rattle.jtree.specs.View.{data_of, members_of}
-use Rattle.jtree.specs.declared.value.Member.{Member}
+use Rattle.jtree.specs.View.{members_of}
 use Rattle.plan.specs.Pools.Along.{with_list}
 use Rattle.plan.proofs.ListAtLemmas.{removed, absent, list_sorted, there, nowhere}
 use Rattle.plan.proofs.list_at.without.Goals as goal

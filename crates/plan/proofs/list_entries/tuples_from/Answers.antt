@@ -1,4 +1,4 @@
-use Rattle.std.proofs.Common.{◌≡◌, true, false, refl, sym, ◌∙◌, inl, arith}
+use Rattle.std.proofs.Common.{◌≡◌, true, false, refl, sym, ◌∙◌, inl}
 use Rattle.plan.specs.Samples.Candidates.{HasCount}
 use Rattle.plan.proofs.ListEntryLemmas.{key_first, other_first}
 use Rattle.plan.proofs.list_entries.tuples_from.Goals as goal

@@ -2,12 +2,10 @@ use Rattle.std.proofs.Common.{◌≡◌, ◌<◌, ◌≤◌, ℕ, List, [], ◌�
 use Rattle.std.specs.Prelude.{is_some, option_map}
 use Rattle.std.proofs.lemmas.Result.{IfOk-weaker}
 use Rattle.jtree.specs.View.{data_of}
-use Rattle.schema.specs.Nodes.Node.{Node, node}
-use Rattle.schema.specs.Nodes.View.{node_of, sort_of as code_sort_of, object_of, map_of, list_of, validations_of}
+use Rattle.schema.specs.Nodes.View.{node_of, validations_of}
 use Rattle.explain.specs.Paths.FieldPath as step
 use Rattle.plan.specs.Pools.PathSteps.{path_of}
 use Rattle.plan.specs.Pools.Pools.{fixed_at}
-use Rattle.plan.specs.Samples.Site.{below}
 use Rattle.plan.specs.Internal.Values.{trees_of}
 use Rattle.plan.specs.Internal.Renewed.{IsRenewed, IsRowRemade, AreEndsOf}
 use Rattle.std.proofs.Common.{◌⊎◌, Bor}

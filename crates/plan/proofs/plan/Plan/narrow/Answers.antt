@@ -1,6 +1,6 @@
-use Rattle.std.proofs.Common.{◌≡◌, ◌++◌, [], refl, sym, ap, subst, ◌∙◌}
+use Rattle.std.proofs.Common.{◌≡◌, ◌++◌, [], refl, ap, subst, ◌∙◌}
 use Rattle.plan.specs.Pools.Pools.{Pools, with_paths}
-use Rattle.plan.specs.Pools.Along.{beginnings, narrowed, widened, with_lists, lists_of}
+use Rattle.plan.specs.Pools.Along.{beginnings, narrowed, widened, lists_of}
 use Rattle.plan.specs.Pools.PathSteps.{path_of}
 use Rattle.plan.specs.Samples.Question.{Question}
 use Rattle.plan.proofs.ListAtLemmas.{pools_back}
