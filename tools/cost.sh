@@ -412,7 +412,7 @@ for pools in pools-of-16000-places large-pools; do
 done
 within 'a sample of 1024 optional fields' 1 32768 sample "$folder/truths" v1 --large --limit 63 --count 1
 
-# `cover` makes a plan for each path that no line has yet
+# `cover` narrows one plan to each path that no line has yet
 python3 tools/large_schema.py 2021 117 >"$folder/2021-places"
 echo '{"integers":[1],"strings":["a"],"names":["k"]}' >"$folder/small-pools"
 ./crdx pools "$folder/2021-places" v1 --large >"$folder/pools-of-2021-places"
