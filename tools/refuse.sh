@@ -24,7 +24,8 @@ counts=()
 failures=0
 
 # row NAME PARTIAL STATUS OUT ERR WORD..
-#   PARTIAL: what may be on standard output at status 5: `nothing`, or `lines`, with which OUT begins
+#   PARTIAL: what may be on standard output at status 5: `nothing`, or `lines`, with which OUT begins; with `both`, lines with which ERR
+#     begins may be on standard error too, before `crdx: out of memory`
 #   STATUS, OUT, ERR: the row's own answer, the last two as files
 #   WORD..: the words after the program's name
 # Standard input is the file that the variable `input` names, where it is set before the row, and else empty.
@@ -57,11 +58,18 @@ is_own() {
 }
 
 is_out_of_memory() {
-    [ "$ended" -eq 5 ] && cmp -s "$folder/err" "$folder/no-memory" || return 1
+    [ "$ended" -eq 5 ] && tail -n 1 "$folder/err" | cmp -s - "$folder/no-memory" || return 1
+    head -n -1 "$folder/err" >"$folder/said"
     case $partial in
-        nothing) [ ! -s "$folder/out" ] ;;
-        lines) [ ! -s "$folder/out" ] || { cmp -s -n "$(stat -c %s "$folder/out")" "$folder/out" "$out" && [ -z "$(tail -c 1 "$folder/out")" ]; } ;;
+        nothing) [ ! -s "$folder/out" ] && [ ! -s "$folder/said" ] ;;
+        lines) is_beginning "$folder/out" "$out" && [ ! -s "$folder/said" ] ;;
+        both) is_beginning "$folder/out" "$out" && is_beginning "$folder/said" "$err" ;;
     esac
+}
+
+# is_beginning FILE WHOLE: whether the file has nothing, or whole lines with which the other one begins
+is_beginning() {
+    [ ! -s "$1" ] || { cmp -s -n "$(stat -c %s "$1")" "$1" "$2" && [ -z "$(tail -c 1 "$1")" ]; }
 }
 
 refusal() {
@@ -230,6 +238,7 @@ LINES
 { cat "$folder/stored.json" "$folder/completed" "$folder/stored.json"; } >"$folder/completed-lines"
 { sed 's/^/1: /' "$folder/leaves" && echo '2: L1' && sed 's/^/3: /' "$folder/leaves"; } >"$folder/line-leaves"
 { cat "$folder/object.json" "$folder/fraction.json" "$folder/object.json"; } >"$folder/broken-lines"
+{ cat "$folder/pruned" "$folder/pruned"; } >"$folder/pruned-beside"
 cat >"$folder/broken-line" <<'LINES'
 crdx: object: 2: J1
     found 1.50 at "/s/1"; allowed are integers of 64 bits
@@ -300,7 +309,7 @@ row 'validate of lines' lines 1 "$folder/line-faults" /dev/null validate "$folde
 input=$folder/stored-lines row 'default of lines of the standard input' lines 0 "$folder/completed-lines" /dev/null \
     default "$folder/crd.json" v1 --lines
 row 'leaves of lines' lines 1 "$folder/line-leaves" /dev/null leaves "$folder/crd.json" v1 "$folder/stored-lines" --lines
-row 'prune of a line that is no document, explained' lines 3 "$folder/pruned" "$folder/broken-line" \
+row 'prune of a line that is no document, explained' both 3 "$folder/pruned-beside" "$folder/broken-line" \
     prune "$folder/crd.json" v1 "$folder/broken-lines" --lines --why
 row 'cover of a map list' nothing 0 "$folder/covering" "$folder/covered" cover "$folder/map-list.json" v1 --pools "$folder/pools.json"
 row 'cover with missed paths, named' nothing 0 "$folder/covering-of-2-nodes" "$folder/missed" \

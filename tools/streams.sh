@@ -132,12 +132,14 @@ ended=0
     exec "$program" check /dev/zero v1 >"$folder/out" 2>"$folder/err"
 ) || ended=$?
 says 'a file without end' 3 'crdx: crd: J4'
+# a long line is passed over, and no more than a document of it is held
 ended=0
-(
-    ulimit -t 5
-    exec "$program" default "$widget/crd.json" v1 --lines /dev/zero >"$folder/out" 2>"$folder/err"
+{ head -c 100000000 /dev/zero && echo && cat "$issuer/object.default.json"; } | (
+    ulimit -t 5 -v 65536
+    exec "$program" default "$issuer/crd.json" v1 --lines >"$folder/out" 2>"$folder/err"
 ) || ended=$?
-says 'a line without end' 3 'crdx: object: 1: J4'
+says 'a long line' 3 'crdx: object: 1: J4'
+cmp -s "$folder/out" "$issuer/object.default.json" || stop 'the line after a long line has another answer than alone'
 
 # a folder as a definition, and a file that may not be read, by another user, since root may read all
 ended=0
