@@ -300,15 +300,16 @@ fn spaced_pools(alloc: Global, spaces: usize) -> Result<Output, Fail> {
 
 /// With its newline a document may be as long as one that is read, and no longer.
 fn try_longest(report: &mut Report, alloc: Global) -> Result<(), Fail> {
-    let beside = spaced_pools(alloc, 1)?.out.text().len() - 1;
-    let longest = spaced_pools(alloc, MOST_BYTES - beside)?;
+    let beside = spaced_pools(alloc, 1)?.out.text().len().saturating_sub(1);
+    let room = MOST_BYTES.saturating_sub(beside);
+    let longest = spaced_pools(alloc, room)?;
     report.is_number(
         "the length",
         longest.out.text().len() as u64,
         MOST_BYTES as u64,
     );
     report.is_number("the status", u64::from(longest.status), 0);
-    let longer = spaced_pools(alloc, MOST_BYTES - beside + 1)?;
+    let longer = spaced_pools(alloc, room.saturating_add(1))?;
     is_answer(report, &longer, "", "crdx: pools: P2\n", 3);
     Ok(())
 }
