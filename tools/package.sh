@@ -58,6 +58,7 @@ tree=$stage/$name root=$stage/root
 fill_tree() {
     install -D -m 755 "$program" "$tree/crdx"
     install -m 755 tools/{crdx-relax,kubectl-crdx,kubectl_complete-crdx} "$tree"
+    install -D -m 644 -t "$tree/crdx_plugin" tools/crdx_plugin/*.py
     install -D -m 644 -t "$tree/crdx_schemas" tools/crdx_schemas/*.py
     tools/manual.py "$program" "$tree"
     install -m 644 LICENSE CHANGELOG.md "$tree"
@@ -81,8 +82,8 @@ fill_root() {
     place 755 crdx-relax usr/bin/crdx-relax
     place 755 kubectl-crdx usr/bin/kubectl-crdx
     place 755 kubectl_complete-crdx usr/bin/kubectl_complete-crdx
-    for module in "$tree"/crdx_schemas/*; do
-        place 644 "crdx_schemas/${module##*/}" "usr/share/crdx/crdx_schemas/${module##*/}"
+    for module in "$tree"/crdx_{plugin,schemas}/*; do
+        place 644 "${module#"$tree/"}" "usr/share/crdx/${module#"$tree/"}"
     done
     place 644 crdx.1 usr/share/man/man1/crdx.1
     place 644 kubectl-crdx.1 usr/share/man/man1/kubectl-crdx.1

@@ -597,7 +597,8 @@ class Programs(Runs):
 
     def setUp(self):
         super().setUp()
-        shutil.copytree(PLUGIN.parent / "crdx_schemas", self.folder / "repository" / "tools" / "crdx_schemas")
+        for package in ["crdx_plugin", "crdx_schemas"]:
+            shutil.copytree(PLUGIN.parent / package, self.folder / "repository" / "tools" / package)
         self.plugin = self.copy("tools/kubectl-crdx")
         self.wrapper = self.copy("crdx")
         self.copy("crates.txt")

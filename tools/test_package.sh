@@ -27,7 +27,7 @@ unset "${!GIT_@}"
 program=crates/crdx_cli/out/crdx_cli
 copy=$folder/repository
 mkdir "$copy"
-cp --parents .gitignore LICENSE CHANGELOG.md tools/{package.sh,manual.py,crdx-relax,kubectl-crdx,kubectl_complete-crdx} tools/crdx_schemas/*.py "$program" "$copy"
+cp --parents .gitignore LICENSE CHANGELOG.md tools/{package.sh,manual.py,crdx-relax,kubectl-crdx,kubectl_complete-crdx} tools/crdx_{plugin,schemas}/*.py "$program" "$copy"
 commit() { git -C "$copy" -c core.hooksPath=/dev/null -c user.name=Test -c user.email=test@example.org commit -q --allow-empty -m "$1"; }
 git init -q "$copy"
 git -C "$copy" add .
@@ -69,8 +69,8 @@ CHANGELOG.md usr/share/doc/crdx/changelog.gz
 VERDICT usr/share/doc/crdx/VERDICT
 COMMIT usr/share/doc/crdx/COMMIT
 PLACES
-for module in tools/crdx_schemas/*.py; do
-    echo "crdx_schemas/${module##*/} usr/share/crdx/crdx_schemas/${module##*/}"
+for module in tools/crdx_{plugin,schemas}/*.py; do
+    echo "${module#tools/} usr/share/crdx/${module#tools/}"
 done >>"$places"
 while read -r ours debians; do
     zcat -f "$root/$debians" | cmp - "$tree/$ours" || stop "$debians is not $ours"
@@ -82,7 +82,7 @@ cut -d ' ' -f 2 "$places" | sort | diff - <(files_of "$root") || stop 'other fil
 # what is in them
 cmp "$tree/crdx" "$program"
 for tool in crdx-relax kubectl-crdx kubectl_complete-crdx; do cmp "$tree/$tool" "tools/$tool"; done
-for module in tools/crdx_schemas/*.py; do cmp "$tree/crdx_schemas/${module##*/}" "$module"; done
+for module in tools/crdx_{plugin,schemas}/*.py; do cmp "$tree/${module#tools/}" "$module"; done
 cmp "$tree/LICENSE" LICENSE
 [ "$(cat "$tree/COMMIT")" = "$(git -C "$copy" rev-parse HEAD)" ] || stop 'COMMIT names another commit'
 [ "$(tail -n 1 "$tree/VERDICT")" = "$(tail -n 1 "$log")" ] || stop 'VERDICT has another last line than the log'

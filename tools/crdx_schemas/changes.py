@@ -1,7 +1,11 @@
 """How a relaxed schema differs from the one that was written, in words."""
-from .documents import path_order, pointer, shown
+from __future__ import annotations
+
+from typing import Iterator
+
+from .documents import TreePath, path_order, pointer, shown
 from .keywords import BOUNDS, JUNCTORS, with_branches
-from .relaxing import without_idle_properties
+from .relaxing import Relaxed, without_idle_properties
 
 NO_IDLE = 'without "properties" that say nothing'
 
@@ -57,7 +61,7 @@ def changes(old, new, path=()):
             yield path, word, words
 
 
-def unjudged(schema):
+def unjudged(schema: Relaxed) -> Iterator[tuple[TreePath, str]]:
     """The path and the keyword of all that the relaxed schema lacks of what the other one asks. What only looks different is left out:
     what was set, a bound that is now an integer, and branches without `properties` that say nothing."""
     for path, word, words in changes(schema.before, schema.after):

@@ -1,22 +1,15 @@
 """CustomResourceDefinitions: their versions, and relaxing the schemas of these."""
-import dataclasses
+from __future__ import annotations
 
 from .changes import said, said_once
-from .documents import Refusal, has_decimal, path_order, pointer, shown
+from .documents import Json, Refusal, below, has_decimal, path_order, pointer, shown
 from .judging import still_refused
 from .keywords import broken_forms
-from .relaxing import relaxed
+from .relaxing import Relaxed, relaxed
 
 
 def is_name(value):
     return isinstance(value, str) and value != ""
-
-
-def below(tree, *names):
-    """What is at a path of names; None where there is nothing."""
-    for name in names:
-        tree = tree.get(name) if isinstance(tree, dict) else None
-    return tree
 
 
 def versions_of(document):
@@ -37,7 +30,7 @@ def versions_of(document):
     return versions
 
 
-def take_version(document, name):
+def take_version(document: Json, name: str) -> None:
     """Leaves this version alone in a definition."""
     versions = [version for version in versions_of(document) if version["name"] == name]
     if not versions:
@@ -45,15 +38,7 @@ def take_version(document, name):
     document["spec"]["versions"] = versions
 
 
-@dataclasses.dataclass
-class Relaxed:
-    """The schema of a version, as it was written and as it is now."""
-
-    before: dict
-    after: dict
-
-
-def relax_definition(document):
+def relax_definition(document: Json) -> dict[str, Relaxed]:
     """Relaxes the schema of each version in place, and answers these schemas by the names of the versions."""
     schemas = {}
     for version in versions_of(document):
@@ -70,7 +55,7 @@ def relax_definition(document):
     return schemas
 
 
-def relax_document(document):
+def relax_document(document: Json) -> tuple[dict[str, Relaxed], list[str]]:
     """Relaxes the schema of each version in place. Answers the schemas by the names of the versions, and the lines on them."""
     schemas = relax_definition(document)
     named = len(document["spec"]["versions"]) > 1

@@ -1,6 +1,6 @@
 """What crdx says of a relaxed schema: whether values are valid in it, and what it still refuses."""
 from .documents import path_order, pointer, shown
-from .keywords import LIST_KEYS, LIST_TYPE, PRESERVE, SCALARS, is_number, kind_of, places
+from .keywords import LIST_KEYS, LIST_TYPE, PRESERVE, SCALARS, Kind, Step, is_number, kind_of, places
 
 # ---- values
 
@@ -58,12 +58,12 @@ def has_repeats(schema, value):
 
 def parts_with_schemas(schema, value):
     """The parts of a value in a relaxed schema, each with its own schema: None for a member that is not declared."""
-    kind = kind_of(schema, "property")
-    if kind == "list" and isinstance(value, list):
+    kind = kind_of(schema, Step.PROPERTY)
+    if kind is Kind.LIST and isinstance(value, list):
         return [(schema["items"], part) for part in value]
-    if kind == "map" and isinstance(value, dict):
+    if kind is Kind.MAP and isinstance(value, dict):
         return [(schema["additionalProperties"], part) for part in value.values()]
-    if kind == "object" and isinstance(value, dict):
+    if kind is Kind.OBJECT and isinstance(value, dict):
         return [(schema.get("properties", {}).get(name), part) for name, part in value.items()]
     return []
 
@@ -75,24 +75,28 @@ def is_pruned(schema, value):
 
 def filled(schema, value):
     """A value with its defaults. A null that may not be there gives way to one, or goes."""
-    kind = kind_of(schema, "property")
-    if kind == "list" and isinstance(value, list):
+    kind = kind_of(schema, Step.PROPERTY)
+    if kind is Kind.LIST and isinstance(value, list):
         return [filled(schema["items"], part) for part in value]
-    if kind not in ("object", "map") or not isinstance(value, dict):
+    if kind not in (Kind.OBJECT, Kind.MAP) or not isinstance(value, dict):
         return value
-    fields = schema.get("properties", {}) if kind == "object" else dict.fromkeys(value, schema["additionalProperties"])
+    fields = schema.get("properties", {}) if kind is Kind.OBJECT else dict.fromkeys(value, schema["additionalProperties"])
     kept = {name: part for name, part in value.items() if part is not None or name not in fields or fields[name].get("nullable")}
     defaults = {name: field["default"] for name, field in fields.items() if "default" in field and name not in kept}
     return {name: filled(fields[name], part) if name in fields else part for name, part in {**kept, **defaults}.items()}
+
+
+# the types of the values of each kind of place, but for those that are open
+TYPES = {**SCALARS, Kind.OBJECT: (dict,), Kind.MAP: (dict,), Kind.LIST: (list,)}
 
 
 def is_valid(schema, value):
     """Whether a value is valid in a relaxed schema, as crdx judges it."""
     if value is None:
         return bool(schema.get("nullable"))
-    kind = kind_of(schema, "property")
+    kind = kind_of(schema, Step.PROPERTY)
     return (
-        (kind == "open" or type(value) in {**SCALARS, "object": (dict,), "map": (dict,), "list": (list,)}[kind])
+        (kind is Kind.OPEN or type(value) in TYPES[kind])
         and passes(schema, value, JUDGED)
         and not has_repeats(schema, value)
         and all(below is None or is_valid(below, part) for below, part in parts_with_schemas(schema, value))

@@ -1,9 +1,33 @@
 """The keywords of schemas: their forms, the kinds of places that they make, and the places below a place."""
 import decimal
+import enum
 
 INT_OR_STRING, PRESERVE = "x-kubernetes-int-or-string", "x-kubernetes-preserve-unknown-fields"
 LIST_TYPE, LIST_KEYS, MAP_TYPE = "x-kubernetes-list-type", "x-kubernetes-list-map-keys", "x-kubernetes-map-type"
 ENVELOPE = ("apiVersion", "kind", "metadata")
+
+
+class Kind(enum.Enum):
+    """The kinds of places. A place for any value is open."""
+
+    INTEGER = enum.auto()
+    STRING = enum.auto()
+    BOOLEAN = enum.auto()
+    INT_OR_STRING = enum.auto()
+    OBJECT = enum.auto()
+    MAP = enum.auto()
+    LIST = enum.auto()
+    OPEN = enum.auto()
+
+
+class Step(enum.Enum):
+    """How a place is reached: as the root, a property, an item of a list or a value of a map."""
+
+    ROOT = enum.auto()
+    PROPERTY = enum.auto()
+    ITEM = enum.auto()
+    VALUE = enum.auto()
+
 
 # the forms of keywords, as crdx asks them (S3)
 TEXTS = {"type", "description", "title", "format", LIST_TYPE, MAP_TYPE}
@@ -21,14 +45,15 @@ EVERYWHERE = {
 }
 OF_SCALARS = {"enum", "minimum", "maximum", "exclusiveMinimum", "exclusiveMaximum", "minLength", "maxLength"}
 OF_OBJECTS = {"required", "minProperties", "maxProperties"}
-SCALARS = {"integer": (int,), "string": (str,), "boolean": (bool,), "int-or-string": (int, str)}
+SCALARS = {Kind.INTEGER: (int,), Kind.STRING: (str,), Kind.BOOLEAN: (bool,), Kind.INT_OR_STRING: (int, str)}
 KEYWORDS = {
     **{kind: EVERYWHERE | OF_SCALARS for kind in SCALARS},
-    "object": EVERYWHERE | OF_OBJECTS | {"properties"},
-    "map": EVERYWHERE | OF_OBJECTS | {"additionalProperties"},
-    "list": EVERYWHERE | {"items", "minItems", "maxItems"},
-    "open": EVERYWHERE,
+    Kind.OBJECT: EVERYWHERE | OF_OBJECTS | {"properties"},
+    Kind.MAP: EVERYWHERE | OF_OBJECTS | {"additionalProperties"},
+    Kind.LIST: EVERYWHERE | {"items", "minItems", "maxItems"},
+    Kind.OPEN: EVERYWHERE,
 }
+KINDS_OF_TYPES = {"array": Kind.LIST, "integer": Kind.INTEGER, "string": Kind.STRING, "boolean": Kind.BOOLEAN}
 INT_OR_STRING_BRANCHES = [{"type": "integer"}, {"type": "string"}]
 ANY_VALUE = {PRESERVE: True, "nullable": True}
 
@@ -102,16 +127,16 @@ def has_values(schema):
 
 
 def kind_of(schema, step):
-    """The kind of place that a schema becomes. A place for any value is `open`."""
-    if step == "root":
-        return "object"
+    """The kind of place that a schema becomes."""
+    if step is Step.ROOT:
+        return Kind.OBJECT
     if "$ref" in schema or "patternProperties" in schema:
-        return "open"
+        return Kind.OPEN
     if schema.get(INT_OR_STRING):
-        return "int-or-string"
+        return Kind.INT_OR_STRING
     if schema.get("type") == "object":
-        return "map" if has_values(schema) and not schema.get("properties") else "object"
-    return {"array": "list", "integer": "integer", "string": "string", "boolean": "boolean"}.get(schema.get("type"), "open")
+        return Kind.MAP if has_values(schema) and not schema.get("properties") else Kind.OBJECT
+    return KINDS_OF_TYPES.get(schema.get("type"), Kind.OPEN)
 
 
 def places(schema, path=(), steps=0):

@@ -1,4 +1,6 @@
 """Values for the places of which crdx judges a part alone, for pools: they are valid in the schema as it was written."""
+from __future__ import annotations
+
 import datetime
 import decimal
 import ipaddress
@@ -6,10 +8,15 @@ import math
 import os
 import re
 import warnings
+from typing import Dict, List
 
-from .documents import GREATEST, LEAST, Refusal, has_decimal, in_text, is_small, parts, read, shown
+from .documents import GREATEST, LEAST, Json, Refusal, has_decimal, in_text, is_small, parts, read, shown
 from .judging import JUDGED, passes
-from .keywords import BOUNDS, ENVELOPE, branches_of, is_number, kind_of
+from .keywords import BOUNDS, ENVELOPE, Kind, Step, branches_of, is_number, kind_of
+from .relaxing import Relaxed
+
+# values, by the paths of the places that may have them
+Values = Dict[str, List[Json]]
 
 # the most values at a path, and the most paths: as many as crdx reads, and with --large
 MOST_VALUES, MOST_PATHS = 64, (64, 1024)
@@ -136,9 +143,9 @@ def nearby_integers(schema):
 
 def values_for(schema):
     """The values for a scalar or a number that its schema accepts as it was written, those that it names itself before common ones."""
-    kind = kind_of(schema, "property")
-    integers = nearby_integers(schema) if kind in ("integer", "int-or-string") or schema.get("type") == "number" else []
-    texts = COMMON_TEXTS if kind in ("string", "int-or-string") else []
+    kind = kind_of(schema, Step.PROPERTY)
+    integers = nearby_integers(schema) if kind in (Kind.INTEGER, Kind.INT_OR_STRING) or schema.get("type") == "number" else []
+    texts = COMMON_TEXTS if kind in (Kind.STRING, Kind.INT_OR_STRING) else []
     tried = dict.fromkeys([*own_values(schema), *integers, *texts])
     return [value for value in tried if fits(schema, value)][:MOST_VALUES]
 
@@ -153,7 +160,7 @@ def name_of_step(step):
     return step.replace("~3", "{").replace("~2", "[").replace("~1", "/").replace("~0", "~")
 
 
-def is_at_or_below(path, top):
+def is_at_or_below(path: str, top: str) -> bool:
     return path == top or path.startswith(f"{top}/")
 
 
@@ -170,20 +177,20 @@ def values_at(trees, path):
 
 def leaves(before, after, path=""):
     """The path of each scalar or open place of a relaxed schema, and its schema as it was written."""
-    kind = kind_of(after, "property")
-    if kind == "object":
+    kind = kind_of(after, Step.PROPERTY)
+    if kind is Kind.OBJECT:
         for name, field in after.get("properties", {}).items():
             if path or name not in ENVELOPE:
                 yield from leaves(before["properties"][name], field, f"{path}/{step_text(name)}")
-    elif kind in ("map", "list"):
-        word, step = ("additionalProperties", "/{}") if kind == "map" else ("items", "/[]")
+    elif kind in (Kind.MAP, Kind.LIST):
+        word, step = ("additionalProperties", "/{}") if kind is Kind.MAP else ("items", "/[]")
         if isinstance(before.get(word), dict):
             yield from leaves(before[word], after[word], path + step)
     else:
         yield path, before
 
 
-def pool_paths(schema):
+def pool_paths(schema: Relaxed) -> Values:
     """For each place of which crdx judges a part alone, the values that it may have, by its path. There may be none."""
     warnings.simplefilter("ignore")  # on patterns that Python may read otherwise one day
     return {path: values_for(before) for path, before in leaves(schema.before, schema.after) if is_judged_in_part(before)}
@@ -232,7 +239,7 @@ def without_repetitions(values):
     return list({shown(value): value for value in reversed(values)}.values())[::-1]  # by their texts, since true is 1 in Python
 
 
-def add_found_values(pools, found, trees, is_around):
+def add_found_values(pools: dict[str, Json], found: Values, trees: list[Json], is_around: bool) -> list[str]:
     """Writes two of the values found for each place into pools that crdx suggests, where the trees, which are objects, have none there; in
     pools around an object behind its own. Answers the lines on the places that have neither."""
     listed, lines = pools.get("paths", {}), []

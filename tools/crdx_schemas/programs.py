@@ -1,11 +1,14 @@
 """The streams of a program, and how it ends."""
+from __future__ import annotations
+
 import os
 import signal
+from typing import Callable, Iterable
 
 from .documents import Refusal
 
 
-def write(text):
+def write(text: str) -> None:
     """Writes to standard output. A reader that has gone away is not reported."""
     data = memoryview(text.encode("utf-8"))
     try:
@@ -17,7 +20,7 @@ def write(text):
         raise Refusal("write failed", 4) from None
 
 
-def say(name, lines):
+def say(name: str, lines: Iterable[str]) -> None:
     """Writes lines with the program's name to standard error. A failure of it is passed over."""
     data = memoryview("".join(f"{name}: {line}\n" for line in lines).encode("utf-8"))
     try:
@@ -27,7 +30,7 @@ def say(name, lines):
         pass
 
 
-def status_of(name, run):
+def status_of(name: str, run: Callable[[], int | None]) -> int:
     """Runs a program of this name and answers its status: the one that `run` answers, or that of a refusal."""
     signal.signal(signal.SIGINT, signal.SIG_DFL)
     try:

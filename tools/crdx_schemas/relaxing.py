@@ -1,11 +1,23 @@
 """The wider schema that crdx takes in place of another one. docs/RELAX.md says what is dropped and what is kept, and why."""
+from __future__ import annotations
+
+import dataclasses
 import decimal
 
-from .documents import GREATEST, LEAST, has_decimal, is_whole
+from .documents import GREATEST, LEAST, Json, has_decimal, is_whole
 from .keywords import (
     ANY_VALUE, ENVELOPE, INT_OR_STRING, INT_OR_STRING_BRANCHES, JUNCTORS, KEYWORDS, LENGTHS, LIST_KEYS, LIST_TYPE, MAP_TYPE,
-    OF_SCALARS, PRESERVE, SCALARS, branches_of, has_values, kind_of, with_branches,
+    OF_SCALARS, PRESERVE, SCALARS, Kind, Step, branches_of, has_values, kind_of, with_branches,
 )
+
+
+@dataclasses.dataclass
+class Relaxed:
+    """The schema of a version, as it was written and as it is now."""
+
+    before: dict[str, Json]
+    after: dict[str, Json]
+
 
 # ---- junctors
 
@@ -54,7 +66,7 @@ def relax_junctors(schema, takes):
 def relax_junctors_of_scalar(schema, kind):
     """Keeps what crdx takes, and the pattern which says that an int-or-string is an integer or a text."""
     pattern = []
-    if kind == "int-or-string":
+    if kind is Kind.INT_OR_STRING:
         if schema.get("anyOf") == INT_OR_STRING_BRANCHES:
             pattern += schema["anyOf"]
         if schema.get("allOf", [None])[0] == {"anyOf": INT_OR_STRING_BRANCHES}:
@@ -133,7 +145,7 @@ def relax_enum(schema, kind):
 
 
 def relax_scalar(schema, kind):
-    if kind == "int-or-string":
+    if kind is Kind.INT_OR_STRING:
         drop(schema, "type")
     relax_junctors_of_scalar(schema, kind)
     relax_bounds(schema, kind)
@@ -145,12 +157,12 @@ def relax_object(schema, before, path, step):
     junctors that ask for it go as well."""
     properties = before.get("properties", {})
     if "properties" in schema:
-        schema["properties"] = {name: relaxed(below, (*path, "properties", name), "property") for name, below in properties.items()}
+        schema["properties"] = {name: relaxed(below, (*path, "properties", name), Step.PROPERTY) for name, below in properties.items()}
     fields = schema.get("properties", {})
     lost = {name for name, below in fields.items() if "default" in properties[name] and "default" not in below}
     if lost:
         drop(schema, "minProperties")
-    envelope = set(ENVELOPE) if step == "root" else set()
+    envelope = set(ENVELOPE) if step is Step.ROOT else set()
     replace(schema, "required", [name for name in schema.get("required", []) if name in fields.keys() - lost | envelope])
     relax_junctors_of_object(schema, fields.keys() - lost - envelope)
     if (has_values(before) or before.get("x-kubernetes-embedded-resource")) and not schema.get(PRESERVE):
@@ -162,7 +174,7 @@ def relax_map(schema, path):
     drop(schema, *JUNCTORS)
     drop_set(schema, "required", PRESERVE)
     values = schema["additionalProperties"]
-    schema["additionalProperties"] = dict(ANY_VALUE) if values is True else relaxed(values, (*path, "additionalProperties"), "value")
+    schema["additionalProperties"] = dict(ANY_VALUE) if values is True else relaxed(values, (*path, "additionalProperties"), Step.VALUE)
 
 
 def relax_list(schema, path):
@@ -170,7 +182,7 @@ def relax_list(schema, path):
     if "items" not in schema or schema.get(PRESERVE):
         schema["items"] = dict(ANY_VALUE)
     else:
-        schema["items"] = relaxed(schema["items"], (*path, "items"), "item")
+        schema["items"] = relaxed(schema["items"], (*path, "items"), Step.ITEM)
     drop_set(schema, PRESERVE)
     kind = schema.get(LIST_TYPE)
     if kind not in ("set", "map") or not items_are_distinct(schema, kind):
@@ -180,7 +192,7 @@ def relax_list(schema, path):
 
 
 def is_plain_scalar(schema):
-    return kind_of(schema, "item") in SCALARS and not schema.get("nullable")
+    return kind_of(schema, Step.ITEM) in SCALARS and not schema.get("nullable")
 
 
 def items_are_distinct(schema, kind):
@@ -191,7 +203,7 @@ def items_are_distinct(schema, kind):
     keys, fields = schema.get(LIST_KEYS, []), items.get("properties", {})
     return (
         0 < len(keys) == len(set(keys))
-        and kind_of(items, "item") == "object"
+        and kind_of(items, Step.ITEM) is Kind.OBJECT
         and not items.get("nullable")
         and all(key in fields and is_plain_scalar(fields[key]) for key in keys)
         and all(key in items.get("required", []) or "default" in fields[key] for key in keys)
@@ -204,7 +216,7 @@ def relax_metadata(schema, path):
     kept["type"] = "object"
     if "properties" in kept:
         names = [name for name in kept["properties"] if name in ("name", "generateName")]
-        kept["properties"] = {name: relaxed(kept["properties"][name], (*path, "properties", name), "property") for name in names}
+        kept["properties"] = {name: relaxed(kept["properties"][name], (*path, "properties", name), Step.PROPERTY) for name in names}
     return kept
 
 
@@ -213,15 +225,14 @@ def relax_default(schema, path, step):
     if "default" not in schema:
         return
     is_envelope = len(path) >= 2 and path[0] == "properties" and path[1] in ENVELOPE
-    if step != "property" or is_envelope or has_decimal(schema["default"]):
+    if step is not Step.PROPERTY or is_envelope or has_decimal(schema["default"]):
         del schema["default"]
-        if step in ("item", "value"):
+        if step in (Step.ITEM, Step.VALUE):
             schema["nullable"] = True
 
 
-def relaxed(before, path=(), step="root"):
-    """The wider schema of a place, and of all below it, that crdx takes. The step is how the place is reached: `property`, `item` or
-    `value` (of a map); the schema that is passed in stays as it is."""
+def relaxed(before, path=(), step=Step.ROOT):
+    """The wider schema of a place, and of all below it, that crdx takes. The schema that is passed in stays as it is."""
     if path == ("properties", "metadata"):
         return relax_metadata(before, path)
     kind = kind_of(before, step)
@@ -230,9 +241,9 @@ def relaxed(before, path=(), step="root"):
         if has_decimal(schema[word]):
             del schema[word]
     drop_set(schema, "uniqueItems")
-    if kind != "list":
+    if kind is not Kind.LIST:
         drop(schema, LIST_TYPE, LIST_KEYS)
-    if kind not in ("object", "map") or schema.get(MAP_TYPE) not in ("granular", "atomic"):
+    if kind not in (Kind.OBJECT, Kind.MAP) or schema.get(MAP_TYPE) not in ("granular", "atomic"):
         drop(schema, MAP_TYPE)
     relax_default(schema, path, step)
     relax_kind(schema, before, path, step, kind)
@@ -243,13 +254,13 @@ def relax_kind(schema, before, path, step, kind):
     if kind in SCALARS:
         drop_set(schema, PRESERVE)
         relax_scalar(schema, kind)
-    elif kind == "object":
-        if step == "root":
+    elif kind is Kind.OBJECT:
+        if step is Step.ROOT:
             relax_root(schema, before)
         relax_object(schema, before, path, step)
-    elif kind == "map":
+    elif kind is Kind.MAP:
         relax_map(schema, path)
-    elif kind == "list":
+    elif kind is Kind.LIST:
         relax_list(schema, path)
     else:
         drop(schema, *JUNCTORS)

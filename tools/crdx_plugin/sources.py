@@ -1,11 +1,13 @@
 """Documents as Kubernetes has them: files of JSON or YAML with one or several, and definitions in a cluster."""
+from __future__ import annotations
+
 import dataclasses
 import json
 import re
 import shutil
 import subprocess
 
-from .documents import MOST_BYTES, Refusal, read_bytes
+from crdx_schemas.documents import MOST_BYTES, Json, Refusal, below, read_bytes
 
 MOST_BYTES_OF_FILE = 64 * MOST_BYTES
 WHITE_SPACE = re.compile(r"[ \t\r\n]*")
@@ -21,31 +23,45 @@ class Document:
     """A document: its text in JSON, as it was read where that is JSON already, and its tree."""
 
     text: str
-    tree: object
+    tree: Json
 
     @property
-    def kind(self):
-        return self.tree.get("kind") if isinstance(self.tree, dict) else None
+    def kind(self) -> Json:
+        return below(self.tree, "kind")
+
+    @property
+    def name(self) -> Json:
+        return below(self.tree, "metadata", "name")
+
+    @property
+    def is_definition(self) -> bool:
+        return self.kind == "CustomResourceDefinition"
 
 
-def split_json(text):
+def past_white_space(text: str, at: int) -> int:
+    found = WHITE_SPACE.match(text, at)
+    return found.end() if found else at
+
+
+def split_json(text: str) -> list[Document]:
     """The documents of JSON that follow one another in a text; a ValueError where something else is there."""
-    decoder, documents, at = json.JSONDecoder(), [], WHITE_SPACE.match(text).end()
+    decoder, documents, at = json.JSONDecoder(), [], past_white_space(text, 0)
     while at < len(text):
         tree, end = decoder.raw_decode(text, at)
         documents.append(Document(text[at:end], tree))
-        at = WHITE_SPACE.match(text, end).end()
+        at = past_white_space(text, end)
     return documents
 
 
-def items_of(document):
+def items_of(document: Document) -> list[Document]:
     """The items of a List, or else the document itself; none for an empty one."""
-    if isinstance(document.tree, dict) and str(document.kind).endswith("List") and isinstance(document.tree.get("items"), list):
-        return [Document(json.dumps(item), item) for item in document.tree["items"]]
+    items = below(document.tree, "items")
+    if str(document.kind).endswith("List") and isinstance(items, list):
+        return [Document(json.dumps(item), item) for item in items]
     return [] if document.tree is None else [document]
 
 
-def converter():
+def converter() -> list[str] | None:
     """The command that makes JSON of YAML here; None where there is none."""
     if shutil.which("kubectl"):
         return KUBECTL
@@ -55,7 +71,7 @@ def converter():
     return YQ_OF_FARAH if b"mikefarah" in version else YQ_OF_JQ
 
 
-def from_yaml(data, role):
+def from_yaml(data: bytes, role: str) -> list[Document]:
     """The documents of a text of YAML."""
     command = converter()
     if command is None:
@@ -67,7 +83,7 @@ def from_yaml(data, role):
     return split_json(ran.stdout.decode("utf-8"))
 
 
-def documents_in(file, role):
+def documents_in(file: str, role: str) -> list[Document]:
     """The documents in a file of JSON or YAML, or on the standard input for `-`."""
     data = read_bytes(file, role, MOST_BYTES_OF_FILE)
     try:
@@ -77,7 +93,7 @@ def documents_in(file, role):
     return [item for document in documents for item in items_of(document)]
 
 
-def definition_in_cluster(name, flags):
+def definition_in_cluster(name: str, flags: list[str]) -> Document:
     """The definition of this name; kubectl itself says why there is none."""
     if not shutil.which("kubectl"):
         raise Refusal("crd: read failed: there is no kubectl", 4)

@@ -1,0 +1,95 @@
+"""What crdx_schemas makes of a definition: the wider schema that crdx is given, what a cluster refuses and that hides, and values for pools."""
+from __future__ import annotations
+
+import collections
+import decimal
+import json
+import re
+import subprocess
+
+from crdx_schemas.changes import unjudged
+from crdx_schemas.definitions import relax_definition, relax_document, take_version
+from crdx_schemas.documents import Json, Refusal, definition_text, in_text, parse
+from crdx_schemas.pool_values import add_found_values, is_at_or_below, pool_paths
+from crdx_schemas.programs import say, write
+from crdx_schemas.relaxing import Relaxed
+
+from .arguments import Arguments
+from .crdx import ALWAYS, Crdx, in_memory
+from .inputs import check_inputs, counted, definition_of, inputs_of
+from .sources import Document
+from .texts import NAME
+
+
+def relaxed(definition: Document, version: str) -> tuple[str, Relaxed | None]:
+    """The text of a definition with this version alone, relaxed, and its schemas. Where it cannot be relaxed, the text stays as it is, and
+    crdx says why it refuses it."""
+    try:
+        document = parse(definition.text.encode("utf-8"))
+        take_version(document, version)
+        schema = relax_definition(document)[version]
+    except (Refusal, ValueError, RecursionError):
+        return definition.text, None
+    say(NAME, summary(schema))
+    return in_text(document), schema
+
+
+def summary(schema: Relaxed) -> list[str]:
+    """The line on what was relaxed, if anything was."""
+    lost = list(unjudged(schema))
+    if not lost:
+        return []
+    words = collections.Counter(word for _, word in lost)
+    numbers = ", ".join(f"{word} {number}" for word, number in sorted(words.items(), key=lambda item: (-item[1], item[0])))
+    where = counted(len({path for path, _ in lost}), "place")
+    are = "is" if len(lost) == 1 else "are"
+    return [f"{counted(len(lost), 'keyword')} at {where} {are} not judged: {numbers}; kubectl crdx relax shows them"]
+
+
+def without_fractions(tree: Json) -> Json:
+    """A tree with 0 for each number that crdx does not read, so that it can judge what else is there."""
+    if isinstance(tree, dict):
+        return {name: without_fractions(part) for name, part in tree.items()}
+    if isinstance(tree, list):
+        return [without_fractions(part) for part in tree]
+    return 0 if isinstance(tree, decimal.Decimal) else tree
+
+
+def hidden_rules(crdx: Crdx, definition: Document, version: str) -> list[str]:
+    """The lines on what the schema breaks as it was written of the rules that a cluster has too, V01 to V11 and V13; V14 is asked of the
+    relaxed schema."""
+    document = without_fractions(parse(definition.text.encode("utf-8")))
+    take_version(document, version)
+    with in_memory(in_text(document)) as crd:
+        said = crdx.run("check", "--large", crd, version, stdout=subprocess.PIPE, stderr=subprocess.DEVNULL)
+    return [f"as written, and a cluster refuses it too: {line}" for line in re.findall("^V(?:0.|1[013]) .*", said.stdout, re.M)]
+
+
+def values_of(words: list[str], option: str) -> list[str]:
+    return [value for name, _, value in (word.partition("=") for word in words) if name == option]
+
+
+def suggested_pools(crdx: Crdx, words: list[str], schema: Relaxed | None, objects: list[Document]) -> str:
+    """The pools that crdx suggests, with two values for each place of which it judges a part alone, but for places that do not vary."""
+    pools = json.loads(crdx.said("pools", *ALWAYS, *words))
+    varied, never = values_of(words, "--vary"), values_of(words, "--without")
+    found = {path: values for path, values in (pool_paths(schema) if schema else {}).items()
+             if not varied or any(is_at_or_below(path, top) for top in varied)}
+    found = {path: values for path, values in found.items() if not any(is_at_or_below(path, top) for top in never)}
+    say(NAME, add_found_values(pools, found, [one.tree for one in objects], bool(varied)))
+    return in_text(pools) + "\n"
+
+
+def relax(asked: Arguments) -> None:
+    """Prints a relaxed definition, of one version where that is named, and says what was changed."""
+    check_inputs(asked.files)
+    definition = definition_of(asked, inputs_of(asked))
+    try:
+        document = parse(definition.text.encode("utf-8"))
+    except (ValueError, RecursionError):
+        raise Refusal("crd: J3", 3) from None
+    if asked.words:
+        take_version(document, asked.words[0])
+    _, lines = relax_document(document)
+    write(definition_text(document))
+    say(NAME, lines)
