@@ -8,6 +8,8 @@ crate that fails ends the build, with status 70, and the others are stopped.
 A run of rt keeps others out of the folders of its crate and of all that this depends on. So a crate beside others is built in a copy of these
 folders, out/build/CRATE.tree, whose files are links to theirs, and what it has built is moved back.
 """
+from __future__ import annotations
+
 import contextlib
 import os
 import re
@@ -36,14 +38,14 @@ class Interrupted(Exception):
     """A signal, whose number this has, ends the build."""
 
 
-def link_or_copy(source, target):
+def link_or_copy(source: str, target: str) -> None:
     try:
         os.link(source, target)
     except OSError:  # a file system without such links
         shutil.copy2(source, target)
 
 
-def copy_of(crates):
+def copy_of(crates: list[str]) -> Path:
     """Copies the folders of crates, of which the last one is to be built: what rt keeps of the others' checks is left out."""
     tree = LOGS / f"{crates[-1]}.tree"
     for crate in crates:
@@ -51,7 +53,7 @@ def copy_of(crates):
         ignored = shutil.ignore_patterns(*left_out)
         shutil.copytree(ROOT / "crates" / crate, tree / "crates" / crate, ignore=ignored, copy_function=link_or_copy)
     lines = (ROOT / "crates.txt").read_text(encoding="utf-8").splitlines(keepends=True)
-    kept = [line for line in lines if re.match(r"\s*(\w*)", line)[1] in crates]
+    kept = [line for line in lines if re.findall(r"^\s*(\w*)", line)[0] in crates]
     (tree / "crates.txt").write_text("".join(kept), encoding="utf-8")
     return tree
 
@@ -59,28 +61,28 @@ def copy_of(crates):
 class Check:
     """A crate that is being proved and built by so many jobs, in its folder or in a copy, with the crates that it depends on."""
 
-    def __init__(self, crate, below, jobs, is_copied):
+    def __init__(self, crate: str, below: list[str], jobs: int, is_copied: bool) -> None:
         self.crate, self.jobs, self.began = crate, jobs, time.monotonic()
         self.log = LOGS / f"{crate}.log"
         self.tree = copy_of([*below, crate]) if is_copied else ROOT
         # a program is built by running it
         words = ["run", "--jobs", str(jobs), "--", "--version"] if crate == PROGRAM else ["lib", "--jobs", str(jobs)]
         with open(self.log, "wb") as log:
-            how = {"stdin": subprocess.DEVNULL, "stdout": log, "stderr": subprocess.STDOUT, "start_new_session": True}
-            self.process = subprocess.Popen(["rt", *words], cwd=self.tree / "crates" / crate, **how)
+            self.process = subprocess.Popen(["rt", *words], cwd=self.tree / "crates" / crate, stdin=subprocess.DEVNULL, stdout=log,
+                                            stderr=subprocess.STDOUT, start_new_session=True)
 
-    def duration(self):
+    def duration(self) -> str:
         minutes, seconds = divmod(round(time.monotonic() - self.began), 60)
         return f"{minutes} min {seconds:02} s" if minutes else f"{seconds} s"
 
-    def stop(self):
+    def stop(self) -> None:
         """Stops it and all that it has started; what it has proved so far is kept."""
         with contextlib.suppress(ProcessLookupError):
             os.killpg(self.process.pid, signal.SIGTERM)
         self.process.wait()
         self.take_back()
 
-    def take_back(self):
+    def take_back(self) -> None:
         """Moves what was built from a copy to the crate's folder."""
         out = self.tree / "crates" / self.crate / "out"
         if self.tree != ROOT:
@@ -93,20 +95,22 @@ class Check:
 class Build:
     """The crates, each with those that it depends on, and how far their build is."""
 
-    def __init__(self, below, jobs):
+    def __init__(self, below: dict[str, set[str]], jobs: int) -> None:
         self.below, self.jobs = below, jobs
-        self.running, self.built, self.signals = [], set(), []
+        self.running: list[Check] = []
+        self.built: set[str] = set()
+        self.signals: list[int] = []
 
-    def ready(self):
+    def ready(self) -> list[str]:
         begun = self.built | {check.crate for check in self.running}
         return [crate for crate, below in self.below.items() if crate not in begun and below <= self.built]
 
-    def all_below(self, crate):
+    def all_below(self, crate: str) -> list[str]:
         """The crates that one depends on, also by way of others."""
         below = set(self.below[crate])
         return sorted(below.union(*map(self.all_below, below)))
 
-    def start(self):
+    def start(self) -> None:
         """Starts the crates that are ready, as far as there are jobs, which they share."""
         ready = self.ready()
         free = self.jobs - sum(check.jobs for check in self.running)
@@ -118,7 +122,7 @@ class Build:
                 self.running.append(Check(crate, self.all_below(crate), jobs, is_copied))
                 free -= jobs
 
-    def end(self, check):
+    def end(self, check: Check) -> None:
         self.running.remove(check)
         check.take_back()
         if check.process.returncode != 0:
@@ -128,7 +132,7 @@ class Build:
         self.built.add(check.crate)
         say("crdx", [f"{check.crate} took {check.duration()}"])
 
-    def step(self):
+    def step(self) -> None:
         """Starts what is ready, and takes note of what has ended."""
         if self.signals:
             raise Interrupted(self.signals[0])
@@ -138,7 +142,7 @@ class Build:
         for check in [check for check in self.running if check.process.poll() is not None]:
             self.end(check)
 
-    def run(self):
+    def run(self) -> None:
         """Builds all crates."""
         for number in (signal.SIGINT, signal.SIGTERM, signal.SIGHUP):
             signal.signal(number, lambda number, _: self.signals.append(number))
@@ -153,7 +157,7 @@ class Build:
                 check.stop()
 
 
-def main(crates):
+def main(crates: list[str]) -> None:
     names = {crate.split()[0] for crate in crates}
     below = {crate.split()[0]: set(crate.split()[1:]) & names for crate in crates}
     jobs = int(subprocess.run([ROOT / "tools" / "jobs.sh"], stdout=subprocess.PIPE, check=True).stdout)
@@ -161,7 +165,7 @@ def main(crates):
     try:
         Build(below, jobs).run()
     except Failure as failure:
-        say("crdx", [failure])
+        say("crdx", [str(failure)])
         sys.exit(70)
     except Interrupted as interrupt:
         # by the same signal, as a shell expects of a program

@@ -5,7 +5,10 @@ Usage: tools/manual.py PROGRAM FOLDER
 Writes crdx.1, kubectl-crdx.1, completions/crdx.bash, completions/_crdx and completions/crdx.fish below FOLDER. The pages have the date
 that the variable SOURCE_DATE_EPOCH gives in seconds, or else today's.
 """
+from __future__ import annotations
+
 import dataclasses
+import enum
 import os
 import re
 import subprocess
@@ -13,11 +16,25 @@ import sys
 import textwrap
 import time
 from pathlib import Path
+from typing import Dict, Iterable, Iterator, List, Tuple
 
 MADE = "made by tools/manual.py from what `crdx --help` says"
 PLUGIN = Path(__file__).resolve().parent / "kubectl-crdx"
 
+# a paragraph, which may be empty, and the indented lines below it
+Block = Tuple[str, List[str]]
+# the lines of a man page, by the titles of its sections
+Sections = Dict[str, List[str]]
+
 # The help
+
+
+class Value(enum.Enum):
+    """What an argument or the value of an option is."""
+
+    FILE = "file"
+    COMMAND = "command"
+    OTHER = "value"
 
 
 @dataclasses.dataclass
@@ -25,28 +42,27 @@ class Entry:
     """A command, an argument or an option: its head, as `--pools <FILE>`, and the paragraphs on it."""
 
     head: str
-    paragraphs: list
+    paragraphs: list[str]
 
     @property
-    def text(self):
+    def text(self) -> str:
         return " ".join(self.paragraphs)
 
     @property
-    def flags(self):
+    def flags(self) -> list[str]:
         return re.findall(r"(?<!\S)-[\w-]+", self.head)
 
     @property
-    def value(self):
+    def value(self) -> str | None:
         """The name of an argument, or of what an option takes, if it takes anything."""
         found = re.search(r"[<\[]([\w-]+)", self.head)
-        return found and found[1]
+        return found[1] if found else None
 
     @property
-    def kind(self):
-        """What the value is: a `file`, a `command`, or any other `value`."""
+    def kind(self) -> Value:
         if self.value == "COMMAND":
-            return "command"
-        return "file" if self.value == "FILE" or self.text.startswith("A JSON file") else "value"
+            return Value.COMMAND
+        return Value.FILE if self.value == "FILE" or self.text.startswith("A JSON file") else Value.OTHER
 
 
 @dataclasses.dataclass
@@ -55,29 +71,31 @@ class Help:
 
     description: str
     usage: str
-    commands: list
-    arguments: list
-    options: list
+    commands: list[Entry]
+    arguments: list[Entry]
+    options: list[Entry]
     end: str
 
 
-def read_help(text):
-    description, usage, rest = re.fullmatch(r"(.*?)\n\nUsage: (.*?)\n(.*)", text, re.S).groups()
-    sections = {"Commands:": [], "Arguments:": [], "Options:": []}
+def read_help(text: str) -> Help:
+    description, _, rest = text.partition("\n\nUsage: ")
+    usage, _, rest = rest.partition("\n")
+    sections: Sections = {"Commands:": [], "Arguments:": [], "Options:": []}
     lines = rest.splitlines()
-    section = []
+    section: list[str] = []
     while lines and (lines[0] in sections or not lines[0] or lines[0].startswith(" ")):
         line = lines.pop(0)
         if line in sections:
             section = sections[line]
         else:
             section.append(line)
-    return Help(description, usage, *map(entries_of, sections.values()), "\n".join(lines))
+    commands, arguments, options = map(entries_of, sections.values())
+    return Help(description, usage, commands, arguments, options, "\n".join(lines))
 
 
-def entries_of(lines):
+def entries_of(lines: list[str]) -> list[Entry]:
     """The entries of indented lines. One begins at two spaces, or at six where it is a long option; its text is further in."""
-    entries = []
+    entries: list[Entry] = []
     for line in lines:
         if re.match(r"  (    --|\S)", line):
             head, _, text = line.strip().partition("  ")
@@ -89,7 +107,7 @@ def entries_of(lines):
     return entries
 
 
-def add_line(paragraphs, line):
+def add_line(paragraphs: list[str], line: str) -> None:
     """A blank line ends a paragraph; any other goes on with it."""
     if line:
         paragraphs[-1] = f"{paragraphs[-1]} {line}".strip()
@@ -100,7 +118,7 @@ def add_line(paragraphs, line):
 class Program:
     """What a program says of itself: its version, its help, and the long and the short help of each command."""
 
-    def __init__(self, path):
+    def __init__(self, path: str) -> None:
         self.path = path
         self.version = self.said("--version").split()[1]
         self.help = read_help(self.said("--help"))
@@ -108,10 +126,10 @@ class Program:
         self.long = {name: self.help_of(name, "--help") for name in self.names}
         self.short = {name: self.help_of(name, "-h") for name in self.names}
 
-    def said(self, *words):
+    def said(self, *words: str) -> str:
         return subprocess.run([self.path, *words], stdout=subprocess.PIPE, encoding="utf-8", check=True).stdout
 
-    def help_of(self, name, flag):
+    def help_of(self, name: str, flag: str) -> Help:
         # the command `help` takes no options, these neither
         return read_help(self.said(*(["help", "help"] if name == "help" else [name, flag])))
 
@@ -119,7 +137,7 @@ class Program:
 # The man pages
 
 
-def man_page(program):
+def man_page(program: Program) -> str:
     sections = {
         "SYNOPSIS": usages(program),
         "DESCRIPTION": description(program.help),
@@ -131,7 +149,7 @@ def man_page(program):
     return page("crdx", program, program.help, sections)
 
 
-def man_page_of_plugin(program):
+def man_page_of_plugin(program: Program) -> str:
     said = read_help(subprocess.run([PLUGIN, "--help"], stdout=subprocess.PIPE, encoding="utf-8", check=True).stdout)
     end = ending(said.end)
     sections = {
@@ -145,11 +163,11 @@ def man_page_of_plugin(program):
     return page("kubectl-crdx", program, said, sections)
 
 
-def description(said):
+def description(said: Help) -> list[str]:
     return prose(list(blocks_of(said.description))[1:])
 
 
-def page(name, program, said, sections):
+def page(name: str, program: Program, said: Help, sections: Sections) -> str:
     """A page whose name is explained by the first line of a help."""
     about = said.description.splitlines()[0]
     date = time.strftime("%Y-%m-%d", time.gmtime(int(os.environ.get("SOURCE_DATE_EPOCH", time.time()))))
@@ -165,12 +183,12 @@ def page(name, program, said, sections):
 SEE_ALSO = "`crdx-relax --help` tells how to make a wider schema, which crdx accepts, of one that it rejects. kubectl-crdx(1) does so itself."
 
 
-def usages(program):
+def usages(program: Program) -> list[str]:
     first, *others = [styled(it.usage) for it in program.long.values()]
     return [first, *[line for it in others for line in (".br", it)]]
 
 
-def command(said):
+def command(said: Help) -> list[str]:
     title = re.sub(r"[<>]", "", said.usage)
     return [
         f".SS {escaped(title)}",
@@ -181,9 +199,12 @@ def command(said):
     ]
 
 
-def ending(end):
+def ending(end: str) -> Sections:
     """The sections made of the end of a help. A table of codes has a heading of its own, after what is said of all."""
-    status, codes, tables, examples = [], [], [], []
+    status: list[str] = []
+    codes: list[str] = []
+    tables: list[str] = []
+    examples: list[str] = []
     for text, indented in blocks_of(end):
         if text.startswith("Exit status"):
             status += prose([("", indented)])
@@ -196,15 +217,15 @@ def ending(end):
     return {"EXIT STATUS": status, "CODES": [*codes, *tables], "EXAMPLES": examples}
 
 
-def blocks_of(text):
+def blocks_of(text: str) -> Iterator[Block]:
     """What is between blank lines: a paragraph, which may be empty, and the indented lines that follow it at once."""
     for block in re.split(r"\n\n+", text.strip("\n")):
         lines = block.splitlines()
         yield " ".join(it for it in lines if it[0] != " "), [it for it in lines if it[0] == " "]
 
 
-def prose(blocks):
-    lines = []
+def prose(blocks: Iterable[Block]) -> list[str]:
+    lines: list[str] = []
     for text, indented in blocks:
         lines += [".PP", *filled(text)] if text else []
         if indented and re.match(r"  \S+  +\S", indented[0]):
@@ -214,15 +235,15 @@ def prose(blocks):
     return lines
 
 
-def entries(found):
-    lines = []
+def entries(found: list[Entry]) -> list[str]:
+    lines: list[str] = []
     for it in found:
         first, *others = it.paragraphs
         lines += [".TP", styled(it.head), *filled(first), *[line for text in others for line in (".IP", *filled(text))]]
     return lines
 
 
-def styled(text):
+def styled(text: str) -> str:
     """A head or a usage: the names of values in italics, all else in bold."""
     words = []
     for word in text.split():
@@ -231,11 +252,11 @@ def styled(text):
     return " ".join(words)
 
 
-def filled(text):
+def filled(text: str) -> list[str]:
     return textwrap.wrap(escaped(text), 78, break_long_words=False, break_on_hyphens=False)
 
 
-def escaped(text):
+def escaped(text: str) -> str:
     """A text in roff, with what is between backquotes in bold. The program is on the path, and not in the current folder."""
     text = text.replace("./crdx", "crdx").replace("\\", r"\(rs")
     for sign, name in {"-": r"\-", "'": r"\(aq", '"': r"\(dq", "^": r"\(ha", "~": r"\(ti"}.items():
@@ -248,11 +269,11 @@ def escaped(text):
 # The completions
 
 
-def bash(program):
+def bash(program: Program) -> str:
     options = {"crdx": program.help.options, **{name: it.options for name, it in program.short.items()}}
     kinds = [
-        *[f'["{name} {number}"]={it.kind}' for name in program.names for number, it in enumerate(program.short[name].arguments, 1)],
-        *[f'["{name} {flag}"]={it.kind}' for name in program.names for it in program.short[name].options if it.value for flag in it.flags],
+        *[f'["{name} {number}"]={it.kind.value}' for name in program.names for number, it in enumerate(program.short[name].arguments, 1)],
+        *[f'["{name} {flag}"]={it.kind.value}' for name in program.names for it in program.short[name].options if it.value for flag in it.flags],
     ]
     return f"""\
 # Completion of crdx in bash, {MADE}.
@@ -268,7 +289,7 @@ declare -gA _crdx_kinds=(
 {BASH}"""
 
 
-def join(lines):
+def join(lines: Iterable[str]) -> str:
     return "\n    ".join(lines)
 
 
@@ -307,11 +328,11 @@ complete -F _crdx crdx
 """
 
 
-def zsh(program):
-    def arguments(flags, specs, indent):
+def zsh(program: Program) -> str:
+    def arguments(flags: str, specs: Iterable[str], indent: int) -> str:
         return f" \\\n{' ' * indent}".join([f"_arguments{flags}", *map(quoted, specs)])
 
-    def case(name):
+    def case(name: str) -> str:
         return f"            {name})\n                {arguments('', zsh_specs(program.short[name]), 20)}\n                ;;"
 
     top = [*zsh_specs(program.help), "1:command:->command", "*::argument:->argument"]
@@ -340,10 +361,10 @@ esac
 """
 
 
-ZSH_ACTIONS = {"file": "_files", "command": "{_describe -t commands command commands}", "value": " "}
+ZSH_ACTIONS = {Value.FILE: "_files", Value.COMMAND: "{_describe -t commands command commands}", Value.OTHER: " "}
 
 
-def zsh_specs(said):
+def zsh_specs(said: Help) -> Iterator[str]:
     """The options and the arguments as `_arguments` takes them; an option is offered once, whichever of its forms was typed."""
     for it in said.options:
         text = re.sub(r"([\\\[\]])", r"\\\1", it.text)
@@ -354,12 +375,12 @@ def zsh_specs(said):
         yield f"{number}:{it.value}:{ZSH_ACTIONS[it.kind]}"
 
 
-def quoted(text):
+def quoted(text: str) -> str:
     """A text between single quotes, for bash and zsh."""
     return "'" + text.replace("'", r"'\''") + "'"
 
 
-def fish(program):
+def fish(program: Program) -> str:
     names = " ".join(program.names)
     lines = [f"complete -c crdx -n __fish_use_subcommand {it}" for it in fish_options(program.help)]
     lines += [f"complete -c crdx -n __fish_use_subcommand -a {it.head} -d {fish_quoted(it.text)}" for it in program.help.commands]
@@ -368,7 +389,7 @@ def fish(program):
         lines += [f"complete -c crdx -n '__fish_seen_subcommand_from {name}' {it}" for it in fish_options(said)]
         valued = "".join(f" {flag}" for it in said.options if it.value for flag in it.flags)
         for number, it in enumerate(said.arguments, 1):
-            takes = {"file": " -F", "command": f" -a '{names}'", "value": ""}[it.kind]
+            takes = {Value.FILE: " -F", Value.COMMAND: f" -a '{names}'", Value.OTHER: ""}[it.kind]
             if takes:
                 lines.append(f"complete -c crdx -n '__crdx_is_at {name} {number}{valued}'{takes} -d {fish_quoted(it.text)}")
     return f"# Completion of crdx in fish, {MADE}.\n{FISH}" + "\n".join(lines) + "\n"
@@ -397,19 +418,19 @@ complete -c crdx -f
 """
 
 
-def fish_options(said):
+def fish_options(said: Help) -> Iterator[str]:
     for it in said.options:
         flags = " ".join(f"-l {flag[2:]}" if flag.startswith("--") else f"-s {flag[1:]}" for flag in it.flags)
-        takes = {"file": " -r -F", "value": " -x"}[it.kind] if it.value else ""
+        takes = {Value.FILE: " -r -F", Value.OTHER: " -x"}[it.kind] if it.value else ""
         yield f"{flags}{takes} -d {fish_quoted(it.text)}"
 
 
-def fish_quoted(text):
+def fish_quoted(text: str) -> str:
     return "'" + re.sub(r"(['\\])", r"\\\1", text) + "'"
 
 
-def main(program, folder):
-    program = Program(program)
+def main(path: str, folder: str) -> None:
+    program = Program(path)
     completions = Path(folder) / "completions"
     completions.mkdir(parents=True, exist_ok=True)
     (Path(folder) / "crdx.1").write_text(man_page(program), "utf-8")

@@ -1,5 +1,5 @@
 //! A plain enumerator of four fixed shapes, without contracts. It writes the lines that `crdx sample` writes for them: each object
-//! once, by the number of its nodes and then in the tree order. tools/cost.sh measures crdx against it.
+//! once, by the number of its nodes and then in the tree order. tools/cost.py measures crdx against it.
 //!
 //! Usage: `plain SHAPE COUNT`, which writes the first COUNT lines of a shape:
 //!

@@ -1,5 +1,6 @@
 #!/usr/bin/env python3
 """Tests that the code at the head of each library crate is in crates/crdx_tests/src/examples.rt, white space aside."""
+from __future__ import annotations
 
 import pathlib
 import re
@@ -9,12 +10,12 @@ ROOT = pathlib.Path(__file__).resolve().parent.parent
 TESTS = {"crdx_cli", "crdx_tests"}
 
 
-def plain(text):
+def plain(text: str) -> str:
     """The text without white space, and without the commas that a formatter adds before a closing bracket."""
     return re.sub(r",(?=[)\]}])", "", re.sub(r"\s+", "", text))
 
 
-def main():
+def main() -> None:
     tested = plain((ROOT / "crates/crdx_tests/src/examples.rt").read_text())
     for root in sorted(ROOT.glob("crates/*/src/lib.rt")):
         crate = root.parent.parent.name

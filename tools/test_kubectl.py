@@ -6,6 +6,8 @@ are converted by the real one, or by the real yq, without a cluster, and these t
 `Answers` run crdx: the wrapper ./crdx, or another program that the variable CRDX names. The others run a program of these tests in its
 place, which prints what it is given.
 """
+from __future__ import annotations
+
 import json
 import os
 import pty
@@ -16,6 +18,13 @@ import tempfile
 import textwrap
 import unittest
 from pathlib import Path
+from typing import Callable, List, Mapping, Sequence, Tuple, TypeVar
+
+# an object of JSON, and a run: the status, and what is on standard output and standard error
+Tree = Mapping[str, object]
+Ran = Tuple[int, str, str]
+Words = List[str]
+Case = TypeVar("Case", bound=unittest.TestCase)
 
 ROOT = Path(__file__).resolve().parent.parent
 PLUGIN = ROOT / "tools" / "kubectl-crdx"
@@ -72,25 +81,25 @@ print(open(here + "/widgets.json").read())
 """
 
 
-def definition(*schemas, name="widgets.example.org", storage=1):
-    """A definition with a version v1, v2 and so on for each schema."""
+def definition(*schemas: Tree, name: str = "widgets.example.org", kind: str = "Widget", storage: Sequence[int] = (1,)) -> Tree:
+    """A definition with a version v1, v2 and so on for each schema; those of these numbers are storage versions."""
     versions = [
-        {"name": f"v{number}", "served": True, "storage": number == storage, "schema": {"openAPIV3Schema": schema}}
+        {"name": f"v{number}", "served": True, "storage": number in storage, "schema": {"openAPIV3Schema": schema}}
         for number, schema in enumerate(schemas, 1)
     ]
-    spec = {"group": "example.org", "names": {"kind": "Widget", "plural": "widgets"}, "scope": "Namespaced", "versions": versions}
+    spec = {"group": "example.org", "names": {"kind": kind, "plural": "widgets"}, "scope": "Namespaced", "versions": versions}
     return {"apiVersion": "apiextensions.k8s.io/v1", "kind": "CustomResourceDefinition", "metadata": {"name": name}, "spec": spec}
 
 
-def with_field(schema):
+def with_field(schema: Tree) -> Tree:
     return {"type": "object", "properties": {"x": schema}}
 
 
-def widget(value, version="v1", name="a"):
+def widget(value: object, version: str = "v1", name: str = "a") -> Tree:
     return {"apiVersion": f"example.org/{version}", "kind": "Widget", "metadata": {"name": name}, "x": value}
 
 
-def lines(*texts):
+def lines(*texts: str) -> str:
     return "".join(f"kubectl-crdx: {text}\n" for text in texts)
 
 
@@ -99,7 +108,7 @@ for missing in MISSING:
     print(f"test_kubectl.py: no {missing} here, so what needs it is not tested")
 
 
-def needs(*programs):
+def needs(*programs: str) -> Callable[[Callable[[Case], None]], Callable[[Case], None]]:
     """Leaves a test out where a program is not installed."""
     return unittest.skipIf(set(programs) & set(MISSING), "a program is not installed")
 
@@ -113,45 +122,48 @@ ALWAYS = ["--large", "--why"]
 class Runs(unittest.TestCase):
     """Runs of the plugin in a folder of its own, with fakes of crdx and kubectl."""
 
-    def setUp(self):
+    def setUp(self) -> None:
         folder = tempfile.TemporaryDirectory()
         self.addCleanup(folder.cleanup)
         self.folder = Path(folder.name)
         self.program("crdx", CRDX)
 
-    def program(self, name, text):
+    def program(self, name: str, text: str) -> None:
         (self.folder / "bin").mkdir(exist_ok=True)
         file = self.folder / "bin" / name
         file.write_text(text, encoding="utf-8")
         file.chmod(0o755)
 
-    def file(self, name, *documents):
+    def file(self, name: str, *documents: str | Tree) -> None:
         """A file of these documents, each a text or a tree, one behind another."""
         texts = [one if isinstance(one, str) else json.dumps(one) + "\n" for one in documents]
         (self.folder / name).write_text("".join(texts), encoding="utf-8")
 
-    def environment(self, path=None, **variables):
+    def environment(self, path: str | None = None, **variables: str | None) -> dict[str, str]:
         """The variables, without those that are None."""
         path = f"{self.folder / 'bin'}:{os.environ['PATH'] if path is None else path}"
         variables = {**os.environ, "CRDX": str(self.folder / "bin" / "crdx"), **variables, "PATH": path}
         return {name: value for name, value in variables.items() if value is not None}
 
-    def run_plugin(self, *words, text="", path=None, plugin=PLUGIN, **variables):
-        """The status, and what is on standard output and standard error."""
+    def run_plugin(self, *words: str, text: str = "", path: str | None = None, plugin: Path | str = PLUGIN, **variables: str | None) -> Ran:
         ran = subprocess.run([sys.executable, plugin, *words], input=text, capture_output=True, encoding="utf-8", cwd=self.folder,
                              env=self.environment(path, **variables), check=False)
         return ran.returncode, ran.stdout, ran.stderr
 
-    def given(self, *words, said=(STORAGE,), **how):
-        """What crdx is given, as words and texts of files."""
-        status, out, err = self.run_plugin(*words, **how)
+    def all_given(self, *words: str, said: Sequence[str] = (STORAGE,), text: str = "", path: str | None = None, **variables: str) -> list[Words]:
+        """What crdx is given in each of its runs, as words and texts of files."""
+        status, out, err = self.run_plugin(*words, text=text, path=path, **variables)
         self.assertEqual((status, err), (0, lines(*said)))
-        calls = [json.loads(line) for line in out.splitlines()]
-        return calls[0] if len(calls) == 1 else calls
+        return [json.loads(line) for line in out.splitlines()]
+
+    def given(self, *words: str, said: Sequence[str] = (STORAGE,), text: str = "", path: str | None = None, **variables: str) -> Words:
+        """What crdx is given in its one run."""
+        [call] = self.all_given(*words, said=said, text=text, path=path, **variables)
+        return call
 
 
 class Definitions(Runs):
-    def test_a_file(self):
+    def test_a_file(self) -> None:
         """The definition goes to crdx with one version, and --large and --why."""
         self.file("crd.json", definition(PLAIN, PATTERN))
         command, *words, crd, version = self.given("check", "-f", "crd.json")
@@ -159,7 +171,7 @@ class Definitions(Runs):
         wanted = definition(PLAIN)
         self.assertEqual(json.loads(crd), wanted)
 
-    def test_it_is_relaxed_and_the_line_says_so(self):
+    def test_it_is_relaxed_and_the_line_says_so(self) -> None:
         schema = {"type": "object", "properties": {
             "a": {"type": "string", "pattern": "^a", "format": "uuid"}, "b": {"type": "string", "pattern": "^b", "x-kubernetes-validations": []},
             "c": {"type": "number", "minimum": 0.5, "description": "C"}, "d": {"type": "integer", "minimum": 0.5},
@@ -175,43 +187,43 @@ class Definitions(Runs):
             "e": {"type": "object", "properties": {"f": {"type": "string"}}, "not": {"required": ["f"]}},
         }})
 
-    def test_exact(self):
+    def test_exact(self) -> None:
         """With --exact the text goes to crdx as it is."""
         text = json.dumps(definition(PATTERN), indent=3)
         self.file("crd.json", text, "\n")
         self.assertEqual(self.given("check", "--exact", "-f", "crd.json"), ["check", *ALWAYS, text, "v1"])
 
-    def test_versions(self):
-        self.file("crd.json", definition(PLAIN, PATTERN, PLAIN, storage=2))
-        for words, version, said in [
+    def test_versions(self) -> None:
+        self.file("crd.json", definition(PLAIN, PATTERN, PLAIN, storage=[2]))
+        rows: list[tuple[Words, str, list[str]]] = [
             ([], "v2", ["version v2, the storage version", NOT_JUDGED]), (["v1"], "v1", []), (["v2"], "v2", [NOT_JUDGED]), (["v9"], "v9", []),
-        ]:
+        ]
+        for words, version, said in rows:
             with self.subTest(words):
                 self.assertEqual(self.given("check", "-f", "crd.json", *words, said=said)[-1], version)
 
-    def test_no_storage_version(self):
+    def test_no_storage_version(self) -> None:
         """The line calls a version the storage version where it is that alone."""
-        for flags, version, why in [
-            ([False, False], "v1", "the first one, as none is the storage version"), ([False, True], "v2", "the storage version"),
-            ([True, True], "v1", "the first of 2 storage versions"), ([], "v1", "as the definition names none"),
-        ]:
-            with self.subTest(flags):
-                document = definition(*[PLAIN for _ in flags])
-                for number, flag in enumerate(flags):
-                    document["spec"]["versions"][number]["storage"] = flag
-                self.file("crd.json", document)
+        rows: list[tuple[int, list[int], str, str]] = [
+            (2, [], "v1", "the first one, as none is the storage version"), (2, [2], "v2", "the storage version"),
+            (2, [1, 2], "v1", "the first of 2 storage versions"), (0, [], "v1", "as the definition names none"),
+        ]
+        for versions, storage, version, why in rows:
+            with self.subTest(storage, versions=versions):
+                self.file("crd.json", definition(*[PLAIN] * versions, storage=storage))
                 self.assertEqual(self.given("check", "-f", "crd.json", said=[f"version {version}, {why}"])[-1], version)
 
-    def test_what_cannot_be_relaxed_is_left_to_crdx(self):
-        for name, document in [
+    def test_what_cannot_be_relaxed_is_left_to_crdx(self) -> None:
+        rows: list[tuple[str, Tree]] = [
             ("no definition at heart", {"kind": "CustomResourceDefinition"}), ("a version that is not there", definition(PLAIN)),
             ("a bad form", definition(with_field({"type": 1}))), ("a fraction elsewhere", {**definition(PLAIN), "x": 0.5}),
-        ]:
+        ]
+        for name, document in rows:
             with self.subTest(name):
                 self.file("crd.json", document)
                 self.assertEqual(self.given("check", "-f", "crd.json", "v7", said=[])[-2:], [json.dumps(document), "v7"])
 
-    def test_several_documents(self):
+    def test_several_documents(self) -> None:
         """The definition is found among others, and by its name among several, also in a List."""
         other = definition(PATTERN, name="gadgets.example.org")
         space = {"apiVersion": "v1", "kind": "Namespace", "metadata": {"name": "a"}}
@@ -220,23 +232,23 @@ class Definitions(Runs):
         self.file("two.json", {"apiVersion": "v1", "kind": "List", "items": [other, definition(PLAIN)]}, space)
         self.assertEqual(json.loads(self.given("check", "-f", "one.json")[-2]), definition(PLAIN))
         self.assertEqual(json.loads(self.given("check", "-f", "two.json", "widgets.example.org", "v1", said=[])[-2]), definition(PLAIN))
-        for words, why in [
-            (["-f", "two.json"], "there are several definitions: give the name of one of gadgets.example.org, widgets.example.org"),
-            (["-f", "two.json", "v1"], "there are several definitions: give the name of one of gadgets.example.org, widgets.example.org"),
-            *((words, "no file of -f has a CustomResourceDefinition, and there is no NAME of one, such as issuers.example.org")
-              for words in [[], ["v1"], ["-f", "none.json", "v1"]]),
-        ]:
+        several = "there are several definitions: give the name of one of gadgets.example.org, widgets.example.org"
+        none = "no file of -f has a CustomResourceDefinition, and there is no NAME of one, such as issuers.example.org"
+        rows: list[tuple[Words, str]] = [
+            (["-f", "two.json"], several), (["-f", "two.json", "v1"], several), ([], none), (["v1"], none), (["-f", "none.json", "v1"], none),
+        ]
+        for words, why in rows:
             with self.subTest(words):
                 self.assertEqual(self.run_plugin("check", *words), (3, "", lines("crd: S1\n    " + why)))
 
-    def test_standard_input(self):
+    def test_standard_input(self) -> None:
         self.assertEqual(json.loads(self.given("check", "-f", "-", text=json.dumps(definition(PLAIN)))[-2]), definition(PLAIN))
         line = lines("the standard input can be only one of the inputs")
         for words in [["validate", "v1"], ["validate", "v1", "-"], ["check", "-f", "-"], ["sample", "--pools", "-"]]:
             with self.subTest(words):
                 self.assertEqual(self.run_plugin(*words, "-f", "-", text=json.dumps(definition(PLAIN))), (2, "", line))
 
-    def test_a_file_in_place_of_a_name(self):
+    def test_a_file_in_place_of_a_name(self) -> None:
         """It is no name to ask a cluster for."""
         self.program("kubectl", KUBECTL)
         self.file("crd.json", definition(PLAIN))
@@ -249,7 +261,7 @@ class Definitions(Runs):
         self.assertEqual(self.run_plugin("check", "./missing.json")[0], 3)
         self.assertFalse((self.folder / "bin" / "calls").exists())
 
-    def terminal(self, *words, text):
+    def terminal(self, *words: str, text: str) -> str:
         """What is on standard error of a run whose standard input is a terminal at which the text is typed."""
         typed, terminal = pty.openpty()
         with os.fdopen(typed, "wb", buffering=0) as keyboard, os.fdopen(terminal, "rb") as standard_input:
@@ -258,7 +270,7 @@ class Definitions(Runs):
                                  env=self.environment(POOLS="{}"), check=False, timeout=60)
         return ran.stderr
 
-    def test_a_terminal(self):
+    def test_a_terminal(self) -> None:
         """A run that reads from a terminal says so once."""
         self.file("crd.json", definition(PLAIN))
         self.file("object.json", widget("a"))
@@ -275,99 +287,104 @@ class Definitions(Runs):
                 err = [line for line in self.terminal(*words, text=text).splitlines() if not line.startswith("kubectl-crdx: object 1 W")]
                 self.assertEqual([line for line in err if "object 2 W" not in line], lines(*wanted).splitlines())
 
-    def test_files_that_cannot_be_read(self):
+    def test_files_that_cannot_be_read(self) -> None:
         self.assertEqual(self.run_plugin("check", "-f", "missing.json"), (4, "", lines("crd: read failed")))
         self.file("crd.json", definition(PLAIN))
         self.assertEqual(self.run_plugin("validate", "-f", "crd.json", "v1", "./missing.json"), (4, "", lines("object: read failed")))
 
 
 class Cluster(Runs):
-    def setUp(self):
+    def setUp(self) -> None:
         super().setUp()
         self.program("kubectl", KUBECTL)
         (self.folder / "bin" / "widgets.json").write_text(json.dumps(definition(PLAIN), indent=4), encoding="utf-8")
 
-    def calls(self):
+    def calls(self) -> list[str]:
         return (self.folder / "bin" / "calls").read_text(encoding="utf-8").splitlines()
 
-    def test_a_name(self):
+    def test_a_name(self) -> None:
         command, *words, crd, version, path = self.given("explain", "widgets.example.org", "/x")
         self.assertEqual((command, words, version, path), ("explain", ALWAYS, "v1", "/x"))
         self.assertEqual(json.loads(crd), definition(PLAIN))
         self.assertEqual(self.calls(), ["get crd widgets.example.org -o json"])
 
-    def test_the_options_of_kubectl(self):
+    def test_the_options_of_kubectl(self) -> None:
         self.given("check", "--context", "far", "widgets.example.org", "--kubeconfig=~/x y", "v1", said=[])
         self.assertEqual(self.calls(), ["get crd widgets.example.org --context=far --kubeconfig=~/x y -o json"])
 
-    def test_objects_from_a_file_of_the_option(self):
+    def test_objects_from_a_file_of_the_option(self) -> None:
         self.file("object.json", widget("a"))
         self.assertEqual(json.loads(self.given("validate", "widgets.example.org", "-f", "object.json",
                                                said=["version v1, which the objects name"])[-1]), widget("a"))
 
-    def test_a_name_that_is_not_there(self):
+    def test_a_name_that_is_not_there(self) -> None:
         """kubectl says why, and the status is that of a file that cannot be read."""
         err = "Error from server (NotFound): not found\n" + lines("crd: read failed")
         self.assertEqual(self.run_plugin("check", "gadgets.example.org"), (4, "", err))
 
-    def test_no_kubectl(self):
+    def test_no_kubectl(self) -> None:
         (self.folder / "bin" / "kubectl").unlink()
         (self.folder / "bin" / "python3").symlink_to(sys.executable)
         self.assertEqual(self.run_plugin("check", "widgets.example.org", path=""), (4, "", lines("crd: read failed: there is no kubectl")))
 
 
 class Objects(Runs):
-    def setUp(self):
+    def setUp(self) -> None:
         super().setUp()
         self.file("crd.json", definition(PLAIN, PLAIN))
 
-    def test_an_object(self):
+    def test_an_object(self) -> None:
         """It goes to crdx as it is written, from a file, from the files of the option, and from standard input."""
         text = json.dumps(widget("a"), indent=5)
         self.file("object.json", text, "\n")
         said = ["version v1, which the objects name"]
-        for words, text_in in [(["object.json"], ""), (["./object.json"], ""), (["-f", "object.json"], ""), (["-"], text), ([], text)]:
+        rows: list[tuple[Words, str]] = [
+            (["object.json"], ""), (["./object.json"], ""), (["-f", "object.json"], ""), (["-"], text), ([], text),
+        ]
+        for words, text_in in rows:
             with self.subTest(words):
                 given = self.given("validate", "-f", "crd.json", *words, text=text_in, said=said)
                 self.assertEqual((given[:3], given[-2:]), (["validate", *ALWAYS], ["v1", text]))
 
-    def test_the_version_that_objects_name(self):
-        for objects, words, version, said in [
-            ([widget("a", "v2")], [], "v2", ["version v2, which the objects name"]),
-            ([widget("a", "v2")], ["v1"], "v1", []),
-            ([widget("a", "v3")], [], "v1", [STORAGE]),
-            ([{"x": "a"}], [], "v1", [STORAGE]),
-        ]:
-            with self.subTest((objects, words)):
-                self.file("object.json", *objects)
+    def test_the_version_that_objects_name(self) -> None:
+        rows: list[tuple[Tree, Words, str, list[str]]] = [
+            (widget("a", "v2"), [], "v2", ["version v2, which the objects name"]),
+            (widget("a", "v2"), ["v1"], "v1", []),
+            (widget("a", "v3"), [], "v1", [STORAGE]),
+            ({"x": "a"}, [], "v1", [STORAGE]),
+        ]
+        for one, words, version, said in rows:
+            with self.subTest((one, words)):
+                self.file("object.json", one)
                 self.assertEqual(self.given("validate", "-f", "crd.json", *words, "object.json", said=said)[-2], version)
         self.file("object.json", widget("a", "v1"), widget("a", "v2"))
         said = [STORAGE, "object 1 Widget a", "object 2 Widget a"]
-        self.assertEqual([call[-2] for call in self.given("validate", "-f", "crd.json", "object.json", said=said)], ["v1", "v1"])
+        self.assertEqual([call[-2] for call in self.all_given("validate", "-f", "crd.json", "object.json", said=said)], ["v1", "v1"])
 
-    def test_several_objects(self):
+    def test_several_objects(self) -> None:
         """Each is given to crdx by itself, up to one that is refused; the greatest status counts."""
         self.file("objects.json", *(widget(value, name=value) for value in "abc"))
         said = ["version v1, which the objects name", "object 1 Widget a", "object 2 Widget b", "object 3 Widget c"]
-        calls = self.given("validate", "-f", "crd.json", "objects.json", said=said)
+        calls = self.all_given("validate", "-f", "crd.json", "objects.json", said=said)
         self.assertEqual([json.loads(call[-1]) for call in calls], [widget(value, name=value) for value in "abc"])
         for status, count in [("1", 3), ("3", 1)]:
             ended, out, _ = self.run_plugin("validate", "-f", "crd.json", "objects.json", STATUS=status)
             self.assertEqual((ended, len(out.splitlines())), (int(status), count))
 
-    def test_several_objects_on_lines(self):
+    def test_several_objects_on_lines(self) -> None:
         """A command that takes one object on each line is given all at once."""
         self.file("objects.json", json.dumps(widget("a"), indent=1), json.dumps(widget("b"), indent=1))
         self.file("object.json", json.dumps(widget("a"), indent=1))
         said = ["version v1, which the objects name"]
-        for file, words, count in [("objects.json", [], 2), ("object.json", ["--lines"], 1)]:
+        rows: list[tuple[str, Words, int]] = [("objects.json", [], 2), ("object.json", ["--lines"], 1)]
+        for file, words, count in rows:
             with self.subTest(file):
                 *_, crd, version, option, text = self.given("leaves", "-f", "crd.json", file, *words, said=said)
                 self.assertEqual((version, option), ("v1", "--lines"))
                 self.assertEqual([json.loads(line) for line in text.splitlines()], [widget("a"), widget("b")][:count])
         self.assertNotIn("--lines", self.given("leaves", "-f", "crd.json", "object.json", said=said))
 
-    def test_files_of_objects(self):
+    def test_files_of_objects(self) -> None:
         """The objects of several files are judged one after another, and lines say which are in which file."""
         self.file("a.json", widget("a"))
         self.file("b.json", widget("b", name="b"), widget("c", name="c"))
@@ -375,7 +392,7 @@ class Objects(Runs):
         for words in [["-f", "crd.json", "a.json", "b.json"], ["-f", "crd.json", "-f", "a.json", "b.json"],
                       ["-f", "a.json", "-f", "crd.json", "-f", "b.json"]]:
             with self.subTest(words):
-                calls = self.given("validate", *words, said=["object 1: a.json", "objects 2 to 3: b.json", *said])
+                calls = self.all_given("validate", *words, said=["object 1: a.json", "objects 2 to 3: b.json", *said])
                 self.assertEqual([json.loads(call[-1])["x"] for call in calls], ["a", "b", "c"])
         given = self.given("leaves", "-f", "crd.json", "v1", "b.json", "a.json", said=["objects 1 to 2: b.json", "object 3: a.json"])
         self.assertEqual([json.loads(line)["x"] for line in given[-1].splitlines()], ["b", "c", "a"])
@@ -383,17 +400,16 @@ class Objects(Runs):
         self.assertEqual(self.run_plugin("validate", "-f", "crd.json", "-", "./-", "-"),
                          (2, "", lines("the standard input can be only one of the inputs")))
 
-    def test_objects_beside_the_definition(self):
+    def test_objects_beside_the_definition(self) -> None:
         """Of the documents that come with the definition those of its kind are objects. A line has the kinds of the others."""
-        other = definition(PLAIN, name="gadgets.example.org")
-        other["spec"]["names"]["kind"] = "Gadget"
+        other = definition(PLAIN, name="gadgets.example.org", kind="Gadget")
         gadget = {"apiVersion": "example.org/v1", "kind": "Gadget"}
         said = "3 documents of another kind beside the definition, not judged: Gadget, Namespace, none"
         self.file("all.json", definition(PLAIN), other, {"apiVersion": "v1", "kind": "Namespace"}, widget("a"), gadget, {"a": 1})
         given = self.given("validate", "-f", "all.json", "widgets.example.org", said=[said, "version v1, which the objects name"])
         self.assertEqual(json.loads(given[-1]), widget("a"))
 
-    def test_objects_of_another_kind(self):
+    def test_objects_of_another_kind(self) -> None:
         """None is judged, and none is left out."""
         space, gadget = {"apiVersion": "v1", "kind": "Namespace", "metadata": {"name": "a"}}, {"apiVersion": "example.org/v1", "kind": "Gadget"}
         self.file("all.json", definition(PLAIN), widget("a"), gadget)
@@ -418,7 +434,7 @@ class Objects(Runs):
         said = lines("object 1: space.json", "object 2: far.json", refused + "object 1 Namespace a of v1\n    object 2 Widget a of other.org/v1")
         self.assertEqual(self.run_plugin("validate", "-f", "crd.json", "space.json", "far.json"), (3, "", said))
 
-    def test_no_object(self):
+    def test_no_object(self) -> None:
         """What has no document at all is left to crdx."""
         self.assertEqual(self.given("validate", "-f", "crd.json", text="\n")[-1], "")
 
@@ -426,30 +442,33 @@ class Objects(Runs):
 class Values(Runs):
     """`pools`, and `sample` without --pools."""
 
-    SUGGESTED = {"any": [], "integers": [0], "names": [], "strings": ["a"]}
-    TWO = {**SUGGESTED, "paths": {"/x": ["v1", "v1beta1"]}}
+    SUGGESTED: Tree = {"any": [], "integers": [0], "names": [], "strings": ["a"]}
+    TWO: Tree = {**SUGGESTED, "paths": {"/x": ["v1", "v1beta1"]}}
 
-    def setUp(self):
+    def setUp(self) -> None:
         super().setUp()
         self.file("crd.json", definition(with_field({"type": "string", "pattern": "^v[0-9]"})))
         self.pools = {"POOLS": json.dumps(self.SUGGESTED)}
 
-    def test_pools(self):
+    def test_pools(self) -> None:
         status, out, err = self.run_plugin("pools", "-f", "crd.json", **self.pools)
         self.assertEqual((status, json.loads(out), err), (0, self.TWO, lines(STORAGE, NOT_JUDGED)))
         self.assertEqual(self.run_plugin("pools", "-f", "crd.json", STATUS="3", **self.pools), (3, "", lines(STORAGE, NOT_JUDGED)))
 
-    def test_lists_of_crdx(self):
+    def test_lists_of_crdx(self) -> None:
         """Values that the pattern lets through come in place of those that crdx suggests, but for those of objects."""
         self.file("object.json", {"x": "v2"})
         self.file("empty.json", {})
         pools = {"POOLS": json.dumps({**self.SUGGESTED, "paths": {"/x": ["v2", "a"], "/y": [1]}})}
-        for words, values in [([], ["v1", "v1beta1"]), (["--from", "object.json"], ["v2", "a"]), (["--from", "empty.json"], ["v1", "v1beta1"])]:
+        rows: list[tuple[Words, list[str]]] = [
+            ([], ["v1", "v1beta1"]), (["--from", "object.json"], ["v2", "a"]), (["--from", "empty.json"], ["v1", "v1beta1"]),
+        ]
+        for words, values in rows:
             with self.subTest(words):
                 _, out, _ = self.run_plugin("pools", "-f", "crd.json", *words, **pools)
                 self.assertEqual(json.loads(out)["paths"], {"/x": values, "/y": [1]})
 
-    def test_around_an_object(self):
+    def test_around_an_object(self) -> None:
         """At a varied path the values of the object come first, and then those that the pattern lets through; other places do not vary."""
         self.file("crd.json", definition({"type": "object", "properties": {
             name: {"type": "array", "items": {"type": "string", "pattern": "^v[0-9]"}} for name in ["a", "b", "c/d"]}}))
@@ -459,7 +478,7 @@ class Values(Runs):
         _, out, _ = self.run_plugin("pools", "-f", "crd.json", *words, **pools)
         self.assertEqual(json.loads(out)["paths"], {"/a/[]": ["v2", "v1", "v1beta1"], "/c~1d/[]": ["v4", "v1", "v1beta1"]})
 
-    def test_no_value_found(self):
+    def test_no_value_found(self) -> None:
         """A line names each place for which no value is known."""
         schema = {"type": "string", "pattern": "^zz[0-9]{9}$"}
         self.file("crd.json", definition({"type": "object", "properties": {"x": schema, "y": with_field(schema)}}))
@@ -467,15 +486,16 @@ class Values(Runs):
         judged = "2 keywords at 2 places are not judged: pattern 2; kubectl crdx relax shows them"
         x, y = 'pools: no value found for "/x"', 'pools: no value found for "/y/x"'
         pools = {"POOLS": json.dumps({**self.SUGGESTED, "paths": {"/x": ["zz123456789"]}})}
-        for words, wanted in [
+        rows: list[tuple[Words, list[str]]] = [
             (["pools"], [x, y]), (["sample"], [x, y]), (["cover"], [x, y]), (["sample", "--pools", "p.json"], []), (["check"], []),
             (["pools", "--from", "object.json"], [y]), (["pools", "--from=object.json", "--vary=/y"], [y]), (["pools", "--without", "/y"], [x]),
-        ]:
+        ]
+        for words, wanted in rows:
             with self.subTest(words):
                 status, _, err = self.run_plugin(words[0], "-f", "crd.json", *words[1:], **pools)
                 self.assertEqual((status, err), (0, lines(STORAGE, judged, *wanted)))
 
-    def test_objects(self):
+    def test_objects(self) -> None:
         """Each object of --from is on a line of its own."""
         self.file("list.json", {"kind": "List", "items": [widget(1), widget(2)]})
         words = ["--from", "list.json", "--vary", "/x", "--vary=/y"]
@@ -485,30 +505,30 @@ class Values(Runs):
         objects = [json.loads(line) for line in given[2].removeprefix("--from=").splitlines()]
         self.assertEqual(objects, [widget(1), widget(2)])
 
-    def test_samples_over_these_pools(self):
+    def test_samples_over_these_pools(self) -> None:
         given = self.given("sample", "-f", "crd.json", "--limit", "5", "--all", said=[STORAGE, NOT_JUDGED], **self.pools)
         pools = [word for word in given if word.startswith("--pools=")]
         self.assertEqual(json.loads(pools[0][len("--pools="):]), self.TWO)
         self.assertEqual([word for word in given if word not in pools][:-2], ["sample", *ALWAYS, "--limit=5", "--all"])
 
-    def test_other_pools(self):
+    def test_other_pools(self) -> None:
         said = [STORAGE, NOT_JUDGED]
         for words in [["--pools", "p.json"], ["--pools=p.json"]]:
             with self.subTest(words):
                 given = self.given("sample", "-f", "crd.json", *words, said=said)
                 self.assertEqual(given[:-2], ["sample", *ALWAYS, "--pools=p.json"])
 
-    def test_exact(self):
+    def test_exact(self) -> None:
         given = self.given("sample", "--exact", "-f", "crd.json", **self.pools)
         self.assertIn("--pools=" + json.dumps(self.SUGGESTED, separators=(",", ":")) + "\n", given)
 
-    def test_no_pools_where_crdx_has_none(self):
+    def test_no_pools_where_crdx_has_none(self) -> None:
         """Where crdx suggests none, it has said why, and there are no samples."""
         self.assertEqual(self.run_plugin("sample", "-f", "crd.json", STATUS="3", **self.pools), (3, "", lines(STORAGE, NOT_JUDGED)))
 
 
 class Relaxing(Runs):
-    def test_relax(self):
+    def test_relax(self) -> None:
         self.file("crd.json", definition(PATTERN, PATTERN))
         changed = '"/properties/x" "pattern": dropped'
         status, out, err = self.run_plugin("relax", "-f", "crd.json")
@@ -517,7 +537,7 @@ class Relaxing(Runs):
         self.assertEqual((status, json.loads(out), err), (0, definition(PLAIN), lines(changed)))
         self.assertEqual(self.run_plugin("relax", "-f", "crd.json", "v3"), (3, "", lines("crd: S2")))
 
-    def test_the_same_as_crdx_relax(self):
+    def test_the_same_as_crdx_relax(self) -> None:
         for file in sorted((ROOT / "examples").glob("*/crd.json")):
             with self.subTest(file.parent.name):
                 ran = subprocess.run([ROOT / "tools" / "crdx-relax", file], capture_output=True, encoding="utf-8", check=False)
@@ -526,13 +546,13 @@ class Relaxing(Runs):
 
 
 class CommandLine(Runs):
-    def test_help(self):
+    def test_help(self) -> None:
         status, out, err = self.run_plugin("--help")
         self.assertEqual((status, err), (0, ""))
         self.assertIn("\nUsage: kubectl crdx COMMAND ", out)
         self.assertEqual(self.run_plugin("-h", "check"), (0, out, ""))
 
-    def test_help_of_a_command(self):
+    def test_help_of_a_command(self) -> None:
         """It has the usage of the plugin, the arguments and the options of both, and no example of crdx."""
         _, general, _ = self.run_plugin("--help")
         for words, usage in [
@@ -555,13 +575,14 @@ class CommandLine(Runs):
         self.assertIn("\n\nUsage: kubectl crdx relax [NAME] [VERSION] [OPTIONS]\n\nArguments:\n", out)
         self.assertEqual(self.run_plugin("what", "--help"), (1, "", "error: unrecognized subcommand\n"))
 
-    def test_version(self):
+    def test_version(self) -> None:
         crdx = self.folder / "bin" / "crdx"
         for flag in ["--version", "-V"]:
             self.assertEqual(self.run_plugin(flag), (0, f"kubectl-crdx, which runs crdx 9.9.9 as {crdx}\n", ""))
 
-    def test_words_that_are_refused(self):
-        for words in [[], ["-f", "crd.json", "check"]]:
+    def test_words_that_are_refused(self) -> None:
+        no_commands: list[Words] = [[], ["-f", "crd.json", "check"]]
+        for words in no_commands:
             self.assertEqual(self.run_plugin(*words), (2, "", lines("there is no COMMAND: kubectl crdx --help says more")))
         self.file("crd.json", definition(PLAIN))
         for words in [["--what"], ["--limit", "5"], ["-f"], ["--context"]]:
@@ -571,23 +592,23 @@ class CommandLine(Runs):
                 self.assertIn("kubectl-crdx: error: ", err)
         self.assertEqual(self.run_plugin("what", "-f", "crd.json"), (1, "", "error: unrecognized subcommand\n"))
 
-    def test_help_of_crdx(self):
+    def test_help_of_crdx(self) -> None:
         self.assertEqual(self.run_plugin("help", "check"), (1, "", "error: unrecognized subcommand\n"))
 
-    def test_words_that_crdx_is_to_refuse(self):
+    def test_words_that_crdx_is_to_refuse(self) -> None:
         self.file("crd.json", definition(PLAIN))
         self.assertEqual(self.given("check", "-f", "crd.json", "v1", "v2", said=[])[-2:], ["v1", "v2"])
 
-    def test_options_that_are_there_anyway(self):
+    def test_options_that_are_there_anyway(self) -> None:
         self.file("crd.json", definition(PLAIN))
         self.assertEqual(self.given("check", "--why", "--large", "-f", "crd.json")[:-2], ["check", *ALWAYS])
 
-    def test_the_status_is_that_of_crdx(self):
+    def test_the_status_is_that_of_crdx(self) -> None:
         self.file("crd.json", definition(PLAIN))
         for status in [1, 2, 3, 4, 5]:
             self.assertEqual(self.run_plugin("check", "-f", "crd.json", STATUS=str(status))[0], status)
 
-    def test_no_crdx(self):
+    def test_no_crdx(self) -> None:
         self.file("crd.json", definition(PLAIN))
         self.assertEqual(self.run_plugin("check", "-f", "crd.json", CRDX="/no/crdx"), (70, "", lines("crdx cannot be run")))
 
@@ -595,7 +616,7 @@ class CommandLine(Runs):
 class Programs(Runs):
     """Which crdx is run, in a copy of the repository with the real wrapper, and an `rt` that notes each call."""
 
-    def setUp(self):
+    def setUp(self) -> None:
         super().setUp()
         for package in ["crdx_plugin", "crdx_schemas"]:
             shutil.copytree(PLUGIN.parent / package, self.folder / "repository" / "tools" / package)
@@ -605,31 +626,31 @@ class Programs(Runs):
         self.file("crd.json", definition(PLAIN))
         self.program("rt", '#!/usr/bin/env bash\necho "$*" >>"$(dirname "$0")/built"\nexit 1\n')
 
-    def copy(self, name):
+    def copy(self, name: str) -> Path:
         shutil.copy(ROOT / name, self.folder / "repository" / name)
         return self.folder / "repository" / name
 
-    def check(self, plugin):
+    def check(self, plugin: Path) -> Ran:
         return self.run_plugin("check", "-f", "crd.json", plugin=plugin, CRDX=None)
 
-    def test_the_path_before_the_wrapper(self):
+    def test_the_path_before_the_wrapper(self) -> None:
         self.assertEqual(self.check(self.plugin)[0], 0)
         self.program("crdx", '#!/usr/bin/env bash\nexit 7\n')
         self.assertEqual(self.check(self.plugin)[0], 7)
 
-    def test_what_is_beside_it_before_the_path(self):
+    def test_what_is_beside_it_before_the_path(self) -> None:
         """In a package the program is beside the plugin."""
         (self.folder / "bin" / "crdx").rename(self.plugin.parent / "crdx")
         self.program("crdx", '#!/usr/bin/env bash\nexit 7\n')
         self.assertEqual(self.check(self.plugin)[0], 0)
 
-    def test_a_link(self):
+    def test_a_link(self) -> None:
         """A link to the plugin leads to its modules, and to the wrapper of its repository."""
         (self.folder / "bin" / "crdx").rename(self.wrapper)
         (self.folder / "kubectl-crdx").symlink_to(self.plugin)
         self.assertEqual(self.check(self.folder / "kubectl-crdx")[0], 0)
 
-    def test_nothing_is_built(self):
+    def test_nothing_is_built(self) -> None:
         """The wrapper says what to do where it would have to build crdx, also where it is on the path."""
         on_path = self.folder / "bin" / "crdx"
         on_path.unlink()
@@ -637,13 +658,13 @@ class Programs(Runs):
         on_path.symlink_to(self.wrapper)
         self.is_refused()
 
-    def is_refused(self):
+    def is_refused(self) -> None:
         status, out, err = self.check(self.plugin)
         self.assertEqual((status, out), (70, ""))
         self.assertRegex(err, f"^crdx: the program is not built, .*: run {self.wrapper} --version once, [^\\n]*\\n$")
         self.assertFalse((self.folder / "bin" / "built").exists())
 
-    def test_none(self):
+    def test_none(self) -> None:
         (self.folder / "bin" / "crdx").unlink()
         self.wrapper.unlink()
         (self.folder / "bin" / "python3").symlink_to(sys.executable)
@@ -656,13 +677,13 @@ class Completions(Runs):
 
     COMPLETE = PLUGIN.parent / "kubectl_complete-crdx"
 
-    def offers(self, *words):
+    def offers(self, *words: str) -> tuple[list[str], str]:
         status, out, err = self.run_plugin(*words, plugin=self.COMPLETE)
         self.assertEqual((status, err), (0, ""))
         *offered, directive = out.splitlines()
         return offered, directive
 
-    def test_completions(self):
+    def test_completions(self) -> None:
         none, files = ":4", ":0"
         options = ["--filename\tFILE", "--exact", "--context\tNAME", "--kubeconfig\tFILE", "--help", "-f\tFILE"]
         for words, offered, directive in [
@@ -681,7 +702,7 @@ class Completions(Runs):
                          ["check", "explain", "validate", "pools", "sample", "leaves", "cover", "relax"])
 
     @needs("kubectl")
-    def test_kubectl_asks_for_them(self):
+    def test_kubectl_asks_for_them(self) -> None:
         for program in [PLUGIN, self.COMPLETE]:
             (self.folder / "bin" / program.name).symlink_to(program)
         for words, wanted in [
@@ -708,13 +729,13 @@ class Yaml(Runs):
     """Files of YAML, made JSON by kubectl or by yq."""
 
     @needs("kubectl")
-    def test_the_definition_of_examples(self):
+    def test_the_definition_of_examples(self) -> None:
         """The YAML of examples/certificate is its JSON."""
         crd = self.given("check", "--exact", "-f", str(CERTIFICATE / "crd.yaml"))[-2]
         self.assertEqual(json.loads(crd), json.loads((CERTIFICATE / "crd.json").read_text(encoding="utf-8")))
 
     @needs("kubectl")
-    def test_documents_and_values(self):
+    def test_documents_and_values(self) -> None:
         self.file("all.yaml", textwrap.dedent("""\
             # a comment
             ---
@@ -733,7 +754,7 @@ class Yaml(Runs):
             "apiVersion": "example.org/v1", "kind": "Widget", "metadata": {"name": "b"}, "x": [None, 0.5, 2**53 + 1, "no", False, {"name": "b"}]})
 
     @needs("kubectl")
-    def test_a_plugin_of_kubectl(self):
+    def test_a_plugin_of_kubectl(self) -> None:
         self.file("crd.yaml", "---\n", definition(PLAIN))
         (self.folder / "bin" / "kubectl-crdx").symlink_to(PLUGIN)
         ran = subprocess.run(["kubectl", "crdx", "check", "-f", "crd.yaml"], capture_output=True, encoding="utf-8", cwd=self.folder,
@@ -742,7 +763,7 @@ class Yaml(Runs):
         self.assertEqual(json.loads(json.loads(ran.stdout)[-2]), definition(PLAIN))
 
     @needs("kubectl")
-    def test_what_is_no_yaml(self):
+    def test_what_is_no_yaml(self) -> None:
         self.file("crd.json", definition(PLAIN))
         for text in ["a: [b\n", "spec: {}\n", '{"kind":', "# nothing\n"]:
             with self.subTest(text):
@@ -750,7 +771,7 @@ class Yaml(Runs):
                 self.assertEqual((status, out), (3, ""))
                 self.assertRegex(err, "^kubectl-crdx: object: J3\n    kubectl: .+\n$")
 
-    def test_each_kind_of_yq(self):
+    def test_each_kind_of_yq(self) -> None:
         (self.folder / "bin" / "python3").symlink_to(sys.executable)
         (self.folder / "bin" / "widgets.json").write_text(json.dumps(definition(PLAIN)), encoding="utf-8")
         for version, words in [
@@ -761,9 +782,9 @@ class Yaml(Runs):
                 self.assertEqual(json.loads(self.given("check", "-f", "-", text="kind: X\n", path="")[-2]), definition(PLAIN))
 
     @needs("yq", "jq")
-    def test_the_yq_that_is_installed(self):
+    def test_the_yq_that_is_installed(self) -> None:
         for name in ["yq", "jq"]:
-            (self.folder / "bin" / name).symlink_to(shutil.which(name))
+            (self.folder / "bin" / name).symlink_to(shutil.which(name) or "")
         (self.folder / "bin" / "python3").symlink_to(sys.executable)
         self.file("crd.yaml", "---\nkind: Namespace\n---\n", definition(PLAIN), "---\n")
         self.assertEqual(json.loads(self.given("check", "-f", "crd.yaml", path="")[-2]), definition(PLAIN))
@@ -771,7 +792,7 @@ class Yaml(Runs):
         self.assertEqual((status, out), (3, ""))
         self.assertRegex(err, "^kubectl-crdx: crd: J3\n    yq: .+\n$")
 
-    def test_neither(self):
+    def test_neither(self) -> None:
         (self.folder / "bin" / "python3").symlink_to(sys.executable)
         line = "crd: J3: this is no JSON, and neither kubectl nor yq is there to read YAML"
         self.assertEqual(self.run_plugin("check", "-f", "-", text="kind: X\n", path=""), (3, "", lines(line)))
@@ -800,23 +821,26 @@ SAMPLES = {
 }
 
 
+REAL_CRDX = os.environ.get("CRDX", str(ROOT / "crdx"))
+
+
 class Answers(Runs):
     """What crdx answers about definitions in YAML."""
 
-    def answer(self, *words, **how):
+    def answer(self, *words: str, text: str = "") -> tuple[int, list[str]]:
         """The status, and the lines on standard output."""
-        how.setdefault("CRDX", os.environ.get("CRDX", str(ROOT / "crdx")))
-        status, out, err = self.run_plugin(*words, **how)
+        status, out, err = self.run_plugin(*words, text=text, CRDX=REAL_CRDX)
         self.assertTrue(all(line.startswith(("kubectl-crdx: ", "crdx: end", "crdx: more")) for line in err.splitlines()), err)
         return status, out.splitlines()
 
-    def large(self, *words):
+    def large(self, *words: str) -> Tree:
         """What the generator prints of a definition of 600 places, 40 of them fields of spec."""
-        command = [ROOT / "tools" / "large_schema.py", "600", "40", *words]
-        return json.loads(subprocess.run(command, stdout=subprocess.PIPE, encoding="utf-8", check=True).stdout)
+        command = [str(ROOT / "tools" / "large_schema.py"), "600", "40", *words]
+        tree: Tree = json.loads(subprocess.run(command, stdout=subprocess.PIPE, encoding="utf-8", check=True).stdout)
+        return tree
 
     @needs("kubectl")
-    def test_definitions_in_yaml(self):
+    def test_definitions_in_yaml(self) -> None:
         for name, (path, field) in FIELDS.items():
             with self.subTest(name):
                 file = ["-f", str(FOLDER / f"{name}.yaml")]
@@ -830,7 +854,7 @@ class Answers(Runs):
                     self.assertEqual(self.answer("validate", *file, "-", text=sample), (0, ["valid"]))
                 self.assertEqual(self.answer("validate", *file), FAULTS[name])
 
-    def test_rules_that_relaxing_hides(self):
+    def test_rules_that_relaxing_hides(self) -> None:
         """Rules that a cluster asks for too are named by `check`, though the relaxed schema breaks none."""
         before = {"type": "object", "properties": {
             "a": {"pattern": "a"}, "b": {"minimum": 0.5}, "c": {"type": "array", "uniqueItems": True, "items": {"type": "number"}},
@@ -838,14 +862,15 @@ class Answers(Runs):
         }}
         self.file("crd.json", definition(before, PATTERN))
         broken = ['V01 "/properties/a" missing type', 'V01 "/properties/b" missing type', 'V06 "/properties/c" uniqueItems is true']
-        for version, said in [("v1", broken), ("v2", [])]:
+        rows: list[tuple[str, list[str]]] = [("v1", broken), ("v2", [])]
+        for version, said in rows:
             with self.subTest(version):
-                status, out, err = self.run_plugin("check", "-f", "crd.json", version, CRDX=os.environ.get("CRDX", str(ROOT / "crdx")))
+                status, out, err = self.run_plugin("check", "-f", "crd.json", version, CRDX=REAL_CRDX)
                 self.assertEqual((status, out), (0, "structural\n"))
                 self.assertEqual(err.splitlines()[1:], [f"kubectl-crdx: as written, and a cluster refuses it too: {line}" for line in said])
 
     @needs("kubectl")
-    def test_a_large_definition(self):
+    def test_a_large_definition(self) -> None:
         self.file("large.yaml", "---\n", self.large())
         self.file("object.yaml", "---\n", {"apiVersion": "example.org/v1", "kind": "Large", **self.large("--object")})
         self.assertEqual(self.answer("check", "-f", "large.yaml"), (0, ["structural"]))
@@ -856,7 +881,7 @@ class Answers(Runs):
         self.assertEqual(self.answer("sample", "-f", "large.yaml", "--limit", "1"), (0, ["{}"]))
 
     @needs("kubectl")
-    def test_the_definition_of_examples(self):
+    def test_the_definition_of_examples(self) -> None:
         file = ["-f", str(CERTIFICATE / "crd.yaml")]
         self.assertEqual(self.answer("check", *file), (0, ["structural"]))
         self.assertEqual(self.answer("check", "--exact", *file)[0], 1)

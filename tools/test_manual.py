@@ -6,38 +6,41 @@ FOLDER has crdx.1, kubectl-crdx.1 and completions/, as tools/manual.py writes th
 four files, which may name no other, and each line of the help has to be in the man page. The completion for bash is run, those for zsh and
 fish are read; where fish is installed its completion is run too, and where zsh is, it checks the syntax of its own.
 """
+from __future__ import annotations
+
 import re
 import shutil
 import subprocess
 import sys
 import tempfile
 from pathlib import Path
+from typing import NoReturn
 
 TOP = "crdx"
 
 
-def fail(text):
+def fail(text: str) -> NoReturn:
     sys.exit(f"test_manual.py: {text}")
 
 
-def same(what, found, wanted):
+def same(what: str, found: object, wanted: object) -> None:
     if found != wanted:
         fail(f"{what}: {found}, and not {wanted}")
 
 
-def run(*words, **how):
-    return subprocess.run(words, stdout=subprocess.PIPE, encoding="utf-8", check=True, **how).stdout
+def run(*words: str | Path, folder: str | None = None) -> str:
+    return subprocess.run(words, stdout=subprocess.PIPE, encoding="utf-8", check=True, cwd=folder).stdout
 
 
 class Manual:
     """What a text names: the commands, the arguments of each in their order, and its options with the name of the value, or with ''."""
 
-    def __init__(self):
-        self.names = []
-        self.arguments = {}
-        self.options = {TOP: {}}
+    def __init__(self) -> None:
+        self.names: list[str] = []
+        self.arguments: dict[str, list[str]] = {}
+        self.options: dict[str, dict[str, str]] = {TOP: {}}
 
-    def add(self, name):
+    def add(self, name: str) -> None:
         self.names.append(name)
         self.arguments[name] = []
         self.options[name] = {}
@@ -46,12 +49,12 @@ class Manual:
 # The help
 
 
-def section(text, heading):
+def section(text: str, heading: str) -> str:
     found = re.search(rf"^{heading}:\n((?: .*\n|\n)*)", text, re.M)
     return found[1] if found else ""
 
 
-def options_in(text):
+def options_in(text: str) -> dict[str, str]:
     found = re.findall(r"^ {2,6}(-.*?)(?: <(\w+)>)?(?:  .*)?$", section(text, "Options"), re.M)
     return {flag: value for flags, value in found for flag in flags.split(", ")}
 
@@ -59,7 +62,7 @@ def options_in(text):
 class Help(Manual):
     """The manual that the help is; `texts` has the help of each command, and `files` the names of what takes a file."""
 
-    def __init__(self, program):
+    def __init__(self, program: str) -> None:
         super().__init__()
         self.texts = {TOP: run(program, "--help")}
         self.options[TOP] = options_in(self.texts[TOP])
@@ -78,7 +81,7 @@ class Help(Manual):
 # The man page
 
 
-def read_man(page):
+def read_man(page: str) -> Manual:
     found, name = Manual(), TOP
     for line in re.findall(r"^\.SS crdx .*|(?<=^\.TP\n).*", page, re.M):
         value = re.search(r"\\fI(\w+)\\fR", line)
@@ -93,7 +96,7 @@ def read_man(page):
     return found
 
 
-def plain(page):
+def plain(page: str) -> str:
     """The text of a page, as one line without markup."""
     text = re.sub(r"^\.\\\".*\n|^\.[A-Z]+ ?|\\f[BIR]|\\&", "", page, flags=re.M)
     for name, sign in {r"\-": "-", r"\(aq": "'", r"\(dq": '"', r"\(ha": "^", r"\(ti": "~", r"\(rs": "\\"}.items():
@@ -101,7 +104,7 @@ def plain(page):
     return " ".join(text.lower().split())
 
 
-def check_man(wanted, page):
+def check_man(wanted: Help, page: str) -> None:
     found = read_man(page)
     same("crdx.1: its commands", found.names, wanted.names)
     same("crdx.1: its arguments", found.arguments, wanted.arguments)
@@ -110,7 +113,7 @@ def check_man(wanted, page):
         check_lines("crdx.1", name, said, plain(page))
 
 
-def check_lines(file, name, said, text):
+def check_lines(file: str, name: str, said: str, text: str) -> None:
     """Whether each line of a help is in the text of a page."""
     said = re.sub(r"^Usage: .*\n|^Commands:\n(?: .*\n)*|^(Arguments|Options):\n", "", said, flags=re.M)
     for line in said.replace("./crdx", "crdx").splitlines():
@@ -132,11 +135,11 @@ printf '%s\n' "${COMPREPLY[@]}"
 FILES = {"compopt -o default"}
 
 
-def check_bash(wanted, file):
-    def offers(*words):
+def check_bash(wanted: Help, file: Path) -> None:
+    def offers(*words: str) -> set[str]:
         return set(run("bash", "-c", DRIVE, "bash", file, TOP, *words).split("\n")) - {""}
 
-    def offered(value):
+    def offered(value: str) -> set[str]:
         return FILES if value in wanted.files else set(wanted.names) if value == "COMMAND" else set()
 
     same("crdx.bash: crdx", offers(""), {*wanted.names, *wanted.options[TOP]})
@@ -158,7 +161,7 @@ def check_bash(wanted, file):
 # The completion for zsh
 
 
-def check_zsh(wanted, file):
+def check_zsh(wanted: Help, file: Path) -> None:
     head, *parts = re.split(r"^ {12}(\w+)\)$", file.read_text("utf-8"), flags=re.M)
     found = Manual()
     found.options[TOP] = zsh_options(head)
@@ -176,47 +179,50 @@ def check_zsh(wanted, file):
         run("zsh", "-n", file)
 
 
-def zsh_options(text):
+def zsh_options(text: str) -> dict[str, str]:
     return dict(re.findall(r"^ +'\([^)]*\)(-[\w-]+)=?\[.*?\](?::(\w+):.*)?' \\$", text + " \\", re.M))
 
 
 # The completion for fish
 
 
-def check_fish(wanted, file):
-    found, offered = Manual(), {}
+def check_fish(wanted: Help, file: Path) -> None:
+    names: list[str] = []
+    options: dict[str, dict[str, bool]] = {TOP: {}}
+    offered: dict[tuple[str, int], str] = {}
     for test, rest in re.findall(r"^complete -c crdx -n (?:'(.*?)'|__fish_use_subcommand) (.*)", file.read_text("utf-8"), re.M):
         words = test.split()
         if not words and rest.startswith("-a "):
-            found.add(rest.split()[1])
+            names.append(rest.split()[1])
+            options[names[-1]] = {}
         elif "__crdx_is_at" in words:
             offered[words[1], int(words[2])] = rest.split(" -d ")[0]
         else:
-            found.options[words[1] if words else TOP].update(fish_options(rest))
+            options[words[1] if words else TOP].update(fish_options(rest))
     kinds = {**{it: "-F" for it in wanted.files}, "COMMAND": f"-a '{' '.join(wanted.names)}'"}
     arguments = {(name, at): kinds[it] for name in wanted.names for at, it in enumerate(wanted.arguments[name], 1) if it in kinds}
-    same("crdx.fish: its commands", found.names, wanted.names)
+    same("crdx.fish: its commands", names, wanted.names)
     same("crdx.fish: its arguments", offered, arguments)
-    options = {name: {flag: value != "" for flag, value in wanted.options[name].items()} for name in wanted.options}
-    same("crdx.fish: its options", found.options, options)
+    wanted_options = {name: {flag: value != "" for flag, value in taken.items()} for name, taken in wanted.options.items()}
+    same("crdx.fish: its options", options, wanted_options)
     if is_installed("fish"):
         run_fish(wanted, file)
 
 
-def fish_options(rest):
+def fish_options(rest: str) -> dict[str, bool]:
     """The forms of an option, and whether it takes a value."""
     rest = rest.split(" -d ")[0]
     forms = re.findall(r"-s (\w)|-l ([\w-]+)", rest)
     return {f"-{short}" if short else f"--{long}": re.search(r" -[rx]\b", rest) is not None for short, long in forms}
 
 
-def run_fish(wanted, file):
+def run_fish(wanted: Help, file: Path) -> None:
     with tempfile.TemporaryDirectory() as folder:
         (Path(folder) / "file").touch()
 
-        def offers(*words):
+        def offers(*words: str) -> set[str]:
             line = " ".join([TOP, *words])
-            lines = run("fish", "--no-config", "-c", f"source {file}; complete -C '{line}'", cwd=folder).splitlines()
+            lines = run("fish", "--no-config", "-c", f"source {file}; complete -C '{line}'", folder=folder).splitlines()
             return {it.split("\t")[0] for it in lines}
 
         same("crdx.fish: crdx", offers(""), set(wanted.names))
@@ -227,14 +233,14 @@ def run_fish(wanted, file):
                 same(f"crdx.fish: {name}: {value}", offers(name, *wanted.arguments[name][:at], ""), files)
 
 
-def is_installed(shell):
+def is_installed(shell: str) -> bool:
     found = shutil.which(shell) is not None
     if not found:
         print(f"test_manual.py: no {shell} here, so its completion is read and not run")
     return found
 
 
-def main(program, folder):
+def main(program: str, folder: str) -> None:
     wanted = Help(program)
     completions = Path(folder).resolve() / "completions"
     check_man(wanted, (Path(folder) / "crdx.1").read_text("utf-8"))

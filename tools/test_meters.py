@@ -4,6 +4,7 @@
 A contract does not see what a body makes, so no proof says this. Each other way to a meter is written into a function of a copy of
 `enumerate`, and the compiler, which is asked for no proof, has to refuse each of these lines and nothing else. A new call of `plan` that
 answers a meter has another name than those, so the text of `plan` is searched too."""
+from __future__ import annotations
 
 import pathlib
 import re
@@ -11,6 +12,7 @@ import shutil
 import subprocess
 import sys
 import tempfile
+from typing import Iterator, NoReturn
 
 ROOT = pathlib.Path(__file__).resolve().parent.parent
 
@@ -38,11 +40,11 @@ NAMED = [
 ]
 
 
-def stop(message):
+def stop(message: str) -> NoReturn:
     sys.exit(f"test_meters.py: {message}")
 
 
-def named():
+def named() -> Iterator[tuple[str, str]]:
     """The lines of `plan` that name the type `Meter`, or `Self` in its file, with their files."""
     source = ROOT / "crates/plan/src"
     for file in source.rglob("*.rt"):
@@ -55,7 +57,7 @@ def named():
                 yield str(file.relative_to(source)), line
 
 
-def said(folder):
+def said(folder: pathlib.Path) -> tuple[list[tuple[str, str, str]], int]:
     """What the compiler says of each line of a copy of `list.rt` with a test and the ways in it, and the number of the first of these."""
     shutil.copy(ROOT / "crates.txt", folder)
     left_out = shutil.ignore_patterns("out", "proofs", "must-fail")
@@ -71,7 +73,7 @@ def said(folder):
     return errors, start + 1
 
 
-def main():
+def main() -> None:
     found = sorted(named())
     if found != sorted(NAMED):
         stop(f"the lines of crates/plan that name Meter are {found}")

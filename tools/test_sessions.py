@@ -7,12 +7,18 @@ follows is what it prints, on both streams; `...` stands for any lines. Lines th
 `# $` and ends in `(run where NAME is installed)`, where that program is. The commands of a page run one after another, in an empty folder
 with links to what is in this one. A page is skipped where a program that it uses is not installed.
 """
+from __future__ import annotations
+
 import re
 import shutil
 import subprocess
 import tempfile
 import unittest
 from pathlib import Path
+from typing import List, Tuple
+
+# a command, and the lines that it prints
+Command = Tuple[str, List[str]]
 
 ROOT = Path(__file__).resolve().parent.parent
 PAGES = ["README.md", "docs/RELAX.md", "docs/WALKTHROUGH.md"]
@@ -20,9 +26,9 @@ MARK = "@@ test_sessions.py @@"
 OPTIONAL = re.compile(r"# (\$ .*?) +\(run where (\S+) is installed\)")
 
 
-def commands_of(page):
-    """The commands of a page, each with the lines that it prints."""
-    commands = []
+def commands_of(page: str) -> list[Command]:
+    """The commands of a page."""
+    commands: list[Command] = []
     for block in re.findall(r"(?:^    .*\n)+", (ROOT / page).read_text(encoding="utf-8"), re.M):
         is_run = False
         for line in (line[4:] for line in block.splitlines()):
@@ -39,7 +45,7 @@ def commands_of(page):
     return commands
 
 
-def printed(commands):
+def printed(commands: list[Command]) -> list[list[str]]:
     """What each command prints, where they run one after another."""
     script = "exec 2>&1\n" + "".join(f"{command}\necho '{MARK}'\n" for command, _ in commands)
     with tempfile.TemporaryDirectory() as folder:
@@ -52,7 +58,7 @@ def printed(commands):
 class Sessions(unittest.TestCase):
     maxDiff = None
 
-    def test_pages(self):
+    def test_pages(self) -> None:
         for page in PAGES:
             commands = commands_of(page)
             missing = [name for name in ("jq", "kubectl") if not shutil.which(name) and any(name in command for command, _ in commands)]
