@@ -91,25 +91,35 @@ def figure_of_sample(name: str, schema: str, pools: str, limit: int) -> Unlimite
 
 
 UNLIMITED = [
-    *[figure for schema in sorted(cost_documents.large_schemas()) for figure in figures_of_schema(schema)],
-    *[figure_of_object(*words.split()) for words in [
-        "validate set 160000-integers", "validate set 200000-integers-of-10000-values", "validate list 500000-digits",
-        "validate map-list 10000-items-of-4-keys", "validate preserving 500000-digits", "prune preserving 500000-digits",
-        "default preserving 500000-digits", "validate map 90000-members", "prune object 90000-members", "default map 90000-members",
-        "leaves set 150000-descending-integers", "leaves list 500000-digits", "leaves map-list 10000-items-of-4-keys",
-        "leaves preserving 500000-digits", "leaves map 90000-members",
-    ]],
+    *[figure for schema in sorted(cost_documents.LARGE_SCHEMAS) for figure in figures_of_schema(schema)],
+    figure_of_object("validate", "set", "160000-integers"),
+    figure_of_object("validate", "set", "200000-integers-of-10000-values"),
+    figure_of_object("validate", "list", "500000-digits"),
+    figure_of_object("validate", "map-list", "10000-items-of-4-keys"),
+    figure_of_object("validate", "preserving", "500000-digits"),
+    figure_of_object("prune", "preserving", "500000-digits"),
+    figure_of_object("default", "preserving", "500000-digits"),
+    figure_of_object("validate", "map", "90000-members"),
+    figure_of_object("prune", "object", "90000-members"),
+    figure_of_object("default", "map", "90000-members"),
+    figure_of_object("leaves", "set", "150000-descending-integers"),
+    figure_of_object("leaves", "list", "500000-digits"),
+    figure_of_object("leaves", "map-list", "10000-items-of-4-keys"),
+    figure_of_object("leaves", "preserving", "500000-digits"),
+    figure_of_object("leaves", "map", "90000-members"),
     # plans of many places with full pools, at the greatest limit of words of 64 bits and at that of words of 128, and with as many lists
     # for paths as there may be
-    *[figure_of_sample(f"within {limit} nodes", schema, "full-pools", limit)
-      for schema in ["511-places-1-MiB", "84-map-lists-of-4-keys"] for limit in [63, 127]],
+    figure_of_sample("within 63 nodes", "511-places-1-MiB", "full-pools", 63),
+    figure_of_sample("within 127 nodes", "511-places-1-MiB", "full-pools", 127),
+    figure_of_sample("within 63 nodes", "84-map-lists-of-4-keys", "full-pools", 63),
+    figure_of_sample("within 127 nodes", "84-map-lists-of-4-keys", "full-pools", 127),
     figure_of_sample("with 64 lists for paths", "511-places-1-MiB", "listed-pools", 127),
 ]
 
 
 @dataclasses.dataclass(frozen=True)
 class Past:
-    """640 samples past the millionth of those that `sample` finds equal in size, against 640 past the first."""
+    """640 samples past the millionth one, against 640 past the first; the values of both are known by their numbers, from 0 on."""
 
     name: str
     command: str
@@ -177,7 +187,8 @@ class Runs:
         return (self.folder / "output").read_bytes()
 
     def fail(self, name: str) -> NoReturn:
-        stop(f"{name}: {self.text('errors').strip().rpartition(chr(10))[2]}")
+        said = self.text("errors").splitlines() or ["it failed"]
+        stop(f"{name}: {said[-1]}")
 
     def cost(self, words: list[str]) -> tuple[int, float, int]:
         """The status of words, the seconds that they take and their peak memory in KiB."""
@@ -240,10 +251,11 @@ class Figures:
 
     def objects_on_lines(self) -> None:
         """Samples are valid, so of each nothing is written."""
-        samples = self.runs.lines("samples of the issuer", [
-            PROGRAM, "sample", "issuer/crd.json", "v1", "--pools", "issuer/pools.json", "--limit", "63", "--count", "10000"])
-        if samples.count(b"\n") != 10000:
-            stop(f"samples of the issuer: {samples.count(10)}, and not 10,000")
+        command = "sample issuer/crd.json v1 --pools issuer/pools.json --limit 63 --count 10000"
+        samples = self.runs.lines("samples of the issuer", [PROGRAM, *command.split()])
+        count = len(samples.splitlines())
+        if count != 10000:
+            stop(f"samples of the issuer: {count}, and not 10,000")
         (self.runs.folder / "issuers").write_bytes(samples)
         self.row(Row(f"validate --lines of 10,000 samples, {len(samples)} bytes", 0.2, 8192, "validate issuer/crd.json v1 --lines issuers"))
         if said := self.runs.text("output"):
@@ -264,7 +276,7 @@ class Figures:
         (self.runs.folder / "list-of-lines").write_bytes(b'{"x":[' + b",".join(lines.splitlines()) + b"]}")
         listed = self.runs.best(many)
         printed = self.runs.best([WRAPPER, "prune", "preserving", "v1", "list-of-lines"])
-        show(f"{lines.count(10)} samples, {len(lines)} bytes")
+        show(f"{len(lines.splitlines())} samples, {len(lines)} bytes")
         self.ratio("listed, against cat of the lines", listed, self.runs.best(["cat", "lines"]))
         self.ratio("listed, against reading and printing them again (at most 2)", listed, printed, 2)
         show(f"peak memory of 10,000 samples, and of 64: {self.runs.peak(many)} KiB, {self.runs.peak([*some, '--count', '64'])} KiB")
@@ -316,9 +328,8 @@ class Figures:
 
 def prepare(runs: Runs) -> None:
     """Writes the documents."""
-    for documents in cost_documents.ALL:
-        for name, document in documents().items():
-            (runs.folder / name).write_text(compact(document), encoding="utf-8")
+    for name, document in cost_documents.DOCUMENTS.items():
+        (runs.folder / name).write_text(compact(document()), encoding="utf-8")
     (runs.folder / "issuer").symlink_to(ROOT / "examples" / "issuer")
     for schema in ("16000-places", "2021-places"):
         (runs.folder / f"pools-of-{schema}").write_bytes(runs.lines(f"pools of {schema}", [WRAPPER, "pools", schema, "v1", "--large"]))

@@ -1,13 +1,12 @@
 """The definitions, objects and pools over which tools/cost.py runs crdx."""
 from __future__ import annotations
 
-import sys
-from typing import Iterable, Iterator
-
-sys.dont_write_bytecode = True
+from typing import Callable, Dict, Iterable
 
 from crdx_schemas.documents import Json
 from large_schema import Schema, definition, large
+
+Documents = Dict[str, Callable[[], Json]]
 
 INTEGER: Schema = {"type": "integer"}
 BOOLEAN: Schema = {"type": "boolean"}
@@ -80,11 +79,6 @@ def optional(names: str) -> Json:
     return define(object_of({name: INTEGER for name in names}))
 
 
-def truths(count: int) -> Json:
-    """A definition of so many optional truth values."""
-    return define(object_of({f"f{number:04}": BOOLEAN for number in range(count)}))
-
-
 def named_fields(named: int) -> Json:
     """A definition of 28 objects of truth values, with junctors at each object that name so many fields, or with none: with junctors 511
     places."""
@@ -102,11 +96,6 @@ def named_fields(named: int) -> Json:
 def x_of(value: Iterable[Json]) -> Json:
     """An object whose field `x` has these items."""
     return {"x": [*value]}
-
-
-def items(count: int) -> Iterator[Json]:
-    """So many items with the same under three keys, and each with another value under the fourth."""
-    return ({"a": 0, "b": 0, "c": 0, "d": number} for number in range(count))
 
 
 def digits(number: int, base: int) -> list[int]:
@@ -149,87 +138,71 @@ def full_pools(count: int) -> Json:
     return {**integers_and_strings(count), "names": [f"n{number}" for number in range(min(count, 32))], "any": [[number] for number in range(count)]}
 
 
-def listed_pools() -> Json:
-    """Pools with 64 lists of 64 integers, for the paths of the first four objects of `objects`."""
-    return {"paths": {f"/a{outer}/b{inner}": [*range(64)] for outer in range(4) for inner in range(16)}}
-
-
-def fixed_pools(outer: int, inner: int) -> Json:
-    """Pools with one integer, which is the value of all fields of the object of this number of `objects`."""
-    return {"integers": [0], "fixed": {f"/a{outer}/b{number}": [0] for number in range(inner)}}
-
-
 # ---- all of them, by the names that commands have for them
 
-def large_schemas() -> dict[str, Json]:
-    return {
-        "24-steps": nested(24),
-        "32-by-16-properties": objects(32, 16, INTEGER),
-        "511-enums-of-64": enums(510),
-        "511-places-1-MiB": objects(30, 16, INTEGER, 2000),
-        "80001-keywords": keywords(80000),
-        "84-map-lists-of-4-keys": map_lists(3, 28),
-        "default-of-160000-integers-in-a-set": field_of({**SET, "default": [*range(160000)]}),
-        "descriptions-of-1000000-bytes": objects(1, 1, INTEGER, 500000),
-    }
+LARGE_SCHEMAS: Documents = {
+    "24-steps": lambda: nested(24),
+    "32-by-16-properties": lambda: objects(32, 16, INTEGER),
+    "511-enums-of-64": lambda: enums(510),
+    "511-places-1-MiB": lambda: objects(30, 16, INTEGER, 2000),
+    "80001-keywords": lambda: keywords(80000),
+    "84-map-lists-of-4-keys": lambda: map_lists(3, 28),
+    "default-of-160000-integers-in-a-set": lambda: field_of({**SET, "default": [*range(160000)]}),
+    "descriptions-of-1000000-bytes": lambda: objects(1, 1, INTEGER, 500000),
+}
 
+LARGE_OBJECTS: Documents = {
+    "160000-integers": lambda: x_of(range(160000)),
+    "150000-descending-integers": lambda: x_of(reversed(range(150000))),
+    "200000-integers-of-10000-values": lambda: x_of(number % 10000 for number in range(200000)),
+    "500000-digits": lambda: x_of(number % 10 for number in range(500000)),
+    "10000-items-of-4-keys": lambda: x_of({"a": 0, "b": 0, "c": 0, "d": number} for number in range(10000)),
+    "90000-members": lambda: {"x": {f"m{number}": 0 for number in range(90000)}},
+}
 
-def large_objects() -> dict[str, Json]:
-    return {
-        "160000-integers": x_of(range(160000)),
-        "150000-descending-integers": x_of(reversed(range(150000))),
-        "200000-integers-of-10000-values": x_of(number % 10000 for number in range(200000)),
-        "500000-digits": x_of(number % 10 for number in range(500000)),
-        "10000-items-of-4-keys": x_of(items(10000)),
-        "90000-members": {"x": {f"m{number}": 0 for number in range(90000)}},
-    }
+SCHEMAS_OF_OBJECTS: Documents = {
+    "set": lambda: field_of(SET),
+    "list": lambda: field_of({"type": "array", "items": INTEGER}),
+    "map-list": lambda: field_of(map_list([*"abcd"], {key: INTEGER for key in "abcd"})),
+    "map": lambda: field_of({"type": "object", "additionalProperties": INTEGER}),
+    "object": lambda: field_of({"type": "object"}),
+    "preserving": lambda: define({"type": "object", "x-kubernetes-preserve-unknown-fields": True}),
+}
 
+# definitions in the shape of those that operators ship, and an object that has every field
+REAL_SIZE: Documents = {
+    "16000-places": lambda: large(16000, 117)[0],
+    "object-of-16000-places": lambda: large(16000, 117)[1],
+    "2021-places": lambda: large(2021, 117)[0],
+}
 
-def schemas_of_objects() -> dict[str, Json]:
-    return {
-        "set": field_of(SET),
-        "list": field_of({"type": "array", "items": INTEGER}),
-        "map-list": field_of(map_list([*"abcd"], {key: INTEGER for key in "abcd"})),
-        "map": field_of({"type": "object", "additionalProperties": INTEGER}),
-        "object": field_of({"type": "object"}),
-        "preserving": define({"type": "object", "x-kubernetes-preserve-unknown-fields": True}),
-    }
+SCHEMAS_OF_SAMPLES: Documents = {
+    "truths": lambda: define(object_of({f"f{number:04}": BOOLEAN for number in range(1024)})),
+    "optional": lambda: optional("abcdefghijkl"),
+    "six": lambda: optional("abcdef"),
+    "fifteen": lambda: list_of_fifteen(object_of({key: BOOLEAN for key in "abc"}, required=[*"abc"])),
+    "one-of-two": lambda: list_of_fifteen(object_of({key: BOOLEAN for key in "ab"}, oneOf=[{"required": ["a"]}, {"required": ["b"]}])),
+    "named-0": lambda: named_fields(0),
+    "named-2": lambda: named_fields(2),
+    "named-4": lambda: named_fields(4),
+    "keys": lambda: define(object_of({"m": map_list(["host", "port"], {"host": {"type": "string"}, "port": INTEGER})})),
+    "11-by-1000-integers": lambda: objects(11, 1000, INTEGER),
+    "15-by-32-int-or-strings": lambda: objects(15, 32, {"x-kubernetes-int-or-string": True}),
+}
 
+POOLS: Documents = {
+    "full-pools": lambda: full_pools(64),
+    "large-pools": lambda: full_pools(1024),
+    # 64 lists of 64 integers, for the paths of the first four objects of 511-places-1-MiB
+    "listed-pools": lambda: {"paths": {f"/a{outer}/b{inner}": [*range(64)] for outer in range(4) for inner in range(16)}},
+    "small-pools": lambda: {"integers": [1], "strings": ["a"], "names": ["k"]},
+    "descending-pools": lambda: {"fixed": {"/x": [[*reversed(range(80000))]]}},
+    "two": lambda: {"integers": [0, 1]},
+    "four": lambda: {"strings": [*"abcd"], "integers": [*range(4)]},
+    "nine": lambda: {"integers": [*range(9)]},
+    # of each field of the last object of 11-by-1000-integers the value is fixed
+    "1000-fixed-fields": lambda: {"integers": [0], "fixed": {f"/a10/b{number}": [0] for number in range(1000)}},
+    "64-integers-and-strings": lambda: integers_and_strings(64),
+}
 
-def schemas_of_samples() -> dict[str, Json]:
-    two = object_of({key: BOOLEAN for key in "ab"}, oneOf=[{"required": ["a"]}, {"required": ["b"]}])
-    return {
-        "truths": truths(1024),
-        "optional": optional("abcdefghijkl"),
-        "six": optional("abcdef"),
-        "fifteen": list_of_fifteen(object_of({key: BOOLEAN for key in "abc"}, required=[*"abc"])),
-        "one-of-two": list_of_fifteen(two),
-        **{f"named-{named}": named_fields(named) for named in (0, 2, 4)},
-        "keys": define(object_of({"m": map_list(["host", "port"], {"host": {"type": "string"}, "port": INTEGER})})),
-        "11-by-1000-integers": objects(11, 1000, INTEGER),
-        "15-by-32-int-or-strings": objects(15, 32, {"x-kubernetes-int-or-string": True}),
-    }
-
-
-def definitions_of_real_shape() -> dict[str, Json]:
-    """A definition of 16,000 places with an object that has every field, and a smaller definition."""
-    crd, value = large(16000, 117)
-    return {"16000-places": crd, "object-of-16000-places": value, "2021-places": large(2021, 117)[0]}
-
-
-def pools() -> dict[str, Json]:
-    return {
-        "full-pools": full_pools(64),
-        "large-pools": full_pools(1024),
-        "listed-pools": listed_pools(),
-        "small-pools": {"integers": [1], "strings": ["a"], "names": ["k"]},
-        "descending-pools": {"fixed": {"/x": [[*reversed(range(80000))]]}},
-        "two": {"integers": [0, 1]},
-        "four": {"strings": [*"abcd"], "integers": [*range(4)]},
-        "nine": {"integers": [*range(9)]},
-        "1000-fixed-fields": fixed_pools(10, 1000),
-        "64-integers-and-strings": integers_and_strings(64),
-    }
-
-
-ALL = [large_schemas, large_objects, schemas_of_objects, schemas_of_samples, definitions_of_real_shape, pools]
+DOCUMENTS: Documents = {**LARGE_SCHEMAS, **LARGE_OBJECTS, **SCHEMAS_OF_OBJECTS, **REAL_SIZE, **SCHEMAS_OF_SAMPLES, **POOLS}
