@@ -23,13 +23,13 @@ PLUGIN = Path(__file__).resolve().parent / "kubectl-crdx"
 
 # a paragraph, which may be empty, and the indented lines below it
 Block = Tuple[str, List[str]]
-# the lines of a man page, by the titles of its sections
+# lines, by the titles of their sections
 Sections = Dict[str, List[str]]
 
 # The help
 
 
-class Value(enum.Enum):
+class Kind(enum.Enum):
     """What an argument or the value of an option is."""
 
     FILE = "file"
@@ -59,10 +59,10 @@ class Entry:
         return found[1] if found else None
 
     @property
-    def kind(self) -> Value:
+    def kind(self) -> Kind:
         if self.value == "COMMAND":
-            return Value.COMMAND
-        return Value.FILE if self.value == "FILE" or self.text.startswith("A JSON file") else Value.OTHER
+            return Kind.COMMAND
+        return Kind.FILE if self.value == "FILE" or self.text.startswith("A JSON file") else Kind.OTHER
 
 
 @dataclasses.dataclass
@@ -361,7 +361,7 @@ esac
 """
 
 
-ZSH_ACTIONS = {Value.FILE: "_files", Value.COMMAND: "{_describe -t commands command commands}", Value.OTHER: " "}
+ZSH_ACTIONS = {Kind.FILE: "_files", Kind.COMMAND: "{_describe -t commands command commands}", Kind.OTHER: " "}
 
 
 def zsh_specs(said: Help) -> Iterator[str]:
@@ -389,7 +389,7 @@ def fish(program: Program) -> str:
         lines += [f"complete -c crdx -n '__fish_seen_subcommand_from {name}' {it}" for it in fish_options(said)]
         valued = "".join(f" {flag}" for it in said.options if it.value for flag in it.flags)
         for number, it in enumerate(said.arguments, 1):
-            takes = {Value.FILE: " -F", Value.COMMAND: f" -a '{names}'", Value.OTHER: ""}[it.kind]
+            takes = {Kind.FILE: " -F", Kind.COMMAND: f" -a '{names}'", Kind.OTHER: ""}[it.kind]
             if takes:
                 lines.append(f"complete -c crdx -n '__crdx_is_at {name} {number}{valued}'{takes} -d {fish_quoted(it.text)}")
     return f"# Completion of crdx in fish, {MADE}.\n{FISH}" + "\n".join(lines) + "\n"
@@ -421,7 +421,7 @@ complete -c crdx -f
 def fish_options(said: Help) -> Iterator[str]:
     for it in said.options:
         flags = " ".join(f"-l {flag[2:]}" if flag.startswith("--") else f"-s {flag[1:]}" for flag in it.flags)
-        takes = {Value.FILE: " -r -F", Value.OTHER: " -x"}[it.kind] if it.value else ""
+        takes = {Kind.FILE: " -r -F", Kind.OTHER: " -x"}[it.kind] if it.value else ""
         yield f"{flags}{takes} -d {fish_quoted(it.text)}"
 
 
