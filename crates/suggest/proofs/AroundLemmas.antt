@@ -35,7 +35,7 @@ use Rattle.suggest.specs.Suggested.Around.{path_of_names, part_under, is_varied_
 use Rattle.suggest.specs.Suggested.Document.{general_of, beside_standing, document_of}
 use Rattle.suggest.specs.Suggested.Listed.{General}
 use Rattle.suggest.specs.Suggested.Lists.{schema_of_field}
-use Rattle.suggest.specs.Suggested.Varied.{Said, both, begins_with, goes_on, leads_on, kept, asked, said_at, said_below, said_of_fields, reach, reach_by_fields}
+use Rattle.suggest.specs.Suggested.Varied.{Suggestions, both, begins_with, goes_on, leads_on, as_in_object, always_present, suggestions_at, suggestions_below, suggestions_of_fields, reach, reach_by_fields}
 use Rattle.suggest.specs.declared.varying.Reach.TheVariants.{There}
 use Rattle.suggest.proofs.EntryLemmas.{values_at, pool_fixed, pool_present, all_present}
 use Rattle.suggest.proofs.SaidLemmas.{OneText, further, field_says, said_of_field, nothing_here, asks_below_same}
@@ -47,23 +47,23 @@ StoredLaw = (N : Node) (v : Data) → IsStored N v ↔ StoredByParts N v
 -- ---- pools in which this is said
 
 -- below a path
-pub record AreSaidBelow (P : Pools) (path : List ℕ) (S : Said) : Type 0 where
+pub record AreSaidBelow (P : Pools) (path : List ℕ) (S : Suggestions) : Type 0 where
   pub fixed : (s : FieldStep) (p : FieldPath) → fixed_at (path ++ path_text (s ∷ p)) P ≡ values_at (path ++ path_text (s ∷ p)) S.fixed
   pub present : (s : FieldStep) (p : FieldPath) → is_present (path ++ path_text (s ∷ p)) P ≡ is_among (path ++ path_text (s ∷ p)) S.present
 
 -- at a path, and below it
-pub record AreSaidAt (P : Pools) (path : List ℕ) (S : Said) : Type 0 where
+pub record AreSaidAt (P : Pools) (path : List ℕ) (S : Suggestions) : Type 0 where
   pub fixed : (p : FieldPath) → fixed_at (path ++ path_text p) P ≡ values_at (path ++ path_text p) S.fixed
   pub present : (p : FieldPath) → is_present (path ++ path_text p) P ≡ is_among (path ++ path_text p) S.present
 
-pub fixed_here : (P : Pools) (path : List ℕ) (S : Said) → AreSaidAt P path S → fixed_at path P ≡ values_at path S.fixed
+pub fixed_here : (P : Pools) (path : List ℕ) (S : Suggestions) → AreSaidAt P path S → fixed_at path P ≡ values_at path S.fixed
 fixed_here P path S a = subst (λ t. fixed_at t P ≡ values_at t S.fixed) (append-nil path) (a.fixed [])
 
-pub present_here : (P : Pools) (path : List ℕ) (S : Said) → AreSaidAt P path S → is_present path P ≡ is_among path S.present
+pub present_here : (P : Pools) (path : List ℕ) (S : Suggestions) → AreSaidAt P path S → is_present path P ≡ is_among path S.present
 present_here P path S a = subst (λ t. is_present t P ≡ is_among t S.present) (append-nil path) (a.present [])
 
 pub said_at_field : OneText → (P : Pools) (G : General) (ts : List (List ℕ)) (v schema : Option Data) (path : List ℕ) (fs : Fields) (k : List ℕ) (f : Declared) → AreOrdered fs → field_at k fs ≡ Some f
-    → AreSaidBelow P path (said_of_fields G ts v schema path fs) → AreSaidAt P (below path (field k)) (said_of_field G ts v schema path k f)
+    → AreSaidBelow P path (suggestions_of_fields G ts v schema path fs) → AreSaidAt P (below path (field k)) (said_of_field G ts v schema path k f)
 said_at_field one P G ts v schema path fs k f ordered found a = record {
   fixed = λ p. subst (λ t. fixed_at t P ≡ values_at t (said_of_field G ts v schema path k f).fixed) (sym (further path (field k) p))
       (a.fixed (field k) p ∙ (field_says one G ts v schema path fs k f p ordered found).fixed);
@@ -74,11 +74,11 @@ said_at_field one P G ts v schema path fs k f ordered found a = record {
 -- ---- at a path that is not varied
 
 pub leads_at : (G : General) (ts : List (List ℕ)) (v default schema : Option Data) (path : List ℕ) (N : Node) → is_among path ts ≡ false → leads_on path ts ≡ true
-    → said_at G ts v default schema path N ≡ both (asked path) (said_below G ts v schema path N)
+    → suggestions_at G ts v default schema path N ≡ both (always_present path) (suggestions_below G ts v schema path N)
 leads_at G ts v default schema path N other leads = rw (other, leads) refl
 
 pub kept_at : (G : General) (ts : List (List ℕ)) (v default schema : Option Data) (path : List ℕ) (N : Node) → is_among path ts ≡ false → leads_on path ts ≡ false
-    → said_at G ts v default schema path N ≡ kept path v
+    → suggestions_at G ts v default schema path N ≡ as_in_object path v
 kept_at G ts v default schema path N other ends = rw (other, ends) refl
 
 pub own_among : (path : List ℕ) (ts : List (List ℕ)) → is_among path (path ∷ ts) ≡ true
@@ -88,14 +88,14 @@ pub own_values : (path : List ℕ) (vs : List Data) → values_at path (record {
 own_values path vs = rw (own_name path) refl
 
 -- what leads on is not fixed itself, and always there
-pub leading_unfixed : OneText → (P : Pools) (G : General) (ts : List (List ℕ)) (v schema : Option Data) (path : List ℕ) (N : Node) → AreSaidAt P path (both (asked path) (said_below G ts v schema path N))
+pub leading_unfixed : OneText → (P : Pools) (G : General) (ts : List (List ℕ)) (v schema : Option Data) (path : List ℕ) (N : Node) → AreSaidAt P path (both (always_present path) (suggestions_below G ts v schema path N))
     → fixed_at path P ≡ None
-leading_unfixed one P G ts v schema path N a = fixed_here P path (both (asked path) (said_below G ts v schema path N)) a ∙ (nothing_here one G ts v schema path N).fixed
+leading_unfixed one P G ts v schema path N a = fixed_here P path (both (always_present path) (suggestions_below G ts v schema path N)) a ∙ (nothing_here one G ts v schema path N).fixed
 
-pub leading_present : (P : Pools) (path : List ℕ) (S : Said) → AreSaidAt P path (both (asked path) S) → is_present path P ≡ true
-leading_present P path S a = present_here P path (both (asked path) S) a ∙ own_among path S.present
+pub leading_present : (P : Pools) (path : List ℕ) (S : Suggestions) → AreSaidAt P path (both (always_present path) S) → is_present path P ≡ true
+leading_present P path S a = present_here P path (both (always_present path) S) a ∙ own_among path S.present
 
-pub said_after : OneText → (P : Pools) (path : List ℕ) (S : Said) → AreSaidAt P path (both (asked path) S) → AreSaidBelow P path S
+pub said_after : OneText → (P : Pools) (path : List ℕ) (S : Suggestions) → AreSaidAt P path (both (always_present path) S) → AreSaidBelow P path S
 said_after one P path S a = record { fixed = λ s p. a.fixed (s ∷ p) ∙ (asks_below_same one path s p S).fixed; present = λ s p. a.present (s ∷ p) ∙ (asks_below_same one path s p S).present }
 
 -- ---- a field of a value that is stored and over the pools
@@ -175,20 +175,20 @@ same_tree v w e = tree_same v w (tied (tree_cmp v w) e) where
   tied Greater e = absurd (cc)
 
 kept_same : StoredLaw → (P : Pools) (path : List ℕ) (nullable : Bool) (description : Option (List ℕ)) (fs : Fields) (preserves : Bool) (type : MapType) (bounds : Bounds) (cs : Validations) (w : Data)
-    (k : List ℕ) (f : Declared) (v : Option Data) → field_at k fs ≡ Some f → AreSaidAt P (below path (field k)) (kept (below path (field k)) v)
+    (k : List ℕ) (f : Declared) (v : Option Data) → field_at k fs ≡ Some f → AreSaidAt P (below path (field k)) (as_in_object (below path (field k)) v)
     → IsStored (node nullable description (object fs preserves type bounds cs)) w → IsOver P None path (node nullable description (object fs preserves type bounds cs)) w → under w k ≡ v
 kept_same law P path nullable description fs preserves type bounds cs w k f None found said stored over = elim (option_cases (under w k)) [
   | inl none ↦ none
   | inr some ↦
       let x = found_there law P path nullable description fs preserves type bounds cs w some.0 k f found some.1 stored over in
-      let fixed = fixed_here P (below path (field k)) (kept (below path (field k)) None) said ∙ own_values (below path (field k)) [] in
+      let fixed = fixed_here P (below path (field k)) (as_in_object (below path (field k)) None) said ∙ own_values (below path (field k)) [] in
       let listed : is_in x.value [] ≡ true = (subst (λ o. IsOver P o (below path (field k)) f.node x.value) fixed x.over) [] [] in
       absurd (cc)
 ]
 kept_same law P path nullable description fs preserves type bounds cs w k f (Some u) found said stored over =
-    let asked = present_here P (below path (field k)) (kept (below path (field k)) (Some u)) said ∙ own_among (below path (field k)) [] in
+    let asked = present_here P (below path (field k)) (as_in_object (below path (field k)) (Some u)) said ∙ own_among (below path (field k)) [] in
     let x = is_there law P path nullable description fs preserves type bounds cs w k f found asked stored over in
-    let fixed = fixed_here P (below path (field k)) (kept (below path (field k)) (Some u)) said ∙ own_values (below path (field k)) (u ∷ []) in
+    let fixed = fixed_here P (below path (field k)) (as_in_object (below path (field k)) (Some u)) said ∙ own_values (below path (field k)) (u ∷ []) in
     let listed : is_in x.value (u ∷ []) ≡ true = (subst (λ o. IsOver P o (below path (field k)) f.node x.value) fixed x.over) [] [] in
     x.there ∙ ap Some (same_tree x.value u listed)
 
@@ -224,7 +224,7 @@ two_steps None k ks = refl
 two_steps (Some u) k ks = refl
 
 same_along : StoredLaw → OneText → (P : Pools) (G : General) (ts ks front : List (List ℕ)) (path : List ℕ) (N M : Node) (v schema : Option Data) (w : Data) → path ≡ path_text (path_of_names front)
-    → IsNode N → leads_on path ts ≡ true → AreSaidBelow P path (said_below G ts v schema path N) → node_at N (place_of (path_of_names ks)) ≡ Some M → is_varied_above front ks ts ≡ false
+    → IsNode N → leads_on path ts ≡ true → AreSaidBelow P path (suggestions_below G ts v schema path N) → node_at N (place_of (path_of_names ks)) ≡ Some M → is_varied_above front ks ts ≡ false
     → leads_on (path_text (path_of_names (front ++ ks))) ts ≡ false → IsStored N w → IsOver P None path N w → part_under w ks ≡ option_and_then (λ u. part_under u ks) v
 same_along law one P G ts [] front path N M v schema w is ordered leads said there above ends stored over =
     let no : leads_on path ts ≡ false = subst (λ t. leads_on t ts ≡ false) (sym (is ∙ ap (λ x. path_text (path_of_names x)) (sym (append-nil front)))) ends in
@@ -238,11 +238,11 @@ same_along law one P G ts (k ∷ ks) front path (node nullable description (obje
     elim (bool_cases (leads_on (below path (field k)) ts)) [
       | inl more ↦
           let goes = subst (λ S. AreSaidAt P (below path (field k)) S) (leads_at G ts (option_and_then (λ u. under u k) v) f.0.default (schema_of_field schema k) (below path (field k)) f.0.node other more) at in
-          let asked = leading_present P (below path (field k)) (said_below G ts (option_and_then (λ u. under u k) v) (schema_of_field schema k) (below path (field k)) f.0.node) goes in
+          let asked = leading_present P (below path (field k)) (suggestions_below G ts (option_and_then (λ u. under u k) v) (schema_of_field schema k) (below path (field k)) f.0.node) goes in
           let x = is_there law P path nullable description fs preserves type bounds cs w k f.0 f.1 asked stored over in
           let unfixed = leading_unfixed one P G ts (option_and_then (λ u. under u k) v) (schema_of_field schema k) (below path (field k)) f.0.node goes in
           let deeper = same_along law one P G ts ks (front ++ k ∷ []) (below path (field k)) f.0.node M (option_and_then (λ u. under u k) v) (schema_of_field schema k) x.value next
-          (field_node fs k f.0 ordered f.1) more (said_after one P (below path (field k)) (said_below G ts (option_and_then (λ u. under u k) v) (schema_of_field schema k) (below path (field k)) f.0.node) goes)
+          (field_node fs k f.0 ordered f.1) more (said_after one P (below path (field k)) (suggestions_below G ts (option_and_then (λ u. under u k) v) (schema_of_field schema k) (below path (field k)) f.0.node) goes)
           f.2 rest (subst (λ t. leads_on (path_text (path_of_names t)) ts ≡ false) (sym (append_assoc front (k ∷ []) ks)) ends) x.stored
           (subst (λ o. IsOver P o (below path (field k)) f.0.node x.value) unfixed x.over) in
           ap (option_and_then (λ x. part_under x ks)) x.there ∙ (deeper ∙ two_steps v k ks)
@@ -273,7 +273,7 @@ starts : (text : List ℕ) (v : Option Data) (N : Node) → reach text v [] N �
 starts text v (node nullable description (object fs preserves type bounds cs)) there = fields_start text v fs there
 starts text v N there = absurd (cc)
 
-pub root_said : (limits : PoolLimits) (root : Node) (S : Said) → AreSaidBelow (pools_of (document_of limits root [] S)) [] S
+pub root_said : (limits : PoolLimits) (root : Node) (S : Suggestions) → AreSaidBelow (pools_of (document_of limits root [] S)) [] S
 root_said limits root S = record {
   fixed = λ s p. pool_fixed limits root [] S (path_text (s ∷ p)) ∙ ap (values_at (path_text (s ∷ p))) (append-nil S.fixed);
   present = λ s p. ap (is_among (path_text (s ∷ p))) (pool_present limits root [] S ∙ all_present S.present);
@@ -285,8 +285,8 @@ root_leads root v t ts there = rw (starts t (Some v) root there) refl
 pub same_outside : StoredLaw → OneText → SamplesAreTheObjectOutside
 same_outside law one limits raw root v [] limit w ordered some varied sample = absurd (some refl)
 same_outside law one limits raw root v (t ∷ ts) limit w ordered some varied taken = λ ks N there above ends.
-    let sample : IsSample root (pools_of (document_of limits root [] (said_below (beside_standing (general_of limits root)) (t ∷ ts) (Some v) (Some raw) [] root))) limit w =
-    subst (λ u. IsSample root (pools_of (document_of limits root [] (said_below (beside_standing (general_of limits root)) (t ∷ ts) (Some u) (Some raw) [] root))) limit w) (nothing_taken [] root v) taken in
-    same_along law one (pools_of (document_of limits root [] (said_below (beside_standing (general_of limits root)) (t ∷ ts) (Some v) (Some raw) [] root))) (beside_standing (general_of limits root)) (t ∷ ts) ks [] [] root N (Some v) (Some raw) w refl
-    ordered (root_leads root v t ts (All-head (λ t. reach t (Some v) [] root ≡ There) t ts varied)) (root_said limits root (said_below (beside_standing (general_of limits root)) (t ∷ ts) (Some v) (Some raw) [] root))
+    let sample : IsSample root (pools_of (document_of limits root [] (suggestions_below (beside_standing (general_of limits root)) (t ∷ ts) (Some v) (Some raw) [] root))) limit w =
+    subst (λ u. IsSample root (pools_of (document_of limits root [] (suggestions_below (beside_standing (general_of limits root)) (t ∷ ts) (Some u) (Some raw) [] root))) limit w) (nothing_taken [] root v) taken in
+    same_along law one (pools_of (document_of limits root [] (suggestions_below (beside_standing (general_of limits root)) (t ∷ ts) (Some v) (Some raw) [] root))) (beside_standing (general_of limits root)) (t ∷ ts) ks [] [] root N (Some v) (Some raw) w refl
+    ordered (root_leads root v t ts (All-head (λ t. reach t (Some v) [] root ≡ There) t ts varied)) (root_said limits root (suggestions_below (beside_standing (general_of limits root)) (t ∷ ts) (Some v) (Some raw) [] root))
     there above ends sample.part.stored sample.part.over

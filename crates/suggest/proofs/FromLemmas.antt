@@ -24,7 +24,7 @@ use Rattle.plan.specs.Pools.Pools.{Pools, fixed_at}
 use Rattle.plan.specs.Samples.Candidates.{sort_at}
 use Rattle.plan.specs.Samples.Site.{below}
 use Rattle.plan.specs.Samples.Over.{listed, listed_for, is_in, IsOverAlong}
-use Rattle.suggest.specs.Suggested.Document.{general_of, said_by}
+use Rattle.suggest.specs.Suggested.Document.{general_of, suggestions_by}
 use Rattle.suggest.specs.Suggested.FromObjects.{from_objects, pools_from, WhatStandsThereIsACandidate}
 use Rattle.suggest.specs.Suggested.LeftOut.{Follows}
 use Rattle.suggest.specs.Suggested.Listed.{General, takes, hinted_values, joined, listed_values}
@@ -222,7 +222,7 @@ pub standing_candidate : StoredLaw → OneText → WhatStandsThereIsACandidate
 standing_candidate law one limits raw root vs ws x p N v ordered there s uncut =
     let P = pools_from limits raw root vs ws in
     let w = without_paths root (from_objects vs ws) in
-    let S = said_by [] (general_of limits root) w raw root in
+    let S = suggestions_by [] (general_of limits root) w raw root in
     let stays : is_among (path_text p) ws ≡ false = elim (bool_cases (is_among (path_text p) ws)) [
       | inl gone ↦ absurd (none_left_out ws s.path p [] root N x v (λ e. absurd (s.below_root e)) gone s.node s.follows s.part)
       | inr stays ↦ stays

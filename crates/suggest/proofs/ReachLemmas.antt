@@ -38,13 +38,13 @@ use Rattle.std.specs.List.{fold}
 use Rattle.plan.specs.Samples.Over.{is_in, scalars_of, IsOver}
 use Rattle.suggest.specs.Suggested.Scalars.{in_scalar, in_branches, in_scalars, in_fields}
 use Rattle.suggest.specs.Suggested.Values.{fits_64_bits, around, around_bounds, longest, short_length, short_lengths, all_integers, all_lengths}
-use Rattle.suggest.specs.Suggested.Document.{letters, suggested_integers, suggested_strings, members_from, general_of, nothing_wanted, said_by}
+use Rattle.suggest.specs.Suggested.Document.{letters, suggested_integers, suggested_strings, members_from, general_of, nothing_wanted, suggestions_by}
 use Rattle.suggest.specs.Suggested.Reached.{HasBoundsAlone, IsBounded, IsWithinReach, suggested_alone, HasCandidateLike}
 use Rattle.suggest.specs.Suggested.Chosen.{with_value, chosen_values}
 use Rattle.suggest.specs.Suggested.Formats.{texts_of_format}
 use Rattle.suggest.specs.Suggested.Listed.{General, takes, lists_itself, takes_texts_alone, own_values, format_values, few, general_values, hinted_from, hinted_values, listed_values}
 use Rattle.suggest.specs.Suggested.Lists.{Entry, lists_at}
-use Rattle.suggest.specs.Suggested.Varied.{Said}
+use Rattle.suggest.specs.Suggested.Varied.{Suggestions}
 use Rattle.suggest.proofs.AscendingLemmas.{ascending_has}
 use Rattle.suggest.proofs.FitLemmas.{integer_fits}
 use Rattle.suggest.proofs.FormLemmas.{listed_back, pool_fixed, pool_paths, pool_integers, pool_strings}
@@ -271,8 +271,8 @@ no_below n d kind cs negation = refl
 abbrev general : Node → General
 general root = general_of standard root
 
-abbrev said_alone : Data → Node → Said
-said_alone raw root = said_by [] (general root) nothing_wanted raw root
+abbrev said_alone : Data → Node → Suggestions
+said_alone raw root = suggestions_by [] (general root) nothing_wanted raw root
 
 abbrev Pool : Data → Node → Pools
 Pool raw root = suggested_alone raw root

@@ -19,7 +19,7 @@ use Rattle.plan.specs.Samples.Site.{below}
 use Rattle.suggest.specs.Suggested.Standing.{field_values, item_values, member_values}
 use Rattle.suggest.specs.Suggested.Listed.{General, listed_values}
 use Rattle.suggest.specs.Suggested.Lists.{Entry, entry_of, schema_of_field, schema_of_items, schema_of_values, lists_at, lists_of_fields}
-use Rattle.suggest.specs.Suggested.Varied.{Said, both, leads_on, free, kept, asked, said_at, said_below, said_of_fields}
+use Rattle.suggest.specs.Suggested.Varied.{Suggestions, both, leads_on, lists_alone, as_in_object, always_present, suggestions_at, suggestions_below, suggestions_of_fields}
 use Rattle.suggest.proofs.EntryLemmas.{other_name, later_or, later_none, values_at, values_append}
 
 -- different paths have different texts
@@ -102,7 +102,7 @@ mutual
 
 -- ---- nothing is said at other texts
 
-pub record SaysNothing (text : List ℕ) (S : Said) : Type 0 where
+pub record SaysNothing (text : List ℕ) (S : Suggestions) : Type 0 where
   pub fixed : values_at text S.fixed ≡ None
   pub present : is_among text S.present ≡ false
   pub lists : values_at text S.lists ≡ None
@@ -114,14 +114,14 @@ among_append text (s ∷ ss) ts = ap (λ b. bytes_eq text s || b) (among_append 
   or_assoc true b c = refl
   or_assoc false b c = refl
 
-both_nothing : (text : List ℕ) (A B : Said) → SaysNothing text A → SaysNothing text B → SaysNothing text (both A B)
+both_nothing : (text : List ℕ) (A B : Suggestions) → SaysNothing text A → SaysNothing text B → SaysNothing text (both A B)
 both_nothing text A B a b = record {
   fixed = none_append text A.fixed B.fixed a.fixed b.fixed;
   present = among_append text A.present B.present ∙ (ap (λ x. x || is_among text B.present) a.present ∙ b.present);
   lists = none_append text A.lists B.lists a.lists b.lists;
 }
 
-free_nothing : (G : General) (v default schema : Option Data) (path : List ℕ) (N : Node) (text : List ℕ) → IsOff path text → SaysNothing text (free G v default schema path N)
+free_nothing : (G : General) (v default schema : Option Data) (path : List ℕ) (N : Node) (text : List ℕ) → IsOff path text → SaysNothing text (lists_alone G (option_to_list v) default schema path N)
 free_nothing G v default schema path N text off = record { fixed = refl; present = refl; lists = lists_off G (option_to_list v) default schema path N text off }
 
 one_off : (path text : List ℕ) → (text ≡ path → ⊥) → is_among text (path ∷ []) ≡ false
@@ -130,42 +130,42 @@ one_off path text other = rw (other_name text path other) refl
 one_entry_off : (path : List ℕ) (vs : List Data) (text : List ℕ) → (text ≡ path → ⊥) → values_at text (record { path = path; values = vs } ∷ []) ≡ None
 one_entry_off path vs text other = rw (other_name text path other) refl
 
-kept_nothing : (path : List ℕ) (v : Option Data) (text : List ℕ) → (text ≡ path → ⊥) → SaysNothing text (kept path v)
+kept_nothing : (path : List ℕ) (v : Option Data) (text : List ℕ) → (text ≡ path → ⊥) → SaysNothing text (as_in_object path v)
 kept_nothing path None text other = record { fixed = one_entry_off path [] text other; present = refl; lists = refl }
 kept_nothing path (Some v) text other = record { fixed = one_entry_off path (v ∷ []) text other; present = one_off path text other; lists = refl }
 
-asked_nothing : (path text : List ℕ) → (text ≡ path → ⊥) → SaysNothing text (asked path)
+asked_nothing : (path text : List ℕ) → (text ≡ path → ⊥) → SaysNothing text (always_present path)
 asked_nothing path text other = record { fixed = refl; present = one_off path text other; lists = refl }
 
 at_nothing : (G : General) (ts : List (List ℕ)) (v default schema : Option Data) (path : List ℕ) (N : Node) (text : List ℕ) → IsOff path text
-    → SaysNothing text (said_below G ts v schema path N) → SaysNothing text (said_at G ts v default schema path N)
+    → SaysNothing text (suggestions_below G ts v schema path N) → SaysNothing text (suggestions_at G ts v default schema path N)
 at_nothing G ts v default schema path N text off inner = elim (bool_cases (is_among path ts)) [
   | inl varied ↦ rw varied (free_nothing G v default schema path N text off)
   | inr other ↦ elim (bool_cases (leads_on path ts)) [
-    | inl leads ↦ rw (other, leads) (both_nothing text (asked path) (said_below G ts v schema path N) (asked_nothing path text (off_here path text off)) inner)
+    | inl leads ↦ rw (other, leads) (both_nothing text (always_present path) (suggestions_below G ts v schema path N) (asked_nothing path text (off_here path text off)) inner)
     | inr ends ↦ rw (other, ends) (kept_nothing path v text (off_here path text off))
   ]
 ]
 
 mutual
-  below_nothing : (G : General) (ts : List (List ℕ)) (v schema : Option Data) (path : List ℕ) (N : Node) (text : List ℕ) → IsOffBelow path text → SaysNothing text (said_below G ts v schema path N)
+  below_nothing : (G : General) (ts : List (List ℕ)) (v schema : Option Data) (path : List ℕ) (N : Node) (text : List ℕ) → IsOffBelow path text → SaysNothing text (suggestions_below G ts v schema path N)
   below_nothing G ts v schema path (node nullable description (object fs preserves type bounds cs)) text off = fields_nothing G ts v schema path fs text (off_all path text fs off)
   below_nothing G ts v schema path (node nullable description (map N type bounds)) text off = record { fixed = refl; present = refl; lists = refl }
   below_nothing G ts v schema path (node nullable description (list N type keys bounds)) text off = record { fixed = refl; present = refl; lists = refl }
   below_nothing G ts v schema path (node nullable description (scalar kind cs)) text off = record { fixed = refl; present = refl; lists = refl }
   below_nothing G ts v schema path (node nullable description open_) text off = record { fixed = refl; present = refl; lists = refl }
 
-  fields_nothing : (G : General) (ts : List (List ℕ)) (v schema : Option Data) (path : List ℕ) (fs : Fields) (text : List ℕ) → AreOff path fs text → SaysNothing text (said_of_fields G ts v schema path fs)
+  fields_nothing : (G : General) (ts : List (List ℕ)) (v schema : Option Data) (path : List ℕ) (fs : Fields) (text : List ℕ) → AreOff path fs text → SaysNothing text (suggestions_of_fields G ts v schema path fs)
   fields_nothing G ts v schema path no_fields text off = record { fixed = refl; present = refl; lists = refl }
   fields_nothing G ts v schema path (field k N required default fs) text off =
-      both_nothing text (said_at G ts (option_and_then (λ w. under w k) v) default (schema_of_field schema k) (below path (step.field k)) N) (said_of_fields G ts v schema path fs)
+      both_nothing text (suggestions_at G ts (option_and_then (λ w. under w k) v) default (schema_of_field schema k) (below path (step.field k)) N) (suggestions_of_fields G ts v schema path fs)
       (at_nothing G ts (option_and_then (λ w. under w k) v) default (schema_of_field schema k) (below path (step.field k)) N text off.0
       (below_nothing G ts (option_and_then (λ w. under w k) v) (schema_of_field schema k) (below path (step.field k)) N text (λ s p. off.0 (s ∷ p))))
       (fields_nothing G ts v schema path fs text off.1)
 
 -- ---- what is said at texts of one field is what is said at the field
 
-pub record SaysSame (text : List ℕ) (S T : Said) : Type 0 where
+pub record SaysSame (text : List ℕ) (S T : Suggestions) : Type 0 where
   pub fixed : values_at text S.fixed ≡ values_at text T.fixed
   pub present : is_among text S.present ≡ is_among text T.present
   pub lists : values_at text S.lists ≡ values_at text T.lists
@@ -180,14 +180,14 @@ left_same text ds es e = values_append text ds es ∙ ap (λ o. later_or o (valu
 pub right_same : (text : List ℕ) (ds es : List Entry) → values_at text ds ≡ None → values_at text (ds ++ es) ≡ values_at text es
 right_same text ds es d = values_append text ds es ∙ (ap (λ o. later_or (values_at text es) o) d ∙ later_none (values_at text es))
 
-says_left : (text : List ℕ) (A B : Said) → SaysNothing text B → SaysSame text (both A B) A
+says_left : (text : List ℕ) (A B : Suggestions) → SaysNothing text B → SaysSame text (both A B) A
 says_left text A B b = record {
   fixed = left_same text A.fixed B.fixed b.fixed;
   present = among_append text A.present B.present ∙ (ap (λ x. is_among text A.present || x) b.present ∙ or_false (is_among text A.present));
   lists = left_same text A.lists B.lists b.lists;
 }
 
-says_right : (text : List ℕ) (A B C : Said) → SaysNothing text A → SaysSame text B C → SaysSame text (both A B) C
+says_right : (text : List ℕ) (A B C : Suggestions) → SaysNothing text A → SaysSame text B C → SaysSame text (both A B) C
 says_right text A B C a b = record {
   fixed = right_same text A.fixed B.fixed a.fixed ∙ b.fixed;
   present = among_append text A.present B.present ∙ (ap (λ x. x || is_among text B.present) a.present ∙ b.present);
@@ -195,11 +195,11 @@ says_right text A B C a b = record {
 }
 
 -- what is said of a field of the object, at its path and below it
-abbrev pub said_of_field : General → List (List ℕ) → Option Data → Option Data → List ℕ → List ℕ → Declared → Said
-said_of_field G ts v schema path k f = said_at G ts (option_and_then (λ w. under w k) v) f.default (schema_of_field schema k) (below path (step.field k)) f.node
+abbrev pub said_of_field : General → List (List ℕ) → Option Data → Option Data → List ℕ → List ℕ → Declared → Suggestions
+said_of_field G ts v schema path k f = suggestions_at G ts (option_and_then (λ w. under w k) v) f.default (schema_of_field schema k) (below path (step.field k)) f.node
 
 pub field_says : OneText → (G : General) (ts : List (List ℕ)) (v schema : Option Data) (path : List ℕ) (fs : Fields) (k : List ℕ) (f : Declared) (p : FieldPath) → AreOrdered fs → field_at k fs ≡ Some f
-    → SaysSame (path ++ path_text (step.field k ∷ p)) (said_of_fields G ts v schema path fs) (said_of_field G ts v schema path k f)
+    → SaysSame (path ++ path_text (step.field k ∷ p)) (suggestions_of_fields G ts v schema path fs) (said_of_field G ts v schema path k f)
 field_says one G ts v schema path no_fields k f p ordered found = absurd (cc)
 field_says one G ts v schema path (field l N required default fs) k f p ordered found =
     elim (bool_cases (bytes_eq k l)) [
@@ -207,16 +207,16 @@ field_says one G ts v schema path (field l N required default fs) k f p ordered 
           let here : Some (record { node = N; required = required; default = default }) ≡ Some f = rw same at found in
           let is : record { node = N; required = required; default = default } ≡ f = cc in
           let name : k ≡ l = same_name k l same in
-          subst (λ g. SaysSame (path ++ path_text (step.field k ∷ p)) (said_of_fields G ts v schema path (field l N required default fs)) (said_of_field G ts v schema path k g)) is
-          (subst (λ n. SaysSame (path ++ path_text (step.field k ∷ p)) (said_of_fields G ts v schema path (field l N required default fs))
+          subst (λ g. SaysSame (path ++ path_text (step.field k ∷ p)) (suggestions_of_fields G ts v schema path (field l N required default fs)) (said_of_field G ts v schema path k g)) is
+          (subst (λ n. SaysSame (path ++ path_text (step.field k ∷ p)) (suggestions_of_fields G ts v schema path (field l N required default fs))
           (said_of_field G ts v schema path n (record { node = N; required = required; default = default }))) (sym name)
-          (says_left (path ++ path_text (step.field k ∷ p)) (said_of_field G ts v schema path l (record { node = N; required = required; default = default })) (said_of_fields G ts v schema path fs)
-          (subst (λ n. SaysNothing (path ++ path_text (step.field n ∷ p)) (said_of_fields G ts v schema path fs)) (sym name)
+          (says_left (path ++ path_text (step.field k ∷ p)) (said_of_field G ts v schema path l (record { node = N; required = required; default = default })) (suggestions_of_fields G ts v schema path fs)
+          (subst (λ n. SaysNothing (path ++ path_text (step.field n ∷ p)) (suggestions_of_fields G ts v schema path fs)) (sym name)
           (fields_nothing G ts v schema path fs (path ++ path_text (step.field l ∷ p)) (before_off one path l p fs ordered.1 ordered.2)))))
       | inr other ↦
           let names : l ≡ k → ⊥ = λ e. let own = own_name k in let no : bytes_eq k k ≡ false = subst (λ n. bytes_eq k n ≡ false) e other in cc in
           let off = other_field one path k l p names in
-          says_right (path ++ path_text (step.field k ∷ p)) (said_of_field G ts v schema path l (record { node = N; required = required; default = default })) (said_of_fields G ts v schema path fs)
+          says_right (path ++ path_text (step.field k ∷ p)) (said_of_field G ts v schema path l (record { node = N; required = required; default = default })) (suggestions_of_fields G ts v schema path fs)
           (said_of_field G ts v schema path k f)
           (at_nothing G ts (option_and_then (λ w. under w l) v) default (schema_of_field schema l) (below path (step.field l)) N (path ++ path_text (step.field k ∷ p)) off
           (below_nothing G ts (option_and_then (λ w. under w l) v) (schema_of_field schema l) (below path (step.field l)) N (path ++ path_text (step.field k ∷ p)) (λ s q. off (s ∷ q))))
@@ -230,11 +230,11 @@ not_below_itself one path s p e =
     let same : s ∷ p ≡ [] = one (s ∷ p) [] (append_cancel_left path (path_text (s ∷ p)) (path_text []) (e ∙ sym (append-nil path))) in
     cc
 
-pub nothing_here : OneText → (G : General) (ts : List (List ℕ)) (v schema : Option Data) (path : List ℕ) (N : Node) → SaysNothing path (said_below G ts v schema path N)
+pub nothing_here : OneText → (G : General) (ts : List (List ℕ)) (v schema : Option Data) (path : List ℕ) (N : Node) → SaysNothing path (suggestions_below G ts v schema path N)
 nothing_here one G ts v schema path N = below_nothing G ts v schema path N path (not_below_itself one path)
 
 -- and what is said at it alone is not said below it
-pub asks_below_same : OneText → (path : List ℕ) (s : FieldStep) (p : FieldPath) (S : Said) → SaysSame (path ++ path_text (s ∷ p)) (both (asked path) S) S
+pub asks_below_same : OneText → (path : List ℕ) (s : FieldStep) (p : FieldPath) (S : Suggestions) → SaysSame (path ++ path_text (s ∷ p)) (both (always_present path) S) S
 asks_below_same one path s p S = record {
   fixed = refl;
   present = ap (λ b. b || is_among (path ++ path_text (s ∷ p)) S.present) (other_name (path ++ path_text (s ∷ p)) path (not_below_itself one path s p));

@@ -15,7 +15,6 @@
 
 mod chosen;
 mod document;
-mod entry;
 mod fault;
 mod finding;
 mod formats;
@@ -27,6 +26,7 @@ mod lists;
 mod members;
 mod putting;
 mod standing;
+mod suggestions;
 mod varying;
 mod wanted;
 mod without;

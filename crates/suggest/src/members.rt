@@ -9,7 +9,7 @@ ghost use Rattle.suggest.specs.Internal.Parts.{entries_of};
 ghost use Rattle.suggest.specs.Suggested.Document.{items_of, with_member, with_entry};
 
 use crate::chosen::copy_of;
-use crate::entry::Entry;
+use crate::suggestions::Entry;
 use jtree::{Items, Member, Members, Text, Tree};
 use std::alloc::{AllocError, Global};
 use std::cmp::Ordering;

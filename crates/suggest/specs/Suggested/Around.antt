@@ -16,9 +16,9 @@ use Rattle.plan.specs.Pools.Document.{pools_of}
 use Rattle.plan.specs.Samples.Over.{all_names}
 use Rattle.plan.specs.Samples.Part.{IsSample}
 use Rattle.suggest.specs.Suggested.Chosen.{chosen_names}
-use Rattle.suggest.specs.Suggested.Document.{usual_names, general_of, said_by, suggested_document}
+use Rattle.suggest.specs.Suggested.Document.{usual_names, general_of, suggestions_by, suggested_document}
 use Rattle.suggest.specs.Suggested.Fault.{AreVaried}
-use Rattle.suggest.specs.Suggested.Varied.{Said, leads_on}
+use Rattle.suggest.specs.Suggested.Varied.{Suggestions, leads_on}
 use Rattle.suggest.specs.Suggested.Wanted.{Wanted}
 
 -- what pools are asked for around an object
@@ -70,15 +70,15 @@ pub record HasDeclaredNames (root : Node) (ts : List (List ℕ)) (v : Data) : Ty
 -- Nothing is cut: there are not more lists than there can be, and fewer values in each, and fewer names, than there can be. Where there
 -- can be no values at all, lists are left out as if they were empty. Nothing is asked of fixed and present paths, of which the document
 -- has all.
-pub record IsUncut (limits : PoolLimits) (said : Said) : Type 0 where
+pub record IsUncut (limits : PoolLimits) (suggestions : Suggestions) : Type 0 where
   pub some : 0 < limits.entries
-  pub lists : length said.lists ≤ limits.paths
-  pub values : All (λ e. length e.values < limits.entries) said.lists
-  pub names : length (chosen_names limits.names (said.names ++ usual_names)) < limits.names
+  pub lists : length suggestions.lists ≤ limits.paths
+  pub values : All (λ e. length e.values < limits.entries) suggestions.lists
+  pub names : length (chosen_names limits.names (suggestions.names ++ usual_names)) < limits.names
 
 -- An object that is stored, has declared names alone where it is varied and is within the limit is a sample over the pools around it,
 -- where nothing is cut.
 abbrev pub TheObjectIsASample : Type 0
 TheObjectIsASample = (limits : PoolLimits) (raw : Data) (root : Node) (v : Data) (ts : List (List ℕ)) (limit : ℕ)
     → IsNode root → ts ≢ [] → AreVaried root (around_object v ts) → IsTree v → IsStored root v → HasDeclaredNames root ts v → nodes v ≤ limit
-    → IsUncut limits (said_by ts (general_of limits root) (around_object v ts) raw root) → IsSample root (pools_of (suggested_document limits raw root (around_object v ts))) limit v
+    → IsUncut limits (suggestions_by ts (general_of limits root) (around_object v ts) raw root) → IsSample root (pools_of (suggested_document limits raw root (around_object v ts))) limit v

@@ -3,16 +3,16 @@ use Rattle.std.specs.Prelude.{codes, filter, not}
 use Rattle.jtree.specs.Data.{list, text, object}
 use Rattle.schema.specs.Document.Texts.{is_among}
 use Rattle.suggest.specs.View.{trees_of, texts_at}
-use Rattle.suggest.specs.Internal.Parts.{general_of, said_of, entries_of, with_lists_member, with_texts_member}
+use Rattle.suggest.specs.Internal.Parts.{general_of, suggestions_of, entries_of, with_lists_member, with_texts_member}
 use Rattle.suggest.specs.Suggested.Chosen.{chosen_names}
 use Rattle.suggest.specs.Suggested.Document.{items_of, with_member, members_from, without_entry, usual_names}
 use Rattle.suggest.proofs.DocumentLemmas.{in_place}
-use Rattle.suggest.proofs.document.document.Goals as goal
+use Rattle.suggest.proofs.document.write_document.Goals as goal
 
 pub returns : goal.returns
 returns c =
     let G = general_of c.args.general.now in
-    let s = said_of c.args.said.now in
+    let s = suggestions_of c.args.suggestions.now in
     let ws = texts_at c.args.without.now in
     let limits = c.args.general.now.limits in
     let any = c.in_ok-list.ensures ∙ ap (λ ts. list (items_of (trees_of ts))) c.deref.ensures.value in
