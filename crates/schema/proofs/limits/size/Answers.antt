@@ -2,7 +2,7 @@ use Rattle.std.proofs.Common.{ap, sym, ◌∙◌}
 use Rattle.jtree.specs.View.{data_of, items_of, members_of}
 use Rattle.schema.specs.Document.Limits.{size, items_len, members_len}
 use Rattle.schema.proofs.PlaceLemmas.{items_size, members_size}
-use Rattle.schema.proofs.listing.size.Goals as goal
+use Rattle.schema.proofs.limits.size.Goals as goal
 
 pub returns-in-List : goal.returns-in-List
 returns-in-List c =

@@ -4,7 +4,7 @@ use Rattle.std.proofs.lemmas.Option.{same_Some}
 use Rattle.jtree.specs.View.{data_of}
 use Rattle.schema.specs.Rules.Broken.{pattern}
 use Rattle.schema.proofs.PatternLemmas.{single, single_under}
-use Rattle.schema.proofs.listing.is_holder.Goals as goal
+use Rattle.schema.proofs.context.is_holder.Goals as goal
 
 pub returns-then-size-eq1 : goal.returns-then-size-eq1
 returns-then-size-eq1 c =

@@ -3,7 +3,7 @@ use Rattle.std.specs.Prelude.{codes}
 use Rattle.jtree.specs.Data.{text}
 use Rattle.jtree.specs.View.{data_of}
 use Rattle.schema.proofs.PatternLemmas.{single, single_under}
-use Rattle.schema.proofs.listing.is_typed.Goals as goal
+use Rattle.schema.proofs.context.is_typed.Goals as goal
 
 pub returns-then-size-eq1 : goal.returns-then-size-eq1
 returns-then-size-eq1 c =

@@ -3,7 +3,7 @@ use Rattle.jtree.specs.Data.{list, item}
 use Rattle.jtree.specs.View.{data_of, items_of}
 use Rattle.schema.specs.Rules.Broken.{holder}
 use Rattle.schema.proofs.PatternLemmas.{first_item}
-use Rattle.schema.proofs.listing.begins_with_holder.Goals as goal
+use Rattle.schema.proofs.context.begins_with_holder.Goals as goal
 
 pub returns-in-len1-up : goal.returns-in-len1-up
 returns-in-len1-up c =

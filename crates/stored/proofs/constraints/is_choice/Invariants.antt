@@ -1,7 +1,7 @@
 use Rattle.std.proofs.Common.{◌≡◌, drop}
 use Rattle.jtree.specs.View.{data_of, items_of}
 use Rattle.stored.specs.Objects.Tests.{is_choice}
-use Rattle.stored.proofs.tests.is_choice.Given as goal
+use Rattle.stored.proofs.constraints.is_choice.Given as goal
 
 -- the value is among the choices that are left exactly where it is among all
 abbrev pub invariant-loop-choice : goal.invariant-loop-choice

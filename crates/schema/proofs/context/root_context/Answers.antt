@@ -1,6 +1,6 @@
 use Rattle.std.proofs.Common.{refl}
 use Rattle.schema.proofs.ContextLemmas.{context_root}
-use Rattle.schema.proofs.listing.root_context.Goals as goal
+use Rattle.schema.proofs.context.root_context.Goals as goal
 
 pub returns : goal.returns
 returns c =

@@ -1,6 +1,6 @@
 use Rattle.std.proofs.Common.{◌≡◌, drop}
 use Rattle.stored.specs.Objects.Tests.{has_all, has_member}
-use Rattle.stored.proofs.tests.has_all.Given as goal
+use Rattle.stored.proofs.constraints.has_all.Given as goal
 
 -- there are members of all names exactly where there are of those that are left
 abbrev pub invariant-loop-name : goal.invariant-loop-name

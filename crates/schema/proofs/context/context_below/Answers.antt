@@ -6,8 +6,8 @@ use Rattle.schema.specs.Internal.PlaceView.{step_of}
 use Rattle.schema.specs.Rules.Broken.{HasAnyPattern, HasAllPattern}
 use Rattle.schema.specs.Internal.Contexts.{is_any, is_first_of_all}
 use Rattle.schema.proofs.ContextLemmas.{context_more, both_true, and_true}
-use Rattle.schema.proofs.listing.context_below.Goals as goal
-use Rattle.schema.proofs.listing.context_below.Goals.{then-context, else-context, then-is_any, else-is_any, then-is_first_of_all, else-is_first_of_all, then-is_held, else-is_held+then-not-is_inside, else-is_held+else-not-is_inside, then-not-is_inside-2, else-not-is_inside-2}
+use Rattle.schema.proofs.context.context_below.Goals as goal
+use Rattle.schema.proofs.context.context_below.Goals.{then-context, else-context, then-is_any, else-is_any, then-is_first_of_all, else-is_first_of_all, then-is_held, else-is_held+then-not-is_inside, else-is_held+else-not-is_inside, then-not-is_inside-2, else-not-is_inside-2}
 
 pub returns : goal.returns
 returns c =

@@ -2,7 +2,8 @@
 ghost use Rattle.std.specs.Prelude.{◌≡◌, not, ◌&&◌, length, chars};
 ghost use Rattle.jtree.specs.View.{data_of, items_of};
 ghost use Rattle.schema.specs.Nodes.View.{validations_of};
-ghost use Rattle.stored.specs.Objects.Tests.{accepts_scalar as accepts_scalar_of, is_same, is_choice as is_choice_of, is_below as is_below_of, is_above as is_above_of, is_other_value as is_other_value_of, is_below_minimum as is_below_minimum_of, is_above_maximum as is_above_maximum_of, is_too_short as is_too_short_of, is_too_long as is_too_long_of, meets_constraints as meets_constraints_of, has_all as has_all_of, has_member, meets_branch as meets_branch_of, holds as holds_of, meets_junctors as meets_junctors_of};
+ghost use Rattle.stored.specs.Objects.Tests;
+ghost use Rattle.stored.specs.Objects.Tests.{is_same, has_member};
 
 use crate::junctors::{self, BranchTest};
 use jtree::{Items, Members, Text, Tree};
@@ -10,7 +11,7 @@ use schema::{Bounds, Constraints, ScalarKind, Validations};
 
 /// Whether a value is a scalar of this kind.
 pub(crate) fn accepts_scalar(kind: ScalarKind, tree: &Tree) -> bool
-    ensures { result ≡ accepts_scalar_of kind (data_of tree.now) }
+    ensures { result ≡ Tests.accepts_scalar kind (data_of tree.now) }
 {
     match (kind, tree) {
         (ScalarKind::Boolean, Tree::Bool(_)) => true,
@@ -22,7 +23,7 @@ pub(crate) fn accepts_scalar(kind: ScalarKind, tree: &Tree) -> bool
 
 /// Whether a value is one of a list.
 fn is_choice(tree: &Tree, choices: &Items) -> bool
-    ensures { result ≡ is_choice_of (data_of tree.now) choices.now }
+    ensures { result ≡ Tests.is_choice (data_of tree.now) choices.now }
 {
     for choice in &choices.items {
         if tree == choice {
@@ -34,7 +35,7 @@ fn is_choice(tree: &Tree, choices: &Items) -> bool
 
 /// Whether a number is below a bound.
 pub(crate) fn is_below(least: Option<u64>, number: u64) -> bool
-    ensures { result ≡ is_below_of least number }
+    ensures { result ≡ Tests.is_below least number }
 {
     match least {
         Some(least) => number < least,
@@ -44,7 +45,7 @@ pub(crate) fn is_below(least: Option<u64>, number: u64) -> bool
 
 /// Whether a number is above a bound.
 pub(crate) fn is_above(most: Option<u64>, number: u64) -> bool
-    ensures { result ≡ is_above_of most number }
+    ensures { result ≡ Tests.is_above most number }
 {
     match most {
         Some(most) => most < number,
@@ -54,14 +55,14 @@ pub(crate) fn is_above(most: Option<u64>, number: u64) -> bool
 
 /// Whether a number of parts is neither below nor above the bounds.
 pub fn is_within(bounds: Bounds, count: u64) -> bool
-    ensures { result ≡ (not (is_below_of bounds.least count) && not (is_above_of bounds.most count)) }
+    ensures { result ≡ (not (Tests.is_below bounds.least count) && not (Tests.is_above bounds.most count)) }
 {
     !is_below(bounds.least, count) && !is_above(bounds.most, count)
 }
 
 /// Whether a value is not in `enum`.
 pub(crate) fn is_other_value(constraints: &Constraints, tree: &Tree) -> bool
-    ensures { result ≡ is_other_value_of constraints.now.choices (data_of tree.now) }
+    ensures { result ≡ Tests.is_other_value constraints.now.choices (data_of tree.now) }
 {
     match &constraints.choices {
         Some(choices) => !is_choice(tree, choices),
@@ -71,7 +72,7 @@ pub(crate) fn is_other_value(constraints: &Constraints, tree: &Tree) -> bool
 
 /// Whether an integer is below `minimum`, or equal to it where that is exclusive.
 pub(crate) fn is_below_minimum(constraints: &Constraints, tree: &Tree) -> bool
-    ensures { result ≡ is_below_minimum_of constraints.now.minimum constraints.now.exclusive_minimum (data_of tree.now) }
+    ensures { result ≡ Tests.is_below_minimum constraints.now.minimum constraints.now.exclusive_minimum (data_of tree.now) }
 {
     match (constraints.minimum, tree) {
         (Some(least), Tree::Int(number)) => {
@@ -87,7 +88,7 @@ pub(crate) fn is_below_minimum(constraints: &Constraints, tree: &Tree) -> bool
 
 /// Whether an integer is above `maximum`, or equal to it where that is exclusive.
 pub(crate) fn is_above_maximum(constraints: &Constraints, tree: &Tree) -> bool
-    ensures { result ≡ is_above_maximum_of constraints.now.maximum constraints.now.exclusive_maximum (data_of tree.now) }
+    ensures { result ≡ Tests.is_above_maximum constraints.now.maximum constraints.now.exclusive_maximum (data_of tree.now) }
 {
     match (constraints.maximum, tree) {
         (Some(most), Tree::Int(number)) => {
@@ -101,16 +102,16 @@ pub(crate) fn is_above_maximum(constraints: &Constraints, tree: &Tree) -> bool
     }
 }
 
-/// How many Unicode scalar values a text has.
+/// How many Unicode scalar values a string has.
 fn scalar_values(text: &str) -> u64
     ensures { result ≡ length (chars text.now) }
 {
     text.chars().count() as u64
 }
 
-/// Whether a text is shorter than `minLength`, in Unicode scalar values.
+/// Whether a string is shorter than `minLength`, in Unicode scalar values.
 pub(crate) fn is_too_short(constraints: &Constraints, tree: &Tree) -> bool
-    ensures { result ≡ is_too_short_of constraints.now.lengths.least (data_of tree.now) }
+    ensures { result ≡ Tests.is_too_short constraints.now.lengths.least (data_of tree.now) }
 {
     match (constraints.lengths.least, tree) {
         (Some(least), Tree::Text(text)) => scalar_values(text.as_str()) < least,
@@ -118,9 +119,9 @@ pub(crate) fn is_too_short(constraints: &Constraints, tree: &Tree) -> bool
     }
 }
 
-/// Whether a text is longer than `maxLength`, in Unicode scalar values.
+/// Whether a string is longer than `maxLength`, in Unicode scalar values.
 pub(crate) fn is_too_long(constraints: &Constraints, tree: &Tree) -> bool
-    ensures { result ≡ is_too_long_of constraints.now.lengths.most (data_of tree.now) }
+    ensures { result ≡ Tests.is_too_long constraints.now.lengths.most (data_of tree.now) }
 {
     match (constraints.lengths.most, tree) {
         (Some(most), Tree::Text(text)) => most < scalar_values(text.as_str()),
@@ -130,7 +131,7 @@ pub(crate) fn is_too_long(constraints: &Constraints, tree: &Tree) -> bool
 
 /// Whether a scalar meets all constraints.
 fn meets_constraints(constraints: &Constraints, tree: &Tree) -> bool
-    ensures { result ≡ meets_constraints_of constraints.now (data_of tree.now) }
+    ensures { result ≡ Tests.meets_constraints constraints.now (data_of tree.now) }
 {
     !is_other_value(constraints, tree)
         && (!is_below_minimum(constraints, tree)
@@ -140,7 +141,7 @@ fn meets_constraints(constraints: &Constraints, tree: &Tree) -> bool
 
 /// Whether there are members of all these names.
 fn has_all(names: &[Text], members: &Members) -> bool
-    ensures { result ≡ has_all_of names.now (has_member members.now) }
+    ensures { result ≡ Tests.has_all names.now (has_member members.now) }
 {
     for name in names {
         if members.get(name.as_str()).is_none() {
@@ -151,7 +152,7 @@ fn has_all(names: &[Text], members: &Members) -> bool
 }
 
 impl BranchTest for Tree {
-    ghost test = { λ t. meets_branch_of (data_of t) };
+    ghost test = { λ t. Tests.meets_branch (data_of t) };
 
     /// Whether the value has all members that the branch requires, where it is an object, and else whether it meets all constraints.
     fn meets(&self, constraints: &Constraints) -> bool {
@@ -164,14 +165,14 @@ impl BranchTest for Tree {
 
 /// Whether a value meets what a branch or a scalar node asks, and its junctors.
 pub(crate) fn holds(validations: &Validations, tree: &Tree) -> bool
-    ensures { result ≡ holds_of (validations_of validations.now) (data_of tree.now) }
+    ensures { result ≡ Tests.holds (validations_of validations.now) (data_of tree.now) }
 {
     junctors::holds(tree, validations)
 }
 
 /// Whether a value meets the junctors.
 pub(crate) fn meets_junctors(validations: &Validations, tree: &Tree) -> bool
-    ensures { result ≡ meets_junctors_of (validations_of validations.now) (data_of tree.now) }
+    ensures { result ≡ Tests.meets_junctors (validations_of validations.now) (data_of tree.now) }
 {
     junctors::meets_junctors(tree, validations)
 }

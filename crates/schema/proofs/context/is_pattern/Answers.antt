@@ -2,7 +2,7 @@ use Rattle.std.proofs.Common.{◌≡◌, length, sym, ap, ◌∙◌, arith}
 use Rattle.jtree.specs.Data.{list}
 use Rattle.jtree.specs.View.{data_of, items_of}
 use Rattle.schema.proofs.PatternLemmas.{pattern_len}
-use Rattle.schema.proofs.listing.is_pattern.Goals as goal
+use Rattle.schema.proofs.context.is_pattern.Goals as goal
 
 pub returns-in_default-as_slice : goal.returns-in_default-as_slice
 returns-in_default-as_slice c =
