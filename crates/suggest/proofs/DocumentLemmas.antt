@@ -1,4 +1,4 @@
--- Lists of trees as the code makes them, the members of a document, and what is said with its pools.
+-- Lists of trees as the code makes them, the members of a document, and what is suggested with its pools.
 use Rattle.std.proofs.Common.{◌≡◌, ◌∙◌, ℕ, suc, length, List, [], ◌∷◌, ◌++◌, Bool, true, not, ◌==◌, Some, None, map, refl, ap, arith}
 use Rattle.std.proofs.lemmas.Bool.Decides.{nat_tests}
 use Rattle.std.specs.Borrow.{Bor}
@@ -43,7 +43,7 @@ in_place any (member l e ns) integers names no_members (t ∷ ts) strings = refl
 in_place any (member l e ns) integers names (member k d ms) [] strings = refl
 in_place any (member l e ns) integers names (member k d ms) (t ∷ ts) strings = refl
 
--- ---- what is said with the pools that suit
+-- ---- what is suggested with the pools that suit
 
 some_more : (n : ℕ) → not (suc n == 0) ≡ true
 some_more n = grind (arith, nat_tests)

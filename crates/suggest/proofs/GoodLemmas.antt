@@ -25,8 +25,8 @@ use Rattle.plan.specs.Pools.PlanFault.{IsLeafPath, IsDeclaredPath, HasGoodPaths}
 use Rattle.plan.specs.Samples.Candidates.{sort_at}
 use Rattle.plan.specs.declared.pool_limits.PoolLimits.{PoolLimits}
 use Rattle.plan.specs.declared.sort.Sort.TheVariants.{Leaf}
-use Rattle.suggest.specs.Suggested.Document.{items_of, with_member, with_entry, members_from, without_entry, general_of, beside_standing, suggestions_by, single, document_of, suggested_document}
-use Rattle.suggest.specs.Suggested.Listed.{General}
+use Rattle.suggest.specs.Suggested.Document.{items_of, with_member, with_entry, members_from, without_entry, general_of, for_variation, suggestions_by, single, document_of, suggested_document}
+use Rattle.suggest.specs.Suggested.LeafValues.{General}
 use Rattle.suggest.specs.Suggested.Lists.{Entry}
 use Rattle.suggest.specs.Suggested.Varied.{Suggestions, suggestions_below}
 use Rattle.suggest.specs.Suggested.Wanted.{Wanted}
@@ -130,7 +130,7 @@ named_path n d fs preserves type bounds cs text u =
 declared_path : (root : Node) (text : List ℕ) → IsFixablePath root text → IsDeclaredPath root text
 declared_path root text f = (f.0, f.1, f.2.0)
 
--- ---- what is said
+-- ---- what is suggested
 
 pub record IsSaidWell (root : Node) (s : Suggestions) : Type 0 where
   pub lists : (e : Entry) → Among s.lists e → IsLeafPath root e.path
@@ -159,7 +159,7 @@ said_well [] G w raw root ordered other = record {
   fixed = λ e a. absurd a;
   present = λ t a. absurd a;
 }
-said_well (t ∷ ts) G w raw root ordered other = varied_well (beside_standing G) (t ∷ ts) (single w.objects) (Some raw) root ordered
+said_well (t ∷ ts) G w raw root ordered other = varied_well (for_variation G) (t ∷ ts) (single w.objects) (Some raw) root ordered
 
 -- ---- the document
 

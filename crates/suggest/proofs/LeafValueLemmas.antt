@@ -15,7 +15,7 @@ use Rattle.schema.specs.Nodes.Node.{Node, node, scalar, Validations}
 use Rattle.schema.specs.declared.node.ScalarKind.{ScalarKind}
 use Rattle.stored.specs.Objects.Becomes.{IsStored}
 use Rattle.stored.specs.Objects.StoredByParts.{StoredByParts}
-use Rattle.suggest.specs.Suggested.Listed.{General, takes, hinted_from, or_general, besides, joined}
+use Rattle.suggest.specs.Suggested.LeafValues.{General, takes, hinted_from, or_general, besides, joined}
 use Rattle.suggest.specs.View.{trees_of}
 
 abbrev pub StoredLaw : Type 0

@@ -21,17 +21,17 @@ use Rattle.plan.specs.Pools.Document.{pools_of}
 use Rattle.plan.specs.Pools.FixedPaths.{IsMapItem}
 use Rattle.plan.specs.Samples.Site.{below, fixed_below}
 use Rattle.plan.specs.Samples.Over.{is_in, StepFollows, IsOverAlong}
-use Rattle.suggest.specs.Suggested.Document.{general_of, beside_standing, without_entry, single, suggestions_by, suggested_document}
+use Rattle.suggest.specs.Suggested.Document.{general_of, for_variation, without_entry, single, suggestions_by, suggested_document}
 use Rattle.suggest.specs.Suggested.LeftOut.{Follows, NoSampleHasALeftOutPath}
-use Rattle.suggest.specs.Suggested.Listed.{General}
+use Rattle.suggest.specs.Suggested.LeafValues.{General}
 use Rattle.suggest.specs.Suggested.Lists.{schema_of_field}
 use Rattle.suggest.specs.Suggested.Varied.{as_in_object, suggestions_at, suggestions_below, leads_on}
 use Rattle.suggest.specs.Suggested.Wanted.{Wanted}
 use Rattle.suggest.specs.Suggested.Without.{Place, place_of_field, place_of_value, place_of_item, left_at, left_member, taken_out, members_left, items_left, without_paths}
-use Rattle.suggest.proofs.AroundLemmas.{leads_at, kept_at, own_among, own_values, found_field, field_node, same_tree}
+use Rattle.suggest.proofs.VariedSampleLemmas.{leads_at, kept_at, own_among, own_values, found_field, field_node, same_tree}
 use Rattle.suggest.proofs.EntryLemmas.{other_name, later_or, values_at, values_append, pool_fixed}
 use Rattle.suggest.proofs.FreeLemmas.{or_right}
-use Rattle.suggest.proofs.SaidLemmas.{OneText, further, field_says, nothing_here, not_below_itself}
+use Rattle.suggest.proofs.SuggestionLemmas.{OneText, further, field_says, nothing_here, not_below_itself}
 
 -- ---- a step into what is left of a value
 
@@ -210,8 +210,8 @@ single_left f (v ∷ u ∷ vs) = refl
 said_left : OneText → (ts : List (List ℕ)) (G : General) (w : Wanted) (raw : Data) (root M : Node) (p : FieldPath) (vs : List Data) → IsNode root → node_at root (place_of p) ≡ Some M
     → values_at (path_text p) (suggestions_by ts G (without_paths root w) raw root).fixed ≡ Some vs → AreFixedLeft w.without (path_text p) M vs
 said_left one [] G w raw root M p vs ordered there found = absurd (cc)
-said_left one (t ∷ ts) G w raw root M p vs ordered there found = fixed_left one (t ∷ ts) w.without (beside_standing G) p [] root M (single w.objects) (Some raw) vs ordered there
-    (subst (λ v. values_at (path_text p) (suggestions_below (beside_standing G) (t ∷ ts) v (Some raw) [] root).fixed ≡ Some vs) (single_left (λ v. taken_out w.without [] root v) w.objects) found)
+said_left one (t ∷ ts) G w raw root M p vs ordered there found = fixed_left one (t ∷ ts) w.without (for_variation G) p [] root M (single w.objects) (Some raw) vs ordered there
+    (subst (λ v. values_at (path_text p) (suggestions_below (for_variation G) (t ∷ ts) v (Some raw) [] root).fixed ≡ Some vs) (single_left (λ v. taken_out w.without [] root v) w.objects) found)
 
 -- ---- what is fixed at a path has nothing where a path leads from there that is left out
 

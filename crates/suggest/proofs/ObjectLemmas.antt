@@ -23,17 +23,17 @@ use Rattle.plan.specs.Pools.Document.{pools_of}
 use Rattle.plan.specs.Samples.Site.{below, fixed_below}
 use Rattle.plan.specs.Samples.Over.{all_names, has_present, is_over_here, StepFollows, IsOverAlong}
 use Rattle.plan.specs.Samples.Part.{IsSample}
-use Rattle.suggest.specs.Suggested.Around.{path_of_names, are_declared, steps_of_names, TheObjectIsASample}
-use Rattle.suggest.specs.Suggested.Document.{usual_names, general_of, beside_standing, document_of}
-use Rattle.suggest.specs.Suggested.Listed.{General}
+use Rattle.suggest.specs.Suggested.VariedSamples.{path_of_names, are_declared, steps_of_names, TheObjectIsASample}
+use Rattle.suggest.specs.Suggested.Document.{usual_names, general_of, for_variation, document_of}
+use Rattle.suggest.specs.Suggested.LeafValues.{General}
 use Rattle.suggest.specs.Suggested.Lists.{Entry, schema_of_field}
 use Rattle.suggest.specs.Suggested.Varied.{Suggestions, both, leads_on, lists_alone, as_in_object, always_present, suggestions_at, suggestions_below, suggestions_of_fields, reach}
 use Rattle.suggest.specs.declared.varying.Reach.TheVariants.{There}
-use Rattle.suggest.proofs.AroundLemmas.{StoredLaw, AreSaidBelow, AreSaidAt, fixed_here, present_here, said_at_field, leads_at, kept_at, own_values, leading_unfixed, said_after, field_node, root_said, root_leads}
+use Rattle.suggest.proofs.VariedSampleLemmas.{StoredLaw, AreSaidBelow, AreSaidAt, fixed_here, present_here, said_at_field, leads_at, kept_at, own_values, leading_unfixed, said_after, field_node, root_said, root_leads}
 use Rattle.suggest.proofs.EntryLemmas.{values_at, values_of, pool_lists, pool_names}
 use Rattle.suggest.proofs.FreeLemmas.{AreAllDeclared, leads_there, AreShort, IsFreePart, found_node, free_over}
 use Rattle.suggest.proofs.LeadingLemmas.{none_reached, object_reached, AreReached, reached_below, leading_text}
-use Rattle.suggest.proofs.SaidLemmas.{OneText, further, field_says, said_of_field, asks_below_same}
+use Rattle.suggest.proofs.SuggestionLemmas.{OneText, further, field_says, said_of_field, asks_below_same}
 use Rattle.suggest.proofs.UncutLemmas.{own_same, names_uncut}
 use Rattle.suggest.proofs.WithoutLemmas.{nothing_taken}
 
@@ -276,16 +276,16 @@ pub object_sample : StoredLaw → OneText → TheObjectIsASample
 object_sample law one limits raw root v [] limit ordered some varied sound stored declared within uncut = absurd (some refl)
 object_sample law one limits raw root v (t ∷ ts) limit ordered some varied sound stored declared within uncut =
     let reached : (s : List ℕ) → Among (t ∷ ts) s → reach s (Some v) [] root ≡ There = all_among (λ s. reach s (Some v) [] root ≡ There) (t ∷ ts) varied in
-    let lists = root_lists limits root (suggestions_below (beside_standing (general_of limits root)) (t ∷ ts) (Some v) (Some raw) [] root) uncut.lists in
-    let sample : IsSample root (pools_of (document_of limits root [] (suggestions_below (beside_standing (general_of limits root)) (t ∷ ts) (Some v) (Some raw) [] root))) limit v = record {
+    let lists = root_lists limits root (suggestions_below (for_variation (general_of limits root)) (t ∷ ts) (Some v) (Some raw) [] root) uncut.lists in
+    let sample : IsSample root (pools_of (document_of limits root [] (suggestions_below (for_variation (general_of limits root)) (t ∷ ts) (Some v) (Some raw) [] root))) limit v = record {
       part = record {
         tree = sound;
         stored = stored;
-        over = λ q p. leading_over law one (pools_of (document_of limits root [] (suggestions_below (beside_standing (general_of limits root)) (t ∷ ts) (Some v) (Some raw) [] root))) (beside_standing (general_of limits root)) (t ∷ ts)
+        over = λ q p. leading_over law one (pools_of (document_of limits root [] (suggestions_below (for_variation (general_of limits root)) (t ∷ ts) (Some v) (Some raw) [] root))) (for_variation (general_of limits root)) (t ∷ ts)
             (λ text vs is.
-            let x = found_entry text (suggestions_below (beside_standing (general_of limits root)) (t ∷ ts) (Some v) (Some raw) [] root).lists vs (sym (lists text) ∙ is) in
+            let x = found_entry text (suggestions_below (for_variation (general_of limits root)) (t ∷ ts) (Some v) (Some raw) [] root).lists vs (sym (lists text) ∙ is) in
             subst (λ ds. length ds < limits.entries) x.values
-            (all_among (λ e. length e.values < limits.entries) (suggestions_below (beside_standing (general_of limits root)) (t ∷ ts) (Some v) (Some raw) [] root).lists uncut.values x.entry x.among))
+            (all_among (λ e. length e.values < limits.entries) (suggestions_below (for_variation (general_of limits root)) (t ∷ ts) (Some v) (Some raw) [] root).lists uncut.values x.entry x.among))
             uncut.some q p [] root v (record {
               schema = Some raw;
               leads = root_leads root v t ts (reached t (inl refl));
@@ -293,13 +293,13 @@ object_sample law one limits raw root v (t ∷ ts) limit ordered some varied sou
               ordered = ordered;
               stored = stored;
               declared = record { on_the_way = declared.on_the_way; at_varied = declared.at_varied };
-              said = root_said limits root (suggestions_below (beside_standing (general_of limits root)) (t ∷ ts) (Some v) (Some raw) [] root);
+              said = root_said limits root (suggestions_below (for_variation (general_of limits root)) (t ∷ ts) (Some v) (Some raw) [] root);
               lists = λ s p. lists (path_text (s ∷ p));
-              named = λ k a. subst (λ ks. is_among k ks ≡ true) (sym (pool_names limits root [] (suggestions_below (beside_standing (general_of limits root)) (t ∷ ts) (Some v) (Some raw) [] root)))
-                  (names_uncut limits.names ((suggestions_below (beside_standing (general_of limits root)) (t ∷ ts) (Some v) (Some raw) [] root).names ++ usual_names) k
-                  (among_left (suggestions_below (beside_standing (general_of limits root)) (t ∷ ts) (Some v) (Some raw) [] root).names usual_names k a) uncut.names);
+              named = λ k a. subst (λ ks. is_among k ks ≡ true) (sym (pool_names limits root [] (suggestions_below (for_variation (general_of limits root)) (t ∷ ts) (Some v) (Some raw) [] root)))
+                  (names_uncut limits.names ((suggestions_below (for_variation (general_of limits root)) (t ∷ ts) (Some v) (Some raw) [] root).names ++ usual_names) k
+                  (among_left (suggestions_below (for_variation (general_of limits root)) (t ∷ ts) (Some v) (Some raw) [] root).names usual_names k a) uncut.names);
             });
       };
       within = within;
     } in
-    subst (λ u. IsSample root (pools_of (document_of limits root [] (suggestions_below (beside_standing (general_of limits root)) (t ∷ ts) (Some u) (Some raw) [] root))) limit v) (sym (nothing_taken [] root v)) sample
+    subst (λ u. IsSample root (pools_of (document_of limits root [] (suggestions_below (for_variation (general_of limits root)) (t ∷ ts) (Some u) (Some raw) [] root))) limit v) (sym (nothing_taken [] root v)) sample

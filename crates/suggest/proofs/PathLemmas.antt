@@ -1,4 +1,4 @@
--- Where what is said is in the schema: each list is at a leaf, and each fixed value and each path that is always there is at a path of names.
+-- Where what is suggested is in the schema: each list is at a leaf, and each fixed value and each path that is always there is at a path of names.
 use Rattle.std.proofs.Common.{◌≡◌, ℕ, List, [], ◌∷◌, ◌++◌, ◌∙◌, Bool, Option, Some, None, map, refl, sym, ap, subst, append_assoc, append-nil, inl, inr}
 use Rattle.std.specs.Prelude.{option_map, option_and_then}
 use Rattle.std.specs.Option.{option_to_list}
@@ -22,9 +22,9 @@ use Rattle.explain.specs.Paths.PathText.{step_text, path_text}
 use Rattle.plan.specs.Samples.Candidates.{sort_at}
 use Rattle.plan.specs.Samples.Site.{below}
 use Rattle.plan.specs.declared.sort.Sort.TheVariants.{Leaf}
-use Rattle.suggest.specs.Suggested.Listed.{General, listed_values}
+use Rattle.suggest.specs.Suggested.LeafValues.{General, leaf_values}
 use Rattle.suggest.specs.Suggested.Lists.{Entry, entry_of, schema_of_field, schema_of_items, schema_of_values, lists_at, lists_of_fields}
-use Rattle.suggest.specs.Suggested.Standing.{field_values, item_values, member_values}
+use Rattle.suggest.specs.Suggested.ValuesBelow.{field_values, item_values, member_values}
 use Rattle.suggest.specs.Suggested.Varied.{Suggestions, leads_on, lists_alone, as_in_object, suggestions_at, suggestions_below, suggestions_of_fields}
 
 -- ---- fields that follow others
@@ -74,7 +74,7 @@ pub record IsListed (G : General) (vs : List Data) (front : List ℕ) (N : Node)
   pub standing : List Data
   pub default : Option Data
   pub schema : Option Data
-  pub values : e.values ≡ listed_values G standing default schema leaf.node
+  pub values : e.values ≡ leaf_values G standing default schema leaf.node
   pub none : vs ≡ [] → standing ≡ []
   pub some : e.values ≡ [] → ⊥
 
@@ -91,9 +91,9 @@ entry_among path [] e a = absurd a
 entry_among path (v ∷ vs) e (inl same) = let values : e.values ≡ v ∷ vs = ap (λ x. x.values) (sym same) in (ap (λ x. x.path) (sym same), values, λ none. cc)
 entry_among path (v ∷ vs) e (inr a) = absurd a
 
-listed_here : (G : General) (vs : List Data) (default schema : Option Data) (front : List ℕ) (N : Node) (e : Entry) → sort_at N ≡ Leaf → Among (entry_of front (listed_values G vs default schema N)) e → IsListed G vs front N e
+listed_here : (G : General) (vs : List Data) (default schema : Option Data) (front : List ℕ) (N : Node) (e : Entry) → sort_at N ≡ Leaf → Among (entry_of front (leaf_values G vs default schema N)) e → IsListed G vs front N e
 listed_here G vs default schema front N e leaf a =
-    let h = entry_among front (listed_values G vs default schema N) e a in
+    let h = entry_among front (leaf_values G vs default schema N) e a in
     record { leaf = record { path = []; node = N; there = refl; leaf = leaf; is = h.0 ∙ sym (append-nil front) }; standing = vs; default = default; schema = schema; values = h.1; none = λ x. x; some = h.2 }
 
 mutual
@@ -136,7 +136,7 @@ named_above front N M k text leads l = record {
   is = l.is ∙ append_assoc front (step_text (step.field k)) (path_text (map step.field l.names));
 }
 
--- ---- what is said of an object
+-- ---- what is suggested of an object
 
 -- where the lists, the fixed values and the paths that are always there are
 record AreAt (front : List ℕ) (N : Node) (s : Suggestions) : Type 0 where

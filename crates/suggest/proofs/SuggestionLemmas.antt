@@ -16,8 +16,8 @@ use Rattle.explain.specs.Paths.FieldPath.{FieldStep, FieldPath}
 use Rattle.explain.specs.Paths.FieldPath as step
 use Rattle.explain.specs.Paths.PathText.{step_text, path_text}
 use Rattle.plan.specs.Samples.Site.{below}
-use Rattle.suggest.specs.Suggested.Standing.{field_values, item_values, member_values}
-use Rattle.suggest.specs.Suggested.Listed.{General, listed_values}
+use Rattle.suggest.specs.Suggested.ValuesBelow.{field_values, item_values, member_values}
+use Rattle.suggest.specs.Suggested.LeafValues.{General, leaf_values}
 use Rattle.suggest.specs.Suggested.Lists.{Entry, entry_of, schema_of_field, schema_of_items, schema_of_values, lists_at, lists_of_fields}
 use Rattle.suggest.specs.Suggested.Varied.{Suggestions, both, leads_on, lists_alone, as_in_object, always_present, suggestions_at, suggestions_below, suggestions_of_fields}
 use Rattle.suggest.proofs.EntryLemmas.{other_name, later_or, later_none, values_at, values_append}
@@ -90,9 +90,9 @@ mutual
   lists_off G vs default schema path (node nullable description (list N type keys bounds)) text off =
       lists_off G (item_values vs) None (schema_of_items schema) (below path step.item) N text (off_step path step.item text (λ s p. off (s ∷ p)))
   lists_off G vs default schema path (node nullable description (scalar kind cs)) text off =
-      entry_off path (listed_values G vs default schema (node nullable description (scalar kind cs))) text (off_here path text off)
+      entry_off path (leaf_values G vs default schema (node nullable description (scalar kind cs))) text (off_here path text off)
   lists_off G vs default schema path (node nullable description open_) text off =
-      entry_off path (listed_values G vs default schema (node nullable description open_)) text (off_here path text off)
+      entry_off path (leaf_values G vs default schema (node nullable description open_)) text (off_here path text off)
 
   pub lists_off_fields : (G : General) (vs : List Data) (schema : Option Data) (path : List ℕ) (fs : Fields) (text : List ℕ) → AreOff path fs text → values_at text (lists_of_fields G vs schema path fs) ≡ None
   lists_off_fields G vs schema path no_fields text off = refl
@@ -163,7 +163,7 @@ mutual
       (below_nothing G ts (option_and_then (λ w. under w k) v) (schema_of_field schema k) (below path (step.field k)) N text (λ s p. off.0 (s ∷ p))))
       (fields_nothing G ts v schema path fs text off.1)
 
--- ---- what is said at texts of one field is what is said at the field
+-- ---- what is suggested at texts of one field is what is suggested at the field
 
 pub record SaysSame (text : List ℕ) (S T : Suggestions) : Type 0 where
   pub fixed : values_at text S.fixed ≡ values_at text T.fixed
@@ -194,7 +194,7 @@ says_right text A B C a b = record {
   lists = right_same text A.lists B.lists a.lists ∙ b.lists;
 }
 
--- what is said of a field of the object, at its path and below it
+-- what is suggested of a field of the object, at its path and below it
 abbrev pub said_of_field : General → List (List ℕ) → Option Data → Option Data → List ℕ → List ℕ → Declared → Suggestions
 said_of_field G ts v schema path k f = suggestions_at G ts (option_and_then (λ w. under w k) v) f.default (schema_of_field schema k) (below path (step.field k)) f.node
 
@@ -223,7 +223,7 @@ field_says one G ts v schema path (field l N required default fs) k f p ordered 
           (field_says one G ts v schema path fs k f p ordered.2 (rw other at found))
     ]
 
--- ---- what is said below a path is not said at it
+-- ---- what is suggested below a path is not said at it
 
 pub not_below_itself : OneText → (path : List ℕ) → IsOffBelow path path
 not_below_itself one path s p e =
@@ -233,7 +233,7 @@ not_below_itself one path s p e =
 pub nothing_here : OneText → (G : General) (ts : List (List ℕ)) (v schema : Option Data) (path : List ℕ) (N : Node) → SaysNothing path (suggestions_below G ts v schema path N)
 nothing_here one G ts v schema path N = below_nothing G ts v schema path N path (not_below_itself one path)
 
--- and what is said at it alone is not said below it
+-- and what is suggested at it alone is not said below it
 pub asks_below_same : OneText → (path : List ℕ) (s : FieldStep) (p : FieldPath) (S : Suggestions) → SaysSame (path ++ path_text (s ∷ p)) (both (always_present path) S) S
 asks_below_same one path s p S = record {
   fixed = refl;

@@ -31,14 +31,14 @@ use Rattle.plan.specs.Samples.Site.{below}
 use Rattle.plan.specs.Samples.Over.{all_names, is_in, asks_field, has_present, IsOver}
 use Rattle.plan.specs.Samples.Part.{IsSample}
 use Rattle.plan.specs.declared.pool_limits.PoolLimits.{PoolLimits}
-use Rattle.suggest.specs.Suggested.Around.{path_of_names, part_under, is_varied_above, SamplesAreTheObjectOutside}
-use Rattle.suggest.specs.Suggested.Document.{general_of, beside_standing, document_of}
-use Rattle.suggest.specs.Suggested.Listed.{General}
+use Rattle.suggest.specs.Suggested.VariedSamples.{path_of_names, part_under, is_varied_above, SamplesAreTheObjectOutside}
+use Rattle.suggest.specs.Suggested.Document.{general_of, for_variation, document_of}
+use Rattle.suggest.specs.Suggested.LeafValues.{General}
 use Rattle.suggest.specs.Suggested.Lists.{schema_of_field}
 use Rattle.suggest.specs.Suggested.Varied.{Suggestions, both, begins_with, goes_on, leads_on, as_in_object, always_present, suggestions_at, suggestions_below, suggestions_of_fields, reach, reach_by_fields}
 use Rattle.suggest.specs.declared.varying.Reach.TheVariants.{There}
 use Rattle.suggest.proofs.EntryLemmas.{values_at, pool_fixed, pool_present, all_present}
-use Rattle.suggest.proofs.SaidLemmas.{OneText, further, field_says, said_of_field, nothing_here, asks_below_same}
+use Rattle.suggest.proofs.SuggestionLemmas.{OneText, further, field_says, said_of_field, nothing_here, asks_below_same}
 use Rattle.suggest.proofs.WithoutLemmas.{nothing_taken}
 
 abbrev pub StoredLaw : Type 0
@@ -285,8 +285,8 @@ root_leads root v t ts there = rw (starts t (Some v) root there) refl
 pub same_outside : StoredLaw → OneText → SamplesAreTheObjectOutside
 same_outside law one limits raw root v [] limit w ordered some varied sample = absurd (some refl)
 same_outside law one limits raw root v (t ∷ ts) limit w ordered some varied taken = λ ks N there above ends.
-    let sample : IsSample root (pools_of (document_of limits root [] (suggestions_below (beside_standing (general_of limits root)) (t ∷ ts) (Some v) (Some raw) [] root))) limit w =
-    subst (λ u. IsSample root (pools_of (document_of limits root [] (suggestions_below (beside_standing (general_of limits root)) (t ∷ ts) (Some u) (Some raw) [] root))) limit w) (nothing_taken [] root v) taken in
-    same_along law one (pools_of (document_of limits root [] (suggestions_below (beside_standing (general_of limits root)) (t ∷ ts) (Some v) (Some raw) [] root))) (beside_standing (general_of limits root)) (t ∷ ts) ks [] [] root N (Some v) (Some raw) w refl
-    ordered (root_leads root v t ts (All-head (λ t. reach t (Some v) [] root ≡ There) t ts varied)) (root_said limits root (suggestions_below (beside_standing (general_of limits root)) (t ∷ ts) (Some v) (Some raw) [] root))
+    let sample : IsSample root (pools_of (document_of limits root [] (suggestions_below (for_variation (general_of limits root)) (t ∷ ts) (Some v) (Some raw) [] root))) limit w =
+    subst (λ u. IsSample root (pools_of (document_of limits root [] (suggestions_below (for_variation (general_of limits root)) (t ∷ ts) (Some u) (Some raw) [] root))) limit w) (nothing_taken [] root v) taken in
+    same_along law one (pools_of (document_of limits root [] (suggestions_below (for_variation (general_of limits root)) (t ∷ ts) (Some v) (Some raw) [] root))) (for_variation (general_of limits root)) (t ∷ ts) ks [] [] root N (Some v) (Some raw) w refl
+    ordered (root_leads root v t ts (All-head (λ t. reach t (Some v) [] root ≡ There) t ts varied)) (root_said limits root (suggestions_below (for_variation (general_of limits root)) (t ∷ ts) (Some v) (Some raw) [] root))
     there above ends sample.part.stored sample.part.over

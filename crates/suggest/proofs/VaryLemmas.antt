@@ -1,4 +1,4 @@
--- What is said around an object, as the code makes it.
+-- What is suggested around an object, as the code makes it.
 use Rattle.std.proofs.Common.{◌≡◌, ◌≢◌, ◌≤◌, ◌<◌, ◌+◌, ℕ, List, [], ◌∷◌, ◌++◌, ◌∙◌, Bool, true, false, Option, length, get_or, drop, eqb, refl, sym, ap, append_assoc, append-nil, inl, inr, arith}
 use Rattle.std.specs.Prelude.{◌==◌, ◌&&◌, option_map, option_and_then, codes, nat_eq}
 use Rattle.std.proofs.lemmas.Bool.{and_parts, eq-eqb, eqb-true}
@@ -11,7 +11,7 @@ use Rattle.schema.specs.Nodes.View.{node_of, fields_of}
 use Rattle.schema.specs.declared.node.Field.{Field as CodeField}
 use Rattle.explain.specs.Paths.FieldPath as step
 use Rattle.plan.specs.Samples.Site.{below}
-use Rattle.suggest.specs.Suggested.Listed.{General}
+use Rattle.suggest.specs.Suggested.LeafValues.{General}
 use Rattle.suggest.specs.Suggested.Lists.{schema_of_field}
 use Rattle.suggest.specs.Suggested.Varied.{Suggestions, nothing, both, begins_with, goes_on, suggestions_at, suggestions_of_fields}
 

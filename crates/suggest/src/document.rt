@@ -22,7 +22,7 @@ use crate::chosen::push_name;
 use crate::fault::SuggestFault;
 use crate::general::{General, general_pools};
 use crate::judging::{can_be_read, check_varied, check_without, single};
-use crate::listed::Hints;
+use crate::leaf_values::Hints;
 use crate::lists::{Site, add_lists};
 use crate::members::{list, text_list, with, with_lists};
 use crate::suggestions::{Entry, Suggestions};
@@ -45,11 +45,11 @@ use stored::Schema;
 ///
 /// `paths` lists what stands at each scalar or open node in the objects. Where nothing stands there that is stored, it lists the
 /// default, the example and two texts of the format, as far as they are stored there; without such a text some of the pools besides.
-/// Nothing of that kind is listed for a truth value or an `enum`. The first paths are listed, as many as the limits allow.
+/// Nothing of that kind is listed for a boolean or an `enum`. The first paths are listed, as many as the limits allow.
 ///
 /// Where paths are varied, all else is as it is in the one object, by `fixed` and `present`, and values are listed at the varied paths
 /// and below them alone. What stands there in the object comes first, and what would be listed without it besides, or, where that is
-/// nothing, some of the pools. Nothing is listed for a truth value or an `enum` there, so that all its values are candidates.
+/// nothing, some of the pools. Nothing is listed for a boolean or an `enum` there, so that all its values are candidates.
 ///
 /// A path of `without` has an empty list under `fixed`, and the objects are taken without what stands there. `raw` is the schema as
 /// written, of which formats and examples are read.

@@ -1,12 +1,13 @@
 //! The values that are listed for a scalar or an open node.
 ghost use Rattle.std.specs.Prelude.{◌≡◌, ◌++◌, IfOk, OnOk, take, filter, option_and_then};
 ghost use Rattle.std.specs.Option.{option_to_list};
-ghost use Rattle.jtree.specs.Path.{under as under_of};
+ghost use Rattle.jtree.specs.Path;
 ghost use Rattle.jtree.specs.View.{data_of};
 ghost use Rattle.schema.specs.Nodes.View.{node_of};
 ghost use Rattle.suggest.specs.View.{trees_of, trees_at, tree_at};
 ghost use Rattle.suggest.specs.Internal.Parts.{general_of};
-ghost use Rattle.suggest.specs.Suggested.Listed.{takes as takes_of, lists_itself as lists_itself_of, takes_texts_alone as takes_texts_alone_of, own_values as own_values_of, format_values as format_values_of, few as few_of, general_values as general_values_of, hinted_values as hinted_values_of, or_general, besides, listed_values as listed_values_of};
+ghost use Rattle.suggest.specs.Suggested.LeafValues;
+ghost use Rattle.suggest.specs.Suggested.LeafValues.{or_general, besides};
 
 use crate::chosen::{chosen, copy_of};
 use crate::formats::texts_of_format;
@@ -27,17 +28,17 @@ pub(crate) struct Hints<'a> {
     pub schema: Option<&'a Tree>,
 }
 
-/// The values that are listed for the node, where these values stand there in objects.
-pub(crate) fn listed_values(
+/// The values that are listed for the node, where objects have these values there.
+pub(crate) fn leaf_values(
     alloc: Global,
     general: &General,
     node: &Node,
-    standing: &[&Tree],
+    found: &[&Tree],
     hints: &Hints<'_>,
 ) -> Result<Vec<Tree>, AllocError>
-    ensures { IfOk result (λ ts. trees_of ts.items ≡ listed_values_of (general_of general.now) (trees_at standing.now) (tree_at hints.now.default) (tree_at hints.now.schema) (node_of node.now)) }
+    ensures { IfOk result (λ ts. trees_of ts.items ≡ LeafValues.leaf_values (general_of general.now) (trees_at found.now) (tree_at hints.now.default) (tree_at hints.now.schema) (node_of node.now)) }
 {
-    let mut values = standing_values(alloc, node, standing)?;
+    let mut values = stored_values(alloc, node, found)?;
     if values.is_empty() {
         values = hinted_values(alloc, general, node, hints)?;
     } else if general.beside {
@@ -47,11 +48,11 @@ pub(crate) fn listed_values(
 }
 
 /// Those of the values that are stored there.
-fn standing_values(alloc: Global, node: &Node, standing: &[&Tree]) -> Result<Vec<Tree>, AllocError>
-    ensures { IfOk result (λ ts. trees_of ts.items ≡ filter (takes_of (node_of node.now)) (trees_at standing.now)) }
+fn stored_values(alloc: Global, node: &Node, found: &[&Tree]) -> Result<Vec<Tree>, AllocError>
+    ensures { IfOk result (λ ts. trees_of ts.items ≡ filter (LeafValues.takes (node_of node.now)) (trees_at found.now)) }
 {
     let mut values = Vec::new(alloc);
-    for value in standing {
+    for value in found {
         if takes(node, value) {
             values.push(copy_of(alloc, value)?)?;
         }
@@ -61,7 +62,7 @@ fn standing_values(alloc: Global, node: &Node, standing: &[&Tree]) -> Result<Vec
 
 /// Whether a value other than null is stored at the scalar or open node.
 fn takes(node: &Node, value: &Tree) -> bool
-    ensures { result ≡ takes_of (node_of node.now) (data_of value.now) }
+    ensures { result ≡ LeafValues.takes (node_of node.now) (data_of value.now) }
 {
     stored::laws::stored_by_parts();
     match (&node.sort, value) {
@@ -72,20 +73,20 @@ fn takes(node: &Node, value: &Tree) -> bool
     }
 }
 
-/// What stands there, and what is suggested besides; nothing for a node that lists its values itself.
+/// What is found there, and what is suggested besides; nothing for a node that lists its values itself.
 fn with_suggested(
     alloc: Global,
     general: &General,
     node: &Node,
-    standing: Vec<Tree>,
+    found: Vec<Tree>,
     hints: &Hints<'_>,
 ) -> Result<Vec<Tree>, AllocError>
-    ensures { IfOk result (λ ts. trees_of ts.items ≡ besides (general_of general.now) (node_of node.now) (trees_of standing.items) (hinted_values_of (general_of general.now) (node_of node.now) (tree_at hints.now.default) (tree_at hints.now.schema))) }
+    ensures { IfOk result (λ ts. trees_of ts.items ≡ besides (general_of general.now) (node_of node.now) (trees_of found.items) (LeafValues.hinted_values (general_of general.now) (node_of node.now) (tree_at hints.now.default) (tree_at hints.now.schema))) }
 {
     if lists_itself(node) {
         return Ok(Vec::new(alloc));
     }
-    let mut values = standing;
+    let mut values = found;
     let mut suggested = suggested_values(alloc, general, node, hints)?;
     values.append(&mut suggested)?;
     Ok(values)
@@ -98,7 +99,7 @@ fn suggested_values(
     node: &Node,
     hints: &Hints<'_>,
 ) -> Result<Vec<Tree>, AllocError>
-    ensures { IfOk result (λ ts. trees_of ts.items ≡ or_general (hinted_values_of (general_of general.now) (node_of node.now) (tree_at hints.now.default) (tree_at hints.now.schema)) (general_values_of (general_of general.now) (node_of node.now))) }
+    ensures { IfOk result (λ ts. trees_of ts.items ≡ or_general (LeafValues.hinted_values (general_of general.now) (node_of node.now) (tree_at hints.now.default) (tree_at hints.now.schema)) (LeafValues.general_values (general_of general.now) (node_of node.now))) }
 {
     let mut values = hinted_values(alloc, general, node, hints)?;
     if values.is_empty() {
@@ -114,7 +115,7 @@ fn hinted_values(
     node: &Node,
     hints: &Hints<'_>,
 ) -> Result<Vec<Tree>, AllocError>
-    ensures { IfOk result (λ ts. trees_of ts.items ≡ hinted_values_of (general_of general.now) (node_of node.now) (tree_at hints.now.default) (tree_at hints.now.schema)) }
+    ensures { IfOk result (λ ts. trees_of ts.items ≡ LeafValues.hinted_values (general_of general.now) (node_of node.now) (tree_at hints.now.default) (tree_at hints.now.schema)) }
 {
     let mut values = Vec::new(alloc);
     if lists_itself(node) {
@@ -129,9 +130,9 @@ fn hinted_values(
     Ok(values)
 }
 
-/// Whether no value has to be listed: of a truth value both are candidates, and of an `enum` all its values.
+/// Whether no value has to be listed: of a boolean both values are candidates, and of an `enum` all its values.
 fn lists_itself(node: &Node) -> bool
-    ensures { result ≡ lists_itself_of (node_of node.now) }
+    ensures { result ≡ LeafValues.lists_itself (node_of node.now) }
 {
     match &node.sort {
         Sort::Scalar(scalar) => match scalar.kind {
@@ -149,7 +150,7 @@ fn push_own(
     hints: &Hints<'_>,
     values: &mut Vec<Tree>,
 ) -> Result<(), AllocError>
-    ensures { OnOk result (trees_of values.new.items ≡ trees_of values.old.items ++ own_values_of (node_of node.now) (tree_at hints.now.default) (tree_at hints.now.schema)) }
+    ensures { OnOk result (trees_of values.new.items ≡ trees_of values.old.items ++ LeafValues.own_values (node_of node.now) (tree_at hints.now.default) (tree_at hints.now.schema)) }
 {
     push_taken(alloc, node, hints.default, values)?;
     push_taken(alloc, node, under(hints.schema, "example"), values)
@@ -162,7 +163,7 @@ fn push_taken(
     value: Option<&Tree>,
     values: &mut Vec<Tree>,
 ) -> Result<(), AllocError>
-    ensures { OnOk result (trees_of values.new.items ≡ trees_of values.old.items ++ filter (takes_of (node_of node.now)) (option_to_list (tree_at value.entry))) }
+    ensures { OnOk result (trees_of values.new.items ≡ trees_of values.old.items ++ filter (LeafValues.takes (node_of node.now)) (option_to_list (tree_at value.entry))) }
 {
     if let Some(value) = value {
         if takes(node, value) {
@@ -174,7 +175,7 @@ fn push_taken(
 
 /// What is under a name.
 pub(crate) fn under<'a>(tree: Option<&'a Tree>, name: &str) -> Option<&'a Tree>
-    ensures { tree_at result ≡ option_and_then (λ d. under_of d name.now) (tree_at tree.entry) }
+    ensures { tree_at result ≡ option_and_then (λ d. Path.under d name.now) (tree_at tree.entry) }
 {
     match tree {
         Some(tree) => tree.get(name),
@@ -189,7 +190,7 @@ fn push_texts(
     schema: Option<&Tree>,
     values: &mut Vec<Tree>,
 ) -> Result<(), AllocError>
-    ensures { OnOk result (trees_of values.new.items ≡ trees_of values.old.items ++ format_values_of (node_of node.now) (tree_at schema.entry)) }
+    ensures { OnOk result (trees_of values.new.items ≡ trees_of values.old.items ++ LeafValues.format_values (node_of node.now) (tree_at schema.entry)) }
 {
     if !takes_texts_alone(node) {
         return Ok(());
@@ -205,7 +206,7 @@ fn push_texts(
 }
 
 fn takes_texts_alone(node: &Node) -> bool
-    ensures { result ≡ takes_texts_alone_of (node_of node.now) }
+    ensures { result ≡ LeafValues.takes_texts_alone (node_of node.now) }
 {
     match &node.sort {
         Sort::Scalar(scalar) => matches!(scalar.kind, ScalarKind::String),
@@ -220,7 +221,7 @@ fn push_general(
     node: &Node,
     values: &mut Vec<Tree>,
 ) -> Result<(), AllocError>
-    ensures { OnOk result (trees_of values.new.items ≡ trees_of values.old.items ++ general_values_of (general_of general.now) (node_of node.now)) }
+    ensures { OnOk result (trees_of values.new.items ≡ trees_of values.old.items ++ LeafValues.general_values (general_of general.now) (node_of node.now)) }
 {
     if let Sort::Open = &node.sort {
         return push_few(alloc, node, &general.any, values);
@@ -236,7 +237,7 @@ fn push_few(
     pool: &[Tree],
     values: &mut Vec<Tree>,
 ) -> Result<(), AllocError>
-    ensures { OnOk result (trees_of values.new.items ≡ trees_of values.old.items ++ take few_of (filter (takes_of (node_of node.now)) (trees_of pool.now))) }
+    ensures { OnOk result (trees_of values.new.items ≡ trees_of values.old.items ++ take LeafValues.few (filter (LeafValues.takes (node_of node.now)) (trees_of pool.now))) }
 {
     let mut left = FEW;
     for value in pool {

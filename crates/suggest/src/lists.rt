@@ -9,9 +9,9 @@ ghost use Rattle.suggest.specs.Suggested.Lists.{entry_of, schema_of_field};
 ghost use Rattle.suggest.specs.Suggested.Varied.{both};
 
 use crate::general::General;
-use crate::listed::{Hints, listed_values, under};
-use crate::standing::{items_of, push_names, values_of, values_under};
+use crate::leaf_values::{Hints, leaf_values, under};
 use crate::suggestions::{Entry, Suggestions};
+use crate::values_below::{items_of, push_names, values_of, values_under};
 use explain::{Step, path_below};
 use jtree::{Text, Tree};
 use schema::{Field, Fields, Node, Sort};
@@ -64,7 +64,7 @@ pub(crate) fn add_lists(
             add_lists(alloc, general, &below, item, &values, suggestions)
         }
         Sort::Scalar(_) | Sort::Open => {
-            let values = listed_values(alloc, general, node, values, &site.hints)?;
+            let values = leaf_values(alloc, general, node, values, &site.hints)?;
             push_entry(alloc, site.path, values, &mut suggestions.lists)
         }
     }

@@ -1,7 +1,8 @@
 //! What some values have one step below them.
 ghost use Rattle.std.specs.Prelude.{◌≡◌, ◌++◌, IfOk, OnOk};
 ghost use Rattle.suggest.specs.View.{trees_at};
-ghost use Rattle.suggest.specs.Suggested.Standing.{field_values, items_in, item_values, trees_of as member_trees, names_of, members_in, member_values, member_names};
+ghost use Rattle.suggest.specs.Suggested.ValuesBelow;
+ghost use Rattle.suggest.specs.Suggested.ValuesBelow.{field_values, items_in, item_values, names_of, members_in, member_values, member_names};
 ghost use Rattle.jtree.specs.View.{data_of};
 
 use jtree::{Text, Tree};
@@ -58,7 +59,7 @@ pub(crate) fn values_of<'a>(alloc: Global, values: &[&'a Tree]) -> Result<Vec<&'
 }
 
 fn push_values<'a>(value: &'a Tree, below: &mut Vec<&'a Tree>) -> Result<(), AllocError>
-    ensures { OnOk result (trees_at below.new.items ≡ trees_at below.old.items ++ member_trees (members_in (data_of value.now))) }
+    ensures { OnOk result (trees_at below.new.items ≡ trees_at below.old.items ++ ValuesBelow.trees_of (members_in (data_of value.now))) }
 {
     if let Tree::Object(members) = value {
         for member in &members.members {

@@ -10,7 +10,7 @@ ghost use Rattle.suggest.specs.Suggested.Varied;
 
 use crate::chosen::copy_of;
 use crate::general::General;
-use crate::listed::under;
+use crate::leaf_values::under;
 use crate::lists::{Site, add_lists, field_hints};
 use crate::suggestions::{Entry, Suggestions};
 use explain::{Step, path_below};

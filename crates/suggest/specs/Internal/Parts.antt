@@ -8,7 +8,7 @@ use Rattle.suggest.specs.View.{trees_of, texts_at, tree_at}
 use Rattle.suggest.specs.Suggested.Chosen.{chosen_names}
 use Rattle.suggest.specs.Suggested.Document.{items_of, with_member, members_from, without_entry, usual_names, document_with, single}
 use Rattle.suggest.specs.Suggested.Document as document
-use Rattle.suggest.specs.Suggested.Listed.{General}
+use Rattle.suggest.specs.Suggested.LeafValues.{General}
 use Rattle.suggest.specs.Suggested.Lists.{Entry, lists_of_fields, names_of_fields}
 use Rattle.suggest.specs.Suggested.Varied.{Suggestions, lists_alone, suggestions_at, suggestions_below, suggestions_of_fields}
 use Rattle.suggest.specs.Suggested.Wanted.{Wanted}

@@ -14,7 +14,7 @@ use Rattle.plan.specs.Pools.Document.{pools_of}
 use Rattle.plan.specs.Pools.Pools.{standard, AreSmall}
 use Rattle.plan.specs.declared.pool_limits.PoolLimits.{PoolLimits}
 use Rattle.suggest.specs.Suggested.Chosen.{chosen_names}
-use Rattle.suggest.specs.Suggested.Listed.{General}
+use Rattle.suggest.specs.Suggested.LeafValues.{General}
 use Rattle.suggest.specs.Suggested.Lists.{Entry}
 use Rattle.suggest.specs.Suggested.Values.{all_integers, all_lengths}
 use Rattle.suggest.specs.Suggested.Varied.{Suggestions, lists_alone, suggestions_below}
@@ -46,9 +46,9 @@ usual_names = codes "a" ∷ codes "b" ∷ []
 abbrev pub general_of : PoolLimits → Node → General
 general_of limits root = record { integers = suggested_integers root; strings = suggested_strings root; any = suggested_any; limits = limits; beside = false }
 
--- around an object suggestions come besides what stands there
-abbrev pub beside_standing : General → General
-beside_standing G = record G { beside = true }
+-- where paths are varied, suggestions come besides what the object has
+abbrev pub for_variation : General → General
+for_variation G = record G { beside = true }
 
 -- ---- lists under names
 
@@ -78,7 +78,7 @@ single _ = None
 -- without a varied path nothing is fixed
 abbrev pub suggestions_by : List (List ℕ) → General → Wanted → Data → Node → Suggestions
 suggestions_by [] G w raw root = lists_alone G w.objects None (Some raw) [] root
-suggestions_by ts G w raw root = suggestions_below (beside_standing G) ts (single w.objects) (Some raw) [] root
+suggestions_by ts G w raw root = suggestions_below (for_variation G) ts (single w.objects) (Some raw) [] root
 
 -- a path that never occurs
 abbrev pub without_entry : List ℕ → Entry

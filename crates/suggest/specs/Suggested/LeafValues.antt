@@ -29,7 +29,7 @@ takes (node nullable description (scalar kind cs)) v = accepts_scalar kind v && 
 takes (node nullable description open_) v = not (is_null v)
 takes _ v = false
 
--- no value has to be listed: of a truth value both are candidates, and of an `enum` all its values
+-- no value has to be listed: of a boolean both values are candidates, and of an `enum` all its values
 abbrev pub lists_itself : Node → Bool
 lists_itself (node nullable description (scalar Boolean cs)) = true
 lists_itself (node nullable description (scalar kind cs)) = is_some (constraints_of cs).choices
@@ -79,5 +79,5 @@ abbrev pub joined : General → Node → List Data → List Data → List Data
 joined G N [] hinted = hinted
 joined G N standing hinted = if G.beside then besides G N standing hinted else standing
 
-abbrev pub listed_values : General → List Data → Option Data → Option Data → Node → List Data
-listed_values G vs default schema N = chosen_values G.limits.entries (joined G N (filter (takes N) vs) (hinted_values G N default schema))
+abbrev pub leaf_values : General → List Data → Option Data → Option Data → Node → List Data
+leaf_values G vs default schema N = chosen_values G.limits.entries (joined G N (filter (takes N) vs) (hinted_values G N default schema))

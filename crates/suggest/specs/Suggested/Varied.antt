@@ -10,7 +10,7 @@ use Rattle.schema.specs.Document.Texts.{is_among}
 use Rattle.schema.specs.Nodes.Node.{Node, node, object, Fields, no_fields, field}
 use Rattle.explain.specs.Paths.FieldPath as step
 use Rattle.plan.specs.Samples.Site.{below}
-use Rattle.suggest.specs.Suggested.Listed.{General}
+use Rattle.suggest.specs.Suggested.LeafValues.{General}
 use Rattle.suggest.specs.Suggested.Lists.{Entry, schema_of_field, lists_at, names_at}
 use Rattle.suggest.specs.declared.varying.Reach.{Reach}
 use Rattle.suggest.specs.declared.varying.Reach.TheVariants.{Undeclared, Missing, There}

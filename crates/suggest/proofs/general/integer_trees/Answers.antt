@@ -3,7 +3,7 @@ use Rattle.std.specs.Int.{w64}
 use Rattle.std.proofs.lemmas.Int.{to_z-of_z}
 use Rattle.std.proofs.lemmas.List.{map_more, map_push, take_all}
 use Rattle.jtree.specs.Data.{integer}
-use Rattle.suggest.proofs.general.integers.Goals as goal
+use Rattle.suggest.proofs.general.integer_trees.Goals as goal
 
 pub loop-integer-preserved : goal.loop-integer-preserved
 loop-integer-preserved c =

@@ -2,7 +2,7 @@ use Rattle.std.proofs.Common.{◌≡◌, ◌∙◌, ◌++◌, ◌∷◌, [], ap,
 use Rattle.std.proofs.lemmas.List.{map_more, map_push, take_all}
 use Rattle.jtree.specs.Data.{text}
 use Rattle.suggest.specs.Suggested.Document.{letters}
-use Rattle.suggest.proofs.general.strings.Goals as goal
+use Rattle.suggest.proofs.general.letter_strings.Goals as goal
 
 pub loop-length-preserved : goal.loop-length-preserved
 loop-length-preserved c =

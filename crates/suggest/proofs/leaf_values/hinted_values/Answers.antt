@@ -5,10 +5,10 @@ use Rattle.jtree.specs.View.{data_of}
 use Rattle.schema.specs.Nodes.View.{node_of}
 use Rattle.suggest.specs.View.{trees_of, tree_at}
 use Rattle.suggest.specs.Internal.Parts.{general_of}
-use Rattle.suggest.specs.Suggested.Listed.{own_values, format_values, general_values, lists_itself, hinted_from}
-use Rattle.suggest.proofs.ListedLemmas.{hinted_own, hinted_texts, hinted_none}
-use Rattle.suggest.proofs.listed.hinted_values.Goals as goal
-use Rattle.suggest.proofs.listed.hinted_values.Goals.{then-own-gt0+then-len-own+in_ok-push_general, else-own-gt0, else-own-gt0-via-then-own-gt0+else-len-own, else-own-gt0-via-else-own-gt0}
+use Rattle.suggest.specs.Suggested.LeafValues.{own_values, format_values, general_values, lists_itself, hinted_from}
+use Rattle.suggest.proofs.LeafValueLemmas.{hinted_own, hinted_texts, hinted_none}
+use Rattle.suggest.proofs.leaf_values.hinted_values.Goals as goal
+use Rattle.suggest.proofs.leaf_values.hinted_values.Goals.{then-own-gt0+then-len-own+in_ok-push_general, else-own-gt0, else-own-gt0-via-then-own-gt0+else-len-own, else-own-gt0-via-else-own-gt0}
 
 pub returns : goal.returns
 returns c =

@@ -4,10 +4,10 @@ use Rattle.schema.specs.Nodes.View.{node_of}
 use Rattle.suggest.specs.View.{trees_of, trees_at, tree_at}
 use Rattle.suggest.specs.Internal.Parts.{general_of}
 use Rattle.suggest.specs.Suggested.Chosen.{chosen_values}
-use Rattle.suggest.specs.Suggested.Listed.{takes, hinted_values, joined}
-use Rattle.suggest.proofs.ListedLemmas.{none_there, beside_some, alone_some}
-use Rattle.suggest.proofs.listed.listed_values.Goals as goal
-use Rattle.suggest.proofs.listed.listed_values.Goals.{then-is_empty+in_ok-values-2, else-is_empty+then-general+in_ok-values-3, else-is_empty+else-general}
+use Rattle.suggest.specs.Suggested.LeafValues.{takes, hinted_values, joined}
+use Rattle.suggest.proofs.LeafValueLemmas.{none_there, beside_some, alone_some}
+use Rattle.suggest.proofs.leaf_values.leaf_values.Goals as goal
+use Rattle.suggest.proofs.leaf_values.leaf_values.Goals.{then-is_empty+in_ok-values-2, else-is_empty+then-general+in_ok-values-3, else-is_empty+else-general}
 
 pub returns : goal.returns
 returns c =
@@ -16,7 +16,7 @@ returns c =
     let hinted = hinted_values G N (tree_at c.args.hints.now.default) (tree_at c.args.hints.now.schema) in
     let vs = c.in_ok-values.values in
     let standing = ap (λ ds. joined G N ds hinted) c.in_ok-values.ensures in
-    let all : trees_of c.if-is_empty.values.items ≡ joined G N (filter (takes N) (trees_at c.args.standing.now)) hinted = elim c.if-is_empty.branch [
+    let all : trees_of c.if-is_empty.values.items ≡ joined G N (filter (takes N) (trees_at c.args.found.now)) hinted = elim c.if-is_empty.branch [
       | then-is_empty+in_ok-values-2 w ↦
           let none : trees_of vs.items ≡ [] = none_there vs.items (vec_len vs) vs.ok.0 (sym c.is_empty.ensures ∙ w.if-is_empty.true) in
           ap (λ v. trees_of v.items) w.values-is ∙ (w.in_ok-values-2.ensures ∙ (ap (λ ds. joined G N ds hinted) (sym none) ∙ standing))

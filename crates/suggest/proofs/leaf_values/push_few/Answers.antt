@@ -4,10 +4,10 @@ use Rattle.std.proofs.lemmas.List.{at_drop_more, map_push}
 use Rattle.jtree.specs.View.{data_of}
 use Rattle.schema.specs.Nodes.View.{node_of}
 use Rattle.suggest.specs.View.{trees_of}
-use Rattle.suggest.specs.Suggested.Listed.{takes, few}
-use Rattle.suggest.proofs.ListedLemmas.{few_taken, few_passed}
-use Rattle.suggest.proofs.listed.push_few.Goals as goal
-use Rattle.suggest.proofs.listed.push_few.Goals.{then-takes+in_ok-copy_of+in_ok-push, else-takes}
+use Rattle.suggest.specs.Suggested.LeafValues.{takes, few}
+use Rattle.suggest.proofs.LeafValueLemmas.{few_taken, few_passed}
+use Rattle.suggest.proofs.leaf_values.push_few.Goals as goal
+use Rattle.suggest.proofs.leaf_values.push_few.Goals.{then-takes+in_ok-copy_of+in_ok-push, else-takes}
 
 pub loop-value-preserved : goal.loop-value-preserved
 loop-value-preserved c =

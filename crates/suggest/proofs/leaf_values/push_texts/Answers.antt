@@ -8,9 +8,9 @@ use Rattle.schema.specs.Nodes.View.{node_of}
 use Rattle.schema.specs.Rules.Keywords.{text_under}
 use Rattle.suggest.specs.View.{trees_of, texts_at, tree_at}
 use Rattle.suggest.specs.Suggested.Formats.{texts_of_format}
-use Rattle.suggest.specs.Suggested.Listed.{takes, takes_texts_alone}
-use Rattle.suggest.proofs.ListedLemmas.{one_filtered, format_is}
-use Rattle.suggest.proofs.listed.push_texts.Goals as goal
+use Rattle.suggest.specs.Suggested.LeafValues.{takes, takes_texts_alone}
+use Rattle.suggest.proofs.LeafValueLemmas.{one_filtered, format_is}
+use Rattle.suggest.proofs.leaf_values.push_texts.Goals as goal
 
 letters_trees : List (Bor (List ℕ)) → List Data
 letters_trees ys = map (λ t. text t) (texts_at ys)

@@ -3,10 +3,10 @@ use Rattle.std.specs.Prelude.{vec_len}
 use Rattle.schema.specs.Nodes.View.{node_of}
 use Rattle.suggest.specs.View.{trees_of}
 use Rattle.suggest.specs.Internal.Parts.{general_of}
-use Rattle.suggest.specs.Suggested.Listed.{general_values, or_general}
-use Rattle.suggest.proofs.ListedLemmas.{none_there, some_hinted}
-use Rattle.suggest.proofs.listed.suggested_values.Goals as goal
-use Rattle.suggest.proofs.listed.suggested_values.Goals.{then-is_empty+in_ok-push_general, else-is_empty}
+use Rattle.suggest.specs.Suggested.LeafValues.{general_values, or_general}
+use Rattle.suggest.proofs.LeafValueLemmas.{none_there, some_hinted}
+use Rattle.suggest.proofs.leaf_values.suggested_values.Goals as goal
+use Rattle.suggest.proofs.leaf_values.suggested_values.Goals.{then-is_empty+in_ok-push_general, else-is_empty}
 
 pub returns : goal.returns
 returns c =

@@ -3,9 +3,9 @@ use Rattle.jtree.specs.View.{data_of}
 use Rattle.schema.specs.Nodes.Node.{node}
 use Rattle.schema.specs.Nodes.View.{sort_of, validations_of}
 use Rattle.stored.specs.Objects.Becomes.{IsStored}
-use Rattle.suggest.specs.Suggested.Listed.{takes}
-use Rattle.suggest.proofs.ListedLemmas.{scalar_takes}
-use Rattle.suggest.proofs.listed.takes.Goals as goal
+use Rattle.suggest.specs.Suggested.LeafValues.{takes}
+use Rattle.suggest.proofs.LeafValueLemmas.{scalar_takes}
+use Rattle.suggest.proofs.leaf_values.takes.Goals as goal
 
 pub returns-in-Scalar-default : goal.returns-in-Scalar-default
 returns-in-Scalar-default c =
