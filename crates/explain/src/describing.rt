@@ -1,10 +1,10 @@
 //! The description of a field.
 ghost use Rattle.std.specs.Prelude.{◌≡◌, ◌++◌, OnOk, IfOk, option_map, string_bytes};
-ghost use Rattle.jtree.specs.Data.{no_items as no_items_of};
+ghost use Rattle.jtree.specs.Data;
 ghost use Rattle.jtree.specs.View.{data_of};
 ghost use Rattle.schema.specs.Nodes.View.{node_of, sort_of};
 ghost use Rattle.explain.specs.Fields.Field.{list_type_of, map_type_of, keys_of, items_or_none, choices_of};
-ghost use Rattle.explain.specs.Fields.TypeText.{scalar_text as scalar_text_of, type_text as type_text_of};
+ghost use Rattle.explain.specs.Fields.TypeText;
 ghost use Rattle.explain.specs.Fields.View.{field_of};
 ghost use Rattle.explain.specs.Internal.ListedByLevel.{listed_as};
 
@@ -38,7 +38,7 @@ pub(crate) fn describe(
 }
 
 fn type_text(alloc: Global, node: &Node) -> Result<Text, AllocError>
-    ensures { IfOk result (λ t. t ≡ type_text_of (node_of node.now)) }
+    ensures { IfOk result (λ t. t ≡ TypeText.type_text (node_of node.now)) }
 {
     let mut text = String::new(alloc);
     push_type_text(&mut text, node)?;
@@ -46,7 +46,7 @@ fn type_text(alloc: Global, node: &Node) -> Result<Text, AllocError>
 }
 
 fn push_type_text(text: &mut String, node: &Node) -> Result<(), AllocError>
-    ensures { OnOk result (string_bytes text.new ≡ string_bytes text.old ++ type_text_of (node_of node.now)) }
+    ensures { OnOk result (string_bytes text.new ≡ string_bytes text.old ++ TypeText.type_text (node_of node.now)) }
 {
     match &node.sort {
         Sort::Scalar(scalar) => text.push_str(scalar_text(scalar.kind)),
@@ -64,7 +64,7 @@ fn push_type_text(text: &mut String, node: &Node) -> Result<(), AllocError>
 }
 
 fn scalar_text(kind: ScalarKind) -> &'static str
-    ensures { result.now ≡ scalar_text_of kind }
+    ensures { result.now ≡ TypeText.scalar_text kind }
 {
     match kind {
         ScalarKind::Boolean => "boolean",
@@ -121,7 +121,7 @@ fn copied_choices(alloc: Global, choices: &Option<Items>) -> Result<Items, Alloc
 }
 
 fn no_items(alloc: Global) -> Items
-    ensures { result ≡ no_items_of }
+    ensures { result ≡ Data.no_items }
 {
     Items {
         items: Vec::new(alloc),

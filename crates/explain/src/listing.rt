@@ -21,10 +21,10 @@ impl Drop for Listing {
 
 impl Model for Listing {
     ghost use Rattle.std.specs.Prelude.{List, map};
-    ghost use Rattle.explain.specs.Fields.Field.{Field as FieldData};
+    ghost use Rattle.explain.specs.Fields.Field as FieldSpec;
     ghost use Rattle.explain.specs.Internal.FieldCode.{fields_coded};
 
-    ghost Value = { List FieldData };
+    ghost Value = { List FieldSpec.Field };
 
     ghost coded = { fields_coded };
 

@@ -2,7 +2,8 @@
 ghost use Rattle.std.specs.Prelude.{◌≡◌, ◌≢◌, ◌++◌, ℕ, List, Decides, MatchOption};
 ghost use Rattle.explain.specs.Paths.FieldPath.{field};
 ghost use Rattle.explain.specs.Paths.PathText.{escaped};
-ghost use Rattle.explain.specs.Internal.Reading.{IsPathText, in_name as in_name_of, after_byte as after_byte_of, may_end as may_end_of, IsEnd, IsAfterStep};
+ghost use Rattle.explain.specs.Internal.Reading;
+ghost use Rattle.explain.specs.Internal.Reading.{IsPathText, IsEnd, IsAfterStep};
 
 /// How far a text is read.
 #[derive(Clone, Copy, Drop)]
@@ -35,7 +36,7 @@ pub(crate) fn is_path_text(text: &str) -> bool
 }
 
 fn after_byte(stage: Stage, byte: u8) -> Stage
-    ensures { result ≡ after_byte_of stage byte }
+    ensures { result ≡ Reading.after_byte stage byte }
 {
     match stage {
         Stage::Between if byte == b'/' => Stage::Step,
@@ -51,7 +52,7 @@ fn after_byte(stage: Stage, byte: u8) -> Stage
 }
 
 fn in_name(byte: u8) -> Stage
-    ensures { result ≡ in_name_of byte }
+    ensures { result ≡ Reading.in_name byte }
 {
     match byte {
         b'/' => Stage::Step,
@@ -62,7 +63,7 @@ fn in_name(byte: u8) -> Stage
 }
 
 fn may_end(stage: Stage) -> bool
-    ensures { result ≡ may_end_of stage }
+    ensures { result ≡ Reading.may_end stage }
 {
     match stage {
         Stage::Between | Stage::Step | Stage::Name => true,

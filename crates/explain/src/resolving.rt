@@ -1,6 +1,6 @@
 //! The node of a path.
 ghost use Rattle.std.specs.Prelude.{◌≡◌, Some, IfOk, IfErr, option_map};
-ghost use Rattle.schema.specs.Nodes.ByPlace.{node_at as node_at_of};
+ghost use Rattle.schema.specs.Nodes.ByPlace;
 ghost use Rattle.schema.specs.Nodes.View.{node_of};
 ghost use Rattle.explain.specs.Fields.Declared.{IsDeclared};
 ghost use Rattle.explain.specs.Fields.PathFault.{IsTextOf, IsPathFault};
@@ -19,7 +19,7 @@ use stored::Schema;
 /// `BadPath` where the text is not that of a path. `NoSuchField` where it is, but the schema declares no field there, as for the
 /// empty text, which is the path of the root.
 pub fn resolve<'a>(schema: &'a Schema, path: &str) -> Result<&'a Node, XFault>
-    ensures node { IfOk result (λ n. IsTextOf (λ p. IsDeclared schema.now p × (node_at_of schema.now (place_of p) ≡ Some (node_of n.now))) path.now) }
+    ensures node { IfOk result (λ n. IsTextOf (λ p. IsDeclared schema.now p × (ByPlace.node_at schema.now (place_of p) ≡ Some (node_of n.now))) path.now) }
     ensures fault { IfErr result (IsPathFault (IsDeclared schema.now) path.now) }
 {
     if !is_path_text(path) {

@@ -2,7 +2,7 @@
 ghost use Rattle.std.specs.Prelude.{◌≡◌, ◌∷◌, [], OnOk, option_map, string_bytes};
 ghost use Rattle.jtree.specs.View.{data_of};
 ghost use Rattle.schema.specs.Nodes.View.{node_of};
-ghost use Rattle.explain.specs.Paths.FieldPath.{field as field_step};
+ghost use Rattle.explain.specs.Paths.FieldPath;
 ghost use Rattle.explain.specs.Internal.ListedByLevel.{progress, noted, added, listed_as, under, whole, below, below_fields};
 ghost use Rattle.explain.specs.Paths.StepView.{step_of};
 
@@ -64,7 +64,7 @@ fn list_fields(walk: &mut Walk, fields: &Fields) -> Result<(), AllocError>
 
 #[cycle(list)]
 fn list_field(walk: &mut Walk, field: &schema::Field) -> Result<(), AllocError>
-    ensures { OnOk result (progress walk.new ≡ added (progress walk.old) (under (field_step field.now.name)
+    ensures { OnOk result (progress walk.new ≡ added (progress walk.old) (under (FieldPath.field field.now.name)
         (whole field.now.required (option_map data_of field.now.default) (node_of field.now.node) (below (node_of field.now.node))))) }
 {
     let default = copied_default(*walk.path.allocator(), &field.default)?;

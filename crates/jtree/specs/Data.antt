@@ -1,5 +1,5 @@
--- A tree as plain data: null, a truth value, an integer, a text, a list of trees, or an object (RFC 8259).
--- A text is the list of its UTF-8 bytes.
+-- A tree as plain data: null, a boolean, an integer, a string, a list of trees, or an object (RFC 8259).
+-- A string is the list of its UTF-8 bytes.
 use Rattle.std.specs.Prelude.{◌≡◌, ℕ, suc, max, ℤ, List, Bool, FitsSigned}
 use Rattle.std.specs.Int.{w64}
 use Rattle.std.specs.Ordering.{nat_cmp}

@@ -7,7 +7,7 @@ use Rattle.std.specs.declared.cmp.Ordering.TheVariants.{Less, Equal, Greater}
 use Rattle.jtree.specs.Data.{Data, null, boolean, integer, text, list, object, Items, no_items, item, Members, no_members, member}
 use Rattle.jtree.specs.Nodes.{nodes}
 
--- the rank of a tree's kind: null, boolean, integer, text, list, object
+-- the rank of a tree's kind: null, boolean, integer, string, list, object
 abbrev pub kind : Data → ℕ
 kind null = 0
 kind (boolean b) = 1

@@ -1,4 +1,4 @@
--- The compact JSON text of a tree: no white space, members by the bytes of their names, and in texts the short escapes,
+-- The compact JSON text of a tree: no white space, members by the bytes of their names, and in strings the short escapes,
 -- `\u00` with two lower-case digits for the other control characters, and all else as it is (RFC 8259).
 use Rattle.std.specs.Prelude.{ℕ, List}
 use Rattle.serde_json.specs.Data as json

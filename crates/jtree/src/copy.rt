@@ -54,7 +54,7 @@ impl Tree {
         Ok(copy_tree(self, alloc)?)
     }
 
-    /// Makes it equal to `value`. Where both are texts, the capacity of the text is reused; else a copy replaces it.
+    /// Makes it equal to `value`. Where both are strings, the capacity of the string is reused; else a copy replaces it.
     /// `AllocError` where an allocation fails, and it is then unchanged.
     #[inline(always)]
     pub fn set(&mut self, alloc: Global, value: &Tree) -> Result<(), AllocError>

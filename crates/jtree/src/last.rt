@@ -26,7 +26,7 @@ impl Tree {
         find_last(self).node
     }
 
-    /// Replaces the last node by a tree. Where both are texts, the capacity of the old one is reused. It answers how many steps, each
+    /// Replaces the last node by a tree. Where both are strings, the capacity of the old one is reused. It answers how many steps, each
     /// to the last item or member, lead to that node, at most 2^64 - 1. `AllocError` where an allocation fails, and the tree is then
     /// unchanged.
     pub fn set_last(&mut self, alloc: Global, value: &Tree) -> Result<usize, AllocError>

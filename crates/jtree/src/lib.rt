@@ -31,6 +31,6 @@ mod write;
 
 pub use fault::JFault;
 pub use pointer::{push_index, push_name};
-pub use read::MOST_BYTES;
+pub use read::{MOST_BYTES, MOST_DEPTH};
 pub use refusal::Refusal;
 pub use value::{Items, Member, Members, Text, Tree};

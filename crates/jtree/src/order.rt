@@ -99,7 +99,7 @@ impl Ord for Tree {
 
     ghost matches_eq = { λ u v. refl };
 
-    /// The tree order: by the count of nodes, then by kind (null, boolean, integer, text, list, object), and then within
+    /// The tree order: by the count of nodes, then by kind (null, boolean, integer, string, list, object), and then within
     /// the kind. Lists are decided at the first index where they differ, and one that ends there comes first. Objects are
     /// decided at the least name, by bytes, where they differ, and one without that name comes first.
     fn cmp(&self, other: &Tree) -> Ordering {
@@ -112,7 +112,7 @@ impl Ord for Tree {
     }
 }
 
-/// The rank of a tree's kind: null, boolean, integer, text, list, object.
+/// The rank of a tree's kind: null, boolean, integer, string, list, object.
 fn kind_of(tree: &Tree) -> u8
     ensures { result ≡ kind (data_of tree.now) }
 {

@@ -1,6 +1,7 @@
 //! The first number of a JSON value that is not an integer of 64 bits: where it is, and how it is written.
 ghost use Rattle.std.specs.Prelude.{◌≡◌, ◌++◌, ℕ, List, true, Some, IfOk, OnOk, MatchOption, is_some, option_map, string_bytes};
-ghost use Rattle.serde_json.specs.Data.{Data as JsonData, Num, number, array, object};
+ghost use Rattle.serde_json.specs.Data as json;
+ghost use Rattle.serde_json.specs.Data.{Num, number, array, object};
 ghost use Rattle.serde_json.specs.Read.{of_json, number_of};
 ghost use Rattle.serde_json.specs.View.{view, items_view, members_view};
 ghost use Rattle.json.specs.Value.{value_view};
@@ -11,6 +12,7 @@ ghost use Rattle.jtree.specs.Refusal.{value_at, IsOtherNumberAt};
 ghost use Rattle.jtree.specs.Internal.Steps.{step_of, path_of, part_of};
 
 use crate::pointer::{push_index, push_name};
+use crate::read::MOST_DEPTH;
 use json::{Reader, Scratch};
 use serde_json::{Map, Value};
 use std::alloc::{AllocError, Global};
@@ -91,17 +93,14 @@ fn push_step(text: &mut String, step: Step<'_>) -> Result<(), AllocError>
     .map_err(|_| AllocError)
 }
 
-/// The deepest nesting that is read.
-const MOST_DEPTH: usize = 127;
-
 /// The number at a path of a document, as it is written there.
 pub(crate) fn number_text(
     alloc: Global,
     bytes: &[u8],
     path: &[Step<'_>],
 ) -> Result<String, AllocError>
-    requires { (v : JsonData) × IsJson bytes.now v × IsOtherNumberAt v (path_of path.now) }
-    ensures { IfOk result (λ s. (v : JsonData) → IsJson bytes.now v → option_map number (number_of (string_bytes s)) ≡ value_at v (path_of path.now)) }
+    requires { (v : json.Data) × IsJson bytes.now v × IsOtherNumberAt v (path_of path.now) }
+    ensures { IfOk result (λ s. (v : json.Data) → IsJson bytes.now v → option_map number (number_of (string_bytes s)) ≡ value_at v (path_of path.now)) }
 {
     let text = str::from_utf8(bytes).unwrap();
     let mut scratch = Scratch::new(alloc);
@@ -114,7 +113,7 @@ pub(crate) fn number_text(
 
 #[cycle(number_at)]
 fn number_at<'a>(value: &json::Value<'a>, path: &[Step<'_>]) -> Option<&'a str>
-    ensures { (v : JsonData) (n : Num) → of_json (value_view value.now) ≡ Some v → value_at v (path_of path.now) ≡ Some (number n) → (s : List ℕ) × (option_map (λ t. t.now) result ≡ Some s) × (number_of s ≡ Some n) }
+    ensures { (v : json.Data) (n : Num) → of_json (value_view value.now) ≡ Some v → value_at v (path_of path.now) ≡ Some (number n) → (s : List ℕ) × (option_map (λ t. t.now) result ≡ Some s) × (number_of s ≡ Some n) }
 {
     match path {
         [] => value.as_number(),

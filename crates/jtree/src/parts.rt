@@ -1,6 +1,6 @@
 //! The value under a name.
 ghost use Rattle.std.specs.Prelude.{◌≡◌, ◌↔◌, ℕ, List, None, Some, IfSome, IsTrue, option_map};
-ghost use Rattle.jtree.specs.Data.{text as text_of};
+ghost use Rattle.jtree.specs.Data;
 ghost use Rattle.jtree.specs.Path.{member_at, under};
 ghost use Rattle.jtree.specs.View.{data_of};
 
@@ -36,8 +36,8 @@ impl Tree {
     }
     /// The text under a name of an object. `None` where there is none.
     pub fn get_text(&self, name: &str) -> Option<&str>
-        ensures some { IfSome result (λ s. under (data_of self.now) name.now ≡ Some (text_of s.now)) }
-        ensures none { result ≡ None → (s : List ℕ) → under (data_of self.now) name.now ≡ Some (text_of s) → ⊥ }
+        ensures some { IfSome result (λ s. under (data_of self.now) name.now ≡ Some (Data.text s.now)) }
+        ensures none { result ≡ None → (s : List ℕ) → under (data_of self.now) name.now ≡ Some (Data.text s) → ⊥ }
     {
         match self.get(name) {
             Some(Tree::Text(text)) => Some(text.as_str()),
@@ -47,7 +47,7 @@ impl Tree {
 
     /// Whether an object has this text under the name.
     pub fn has_text(&self, name: &str, text: &str) -> bool
-        ensures { IsTrue result ↔ (under (data_of self.now) name.now ≡ Some (text_of text.now)) }
+        ensures { IsTrue result ↔ (under (data_of self.now) name.now ≡ Some (Data.text text.now)) }
     {
         match self.get_text(name) {
             Some(found) => found == text,

@@ -16,6 +16,9 @@ use std::alloc::Global;
 /// The length of the longest document that is read, in bytes.
 pub const MOST_BYTES: usize = 1_048_576;
 
+/// The deepest nesting of lists and objects that is read.
+pub const MOST_DEPTH: usize = 127;
+
 impl Tree {
     /// The tree that a JSON value is (RFC 8259): members in the order of the bytes of their names, and numbers as
     /// integers of 64 bits.
@@ -33,7 +36,7 @@ impl Tree {
     /// The tree of the bytes as JSON (RFC 8259). Of members with the same name the last one is kept.
     ///
     /// `TooLong` exactly where there are more than `MOST_BYTES` bytes, which is decided first. `NotJson` where the
-    /// bytes are not UTF-8 or not JSON, where lists and objects nest more than 127 deep, and where a number is beyond the
+    /// bytes are not UTF-8 or not JSON, where lists and objects nest more than `MOST_DEPTH` deep, and where a number is beyond the
     /// range of floats, as `1e999`. `NotAnInteger` where some number of the value is not an integer between -2^63 and
     /// 2^63 - 1, as for `from_value`. `NoMemory` where an allocation fails.
     pub fn from_bytes(alloc: Global, bytes: &[u8]) -> Result<Tree, JFault>

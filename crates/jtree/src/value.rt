@@ -55,10 +55,11 @@ impl Model for Text {
 }
 
 impl Model for Items {
-    ghost use Rattle.jtree.specs.Data.{Items as ItemsData, items_depth, AreTrees};
+    ghost use Rattle.jtree.specs.Data;
+    ghost use Rattle.jtree.specs.Data.{items_depth, AreTrees};
     ghost use Rattle.jtree.specs.Internal.Code.{items_coded};
 
-    ghost Value = { ItemsData };
+    ghost Value = { Data.Items };
 
     ghost coded = { items_coded };
 
@@ -76,10 +77,11 @@ impl Model for Items {
 }
 
 impl Model for Members {
-    ghost use Rattle.jtree.specs.Data.{Members as MembersData, members_depth, AreMembers};
+    ghost use Rattle.jtree.specs.Data;
+    ghost use Rattle.jtree.specs.Data.{members_depth, AreMembers};
     ghost use Rattle.jtree.specs.Internal.Code.{members_coded};
 
-    ghost Value = { MembersData };
+    ghost Value = { Data.Members };
 
     ghost coded = { members_coded };
 

@@ -15,8 +15,8 @@ use std::alloc::{AllocError, Global};
 
 impl Tree {
     /// The compact JSON text (RFC 8259): no white space, members by the bytes of their names, integers in decimal, and
-    /// in texts the escapes `\"`, `\\`, `\b`, `\t`, `\n`, `\f` and `\r`, `\u00` with two lower-case digits for the other
-    /// control characters, and all else as it is. It reads back to the same tree where the tree nests at most 127 deep
+    /// in strings the escapes `\"`, `\\`, `\b`, `\t`, `\n`, `\f` and `\r`, `\u00` with two lower-case digits for the other
+    /// control characters, and all else as it is. It reads back to the same tree where the tree nests at most `MOST_DEPTH` deep
     /// and the text has at most `MOST_BYTES` bytes. `NoMemory` where an allocation fails.
     pub fn to_text(&self, alloc: Global) -> Result<String, JFault>
         ensures ok { IfOk result (λ s. string_bytes s ≡ compact (data_of self.now)) }

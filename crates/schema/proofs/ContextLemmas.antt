@@ -17,7 +17,7 @@ use Rattle.schema.specs.Rules.Broken.{At, IsPatternBranch, of_any, of_all, HasAn
 use Rattle.schema.specs.Internal.Contexts.{is_any, is_first_of_all, outer_by, IsContext, HasPart}
 use Rattle.schema.specs.Internal.PlaceView.{place_of}
 use Rattle.schema.specs.Internal.Subschemas.{IsSubschema}
-use Rattle.schema.specs.declared.listing.Context.{Context}
+use Rattle.schema.specs.declared.context.Context.{Context}
 use Rattle.schema.specs.declared.listing.Subschema.{Subschema}
 use Rattle.schema.proofs.EventParts.{PartIs, is_map_value, is_items, is_negation, is_none, part_is, part_join}
 

@@ -1,6 +1,6 @@
 -- How a list of places grows along the events of a schema.
-use Rattle.std.proofs.Common.{◌≡◌, ◌+◌, ℕ, suc, List, [], ◌∷◌, ◌++◌, length, Option, Some, None, refl, sym, ap, ◌∙◌, subst, inl, inr, arith}
-use Rattle.std.specs.Prelude.{map, nat_lt, nat_le}
+use Rattle.std.proofs.Common.{◌≡◌, ◌+◌, ℕ, suc, List, [], ◌∷◌, ◌++◌, length, Option, Some, None, Ok, Err, refl, sym, ap, ◌∙◌, subst, inl, inr, arith}
+use Rattle.std.specs.Prelude.{map, All, nat_lt, nat_le}
 use Rattle.std.proofs.lemmas.List.{append-nil, append_assoc, length-append, length-map, map-append}
 use Rattle.std.proofs.lemmas.Option.{same_Some}
 use Rattle.jtree.specs.Data.{Data, object, Members}
@@ -13,7 +13,9 @@ use Rattle.schema.specs.declared.limits.Limits.{Limits}
 use Rattle.schema.specs.Internal.Events.{Event, entered, counted, subschemas_of, schema_events, Passing, of_all, limit_break, count_event, keyword_event, AreEventsOf}
 use Rattle.schema.specs.Internal.Faults.{IsLimitRefusal, IsLimitFaultOf}
 use Rattle.schema.proofs.LimitLemmas.{first_past}
+use Rattle.schema.specs.Internal.Listing.{HasGrown, Lists}
 use Rattle.schema.specs.Internal.PlaceView.{subschema_of}
+use Rattle.schema.specs.Internal.Subschemas.{IsSubschema}
 use Rattle.schema.specs.declared.listing.Unlisted.{Unlisted}
 use Rattle.schema.specs.declared.listing.Unlisted.TheVariants.{Passed, NoMemory}
 use Rattle.schema.specs.declared.listing.Subschema.{Subschema}
@@ -76,23 +78,18 @@ module _ (limits : Limits) where
   refusal_stays n xs ys (Passed x) h = (h.0, h.1, h.2, limit_stays n xs ys h.0 h.3)
   refusal_stays n xs ys NoMemory h = h
 
-  -- the list has grown by the places among the events
-  pub record HasGrown (old new : List Subschema) (events : List Event) : Type 0 where
-    pub subschemas : map subschema_of new ≡ map subschema_of old ++ subschemas_of events
-    pub limit : limit_break limits (length old) events ≡ None
-
   pub grown_count : (old new : List Subschema) (events : List Event) → map subschema_of new ≡ map subschema_of old ++ subschemas_of events → length new ≡ length old + length (subschemas_of events)
   grown_count old new events grown =
       sym (length-map new subschema_of) ∙ ap length grown ∙ length-append (map subschema_of old) (subschemas_of events)
       ∙ ap (λ n. n + length (subschemas_of events)) (length-map old subschema_of)
 
-  pub grown_subschemas : (old new : List Subschema) (events rest : List Event) → HasGrown old new events
+  pub grown_subschemas : (old new : List Subschema) (events rest : List Event) → HasGrown limits old new events
       → map subschema_of new ++ subschemas_of rest ≡ map subschema_of old ++ subschemas_of (events ++ rest)
   grown_subschemas old new events rest g =
       ap (λ ms. ms ++ subschemas_of rest) g.subschemas ∙ append_assoc (map subschema_of old) (subschemas_of events) (subschemas_of rest)
       ∙ ap (λ ms. map subschema_of old ++ ms) (sym (subschemas-append events rest))
 
-  pub grown_limit : (old new : List Subschema) (events rest : List Event) → HasGrown old new events
+  pub grown_limit : (old new : List Subschema) (events rest : List Event) → HasGrown limits old new events
       → limit_break limits (length new) rest ≡ limit_break limits (length old) (events ++ rest)
   grown_limit old new events rest g =
       ap (λ n. limit_break limits n rest) (grown_count old new events g.subschemas) ∙ sym (limit_past (length old) events rest g.limit)
@@ -100,11 +97,55 @@ module _ (limits : Limits) where
   -- nothing is left: the list has grown by the places of the whole
   pub grown_whole : (old new : List Subschema) (left whole : List Event) → left ≡ []
       → map subschema_of new ++ subschemas_of left ≡ map subschema_of old ++ subschemas_of whole
-      → limit_break limits (length new) left ≡ limit_break limits (length old) whole → HasGrown old new whole
+      → limit_break limits (length new) left ≡ limit_break limits (length old) whole → HasGrown limits old new whole
   grown_whole old new left whole nothing subschemas limit = record {
     subschemas = sym (append-nil (map subschema_of new)) ∙ ap (λ events. map subschema_of new ++ subschemas_of events) (sym nothing) ∙ subschemas;
     limit = sym limit ∙ ap (limit_break limits (length new)) nothing;
   }
+
+  -- ---- along the events of a walk
+
+  -- what is listed so far, with the places among the events that are left, is that of the whole, and what is left passes a limit where
+  -- the whole does
+  pub record IsAlong (old new : List Subschema) (left whole : List Event) (IsRight : Data → Type 0) : Type 0 where
+    pub subschemas : map subschema_of new ++ subschemas_of left ≡ map subschema_of old ++ subschemas_of whole
+    pub limit : limit_break limits (length new) left ≡ limit_break limits (length old) whole
+    pub right : (raw : Data) → IsRight raw → All (IsSubschema raw) old → All (IsSubschema raw) new
+
+  pub along_from : (old : List Subschema) (whole : List Event) (IsRight : Data → Type 0) → IsAlong old old whole whole IsRight
+  along_from old whole IsRight = record { subschemas = refl; limit = refl; right = λ raw right all. all }
+
+  -- past events at which nothing is listed and no limit is passed
+  pub along_past : {IsRight : Data → Type 0} (old new : List Subschema) (left here rest whole : List Event) → left ≡ here ++ rest → subschemas_of (here ++ rest) ≡ subschemas_of rest
+      → limit_break limits (length new) (here ++ rest) ≡ limit_break limits (length new) rest → IsAlong old new left whole IsRight → IsAlong old new rest whole IsRight
+  along_past old new left here rest whole is none within a = record {
+    subschemas = ap (λ es. map subschema_of new ++ es) (sym none) ∙ ap (λ es. map subschema_of new ++ subschemas_of es) (sym is) ∙ a.subschemas;
+    limit = sym within ∙ ap (limit_break limits (length new)) (sym is) ∙ a.limit;
+    right = a.right;
+  }
+
+  -- past events along which the list grows
+  pub along_more : {A : Type 0} {IsRight IsRightHere : Data → Type 0} (old new next : List Subschema) (left here rest whole : List Event) (u : A) → left ≡ here ++ rest
+      → ((raw : Data) → IsRight raw → IsRightHere raw) → Lists limits here IsRightHere new next (Ok u) → IsAlong old new left whole IsRight → IsAlong old next rest whole IsRight
+  along_more old new next left here rest whole u is within lists a = record {
+    subschemas = grown_subschemas new next here rest lists.grown ∙ ap (λ es. map subschema_of new ++ subschemas_of es) (sym is) ∙ a.subschemas;
+    limit = grown_limit new next here rest lists.grown ∙ ap (limit_break limits (length new)) (sym is) ∙ a.limit;
+    right = λ raw right all. lists.right raw (within raw right) (a.right raw right all);
+  }
+
+  -- a limit that is passed first in what is left is the first of the whole
+  pub along_first : {A : Type 0} {IsRight : Data → Type 0} (old new next : List Subschema) (left same whole : List Event) (e : Unlisted) → left ≡ same
+      → IsLimitRefusal (limit_break limits (length new) same) e → IsAlong old new left whole IsRight → Lists {A = A} limits whole IsRight old next (Err e)
+  along_first old new next left same whole e is refused a =
+      record { grown = tt; refused = subst (λ o. IsLimitRefusal o e) (ap (limit_break limits (length new)) (sym is) ∙ a.limit) refused; right = tt }
+
+  pub along_refused : {A : Type 0} {IsRight : Data → Type 0} (old new next : List Subschema) (left here rest whole : List Event) (e : Unlisted) → left ≡ here ++ rest
+      → IsLimitRefusal (limit_break limits (length new) here) e → IsAlong old new left whole IsRight → Lists {A = A} limits whole IsRight old next (Err e)
+  along_refused old new next left here rest whole e is refused a = along_first old new next left (here ++ rest) whole e is (refusal_stays (length new) here rest e refused) a
+
+  -- nothing is left: the list has grown along the whole
+  pub along_all : {A : Type 0} {IsRight : Data → Type 0} (old new : List Subschema) (left whole : List Event) (u : A) → left ≡ [] → IsAlong old new left whole IsRight → Lists limits whole IsRight old new (Ok u)
+  along_all old new left whole u nothing a = record { grown = grown_whole old new left whole nothing a.subschemas a.limit; refused = tt; right = a.right }
 
   -- the fault of a whole schema, with all its places counted
   pub refusal_names : (ms : Members) → AreEventsOf (object ms) (schema_events [] ms) → (p : Passing) (e : Unlisted) → limit_break limits 0 (schema_events [] ms) ≡ Some p

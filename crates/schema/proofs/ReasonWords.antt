@@ -1,4 +1,4 @@
--- What reasons are found by: tests of truth values, and keywords that are there.
+-- What reasons are found by: tests of booleans, and keywords that are there.
 use Rattle.std.proofs.Common.{◌≡◌, ◌⊎◌, ℕ, zero, suc, List, [], ◌∷◌, get_or, Bool, true, false, Option, Some, None, refl, subst, inl, inr}
 use Rattle.std.specs.Prelude.{if◌then◌else◌, option_and_then, codes}
 use Rattle.std.specs.Option.{is_some}

@@ -6,6 +6,7 @@ pub mod Faults
 pub mod PlaceView
 pub mod Subschemas
 pub mod Contexts
+pub mod Listing
 pub mod KindView
 pub mod RuleParts
 pub mod ReasonParts

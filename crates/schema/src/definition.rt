@@ -1,6 +1,7 @@
 //! Reads a CustomResourceDefinition (apiextensions.k8s.io/v1).
 ghost use Rattle.std.specs.Prelude.{◌≡◌, ◌≢◌, ◌↔◌, ℕ, List, [], None, Some, option_map, codes, OnOk, IfOk, IfErr, IfSome, IsTrue};
-ghost use Rattle.jtree.specs.Data.{Data, Items as ItemsData, list as list_of};
+ghost use Rattle.jtree.specs.Data as Trees;
+ghost use Rattle.jtree.specs.Data.{Data};
 ghost use Rattle.jtree.specs.View.{data_of};
 ghost use Rattle.schema.specs.Document.Crd.{IsRead, IsSchemaOf, HasHeader, IsHead};
 ghost use Rattle.schema.specs.Internal.Faults.{IsUnfound};
@@ -55,8 +56,8 @@ pub(crate) struct Definition<'a> {
 /// (apiextensions.k8s.io/v1): the schema is the object at `schema.openAPIV3Schema` of the version.
 ///
 /// `NotACrd` where the document is no CustomResourceDefinition: an object with `apiVersion`
-/// `apiextensions.k8s.io/v1`, `kind` `CustomResourceDefinition`, non-empty texts `spec.group` and `spec.names.kind`, and
-/// a list `spec.versions` of objects with a text `name` each, no name twice. `NoSuchVersion` where it is one, and no
+/// `apiextensions.k8s.io/v1`, `kind` `CustomResourceDefinition`, non-empty strings `spec.group` and `spec.names.kind`, and
+/// a list `spec.versions` of objects with a string `name` each, no name twice. `NoSuchVersion` where it is one, and no
 /// version has the name that is asked for. `NotACrd` where that version has no object as its schema. `KeywordForm` where
 /// a keyword of the schema has not its JSON form (OpenAPI 3.0, Schema Object). `TooLarge` where one of `Limits::STANDARD` is
 /// passed. `NoMemory` where an allocation fails. They are decided in this order. The document is gone through a bounded number of
@@ -226,8 +227,8 @@ fn kind_part(document: &Tree) -> Option<&Tree>
 }
 
 fn list_in(part: Option<&Tree>) -> Option<&Items>
-    ensures some { IfSome result (λ ds. option_map (λ t. data_of t.now) part.entry ≡ Some (list_of ds.now)) }
-    ensures none { result ≡ None → (ds : ItemsData) → option_map (λ t. data_of t.now) part.entry ≡ Some (list_of ds) → ⊥ }
+    ensures some { IfSome result (λ ds. option_map (λ t. data_of t.now) part.entry ≡ Some (Trees.list ds.now)) }
+    ensures none { result ≡ None → (ds : Trees.Items) → option_map (λ t. data_of t.now) part.entry ≡ Some (Trees.list ds) → ⊥ }
 {
     match part {
         Some(Tree::List(items)) => Some(items),
@@ -235,7 +236,7 @@ fn list_in(part: Option<&Tree>) -> Option<&Items>
     }
 }
 
-/// A text that is not empty.
+/// A string that is not empty.
 fn given_text(part: Option<&Tree>) -> Option<&str>
     ensures some { IfSome result (λ s. IsGiven (option_map (λ t. data_of t.now) part.entry) s.now) }
     ensures none { result ≡ None → (s : List ℕ) → IsGiven (option_map (λ t. data_of t.now) part.entry) s → ⊥ }

@@ -1,11 +1,13 @@
 //! The form of each keyword's value, and the first value in path order that has not its form.
 ghost use Rattle.std.specs.Prelude.{◌≡◌, ◌++◌, ℕ, Option, Some, None, OnOk, IfOk, IfErr, string_bytes};
 ghost use Rattle.jtree.specs.Data.{Data, list, object};
-ghost use Rattle.jtree.specs.Path.{Path, name as name_step, index as index_step, part_by};
+ghost use Rattle.jtree.specs.Path as Paths;
+ghost use Rattle.jtree.specs.Path.{Path, part_by};
 ghost use Rattle.jtree.specs.Pointer.{name_token, index_token};
 ghost use Rattle.jtree.specs.View.{data_of};
 ghost use Rattle.schema.specs.Document.Texts.{is_among};
-ghost use Rattle.schema.specs.Document.Forms.{Form as FormData, HasForms, text_keywords, truth_value_keywords, count_keywords, form_of as form_of_keyword, form_below, has_form as has_form_of, is_some_list as is_some_list_of, is_count as is_count_of};
+ghost use Rattle.schema.specs.Document.Forms;
+ghost use Rattle.schema.specs.Document.Forms.{HasForms, string_keywords, boolean_keywords, count_keywords, form_below};
 ghost use Rattle.schema.specs.Document.Refusal.{form_view};
 ghost use Rattle.schema.specs.Internal.Faults.{IsFirstBreak, IsMisformed};
 ghost use Rattle.schema.specs.Internal.FormBreak.{first_break, items_break, members_break, below};
@@ -22,20 +24,20 @@ use std::alloc::{AllocError, Global};
 pub enum Form {
     /// Any value.
     AnyTree,
-    /// A text.
-    Text,
-    /// A truth value.
-    TruthValue,
+    /// A string.
+    String,
+    /// A boolean.
+    Boolean,
     /// An object, each of whose members is an object.
     ObjectOfObjects,
-    /// A truth value or an object.
-    TruthValueOrObject,
+    /// A boolean or an object.
+    BooleanOrObject,
     /// An object.
     Object,
     /// A list of at least one object, with nothing else in it.
     SomeObjects,
-    /// A list of texts.
-    Texts,
+    /// A list of strings.
+    Strings,
     /// A list.
     List,
     /// An integer.
@@ -44,8 +46,8 @@ pub enum Form {
     Count,
 }
 
-fn is_text_keyword(keyword: &str) -> bool
-    ensures { result ≡ is_among keyword.now text_keywords }
+fn is_string_keyword(keyword: &str) -> bool
+    ensures { result ≡ is_among keyword.now string_keywords }
 {
     is_one_of(
         keyword,
@@ -60,8 +62,8 @@ fn is_text_keyword(keyword: &str) -> bool
     )
 }
 
-fn is_truth_value_keyword(keyword: &str) -> bool
-    ensures { result ≡ is_among keyword.now truth_value_keywords }
+fn is_boolean_keyword(keyword: &str) -> bool
+    ensures { result ≡ is_among keyword.now boolean_keywords }
 {
     is_one_of(
         keyword,
@@ -94,23 +96,23 @@ fn is_count_keyword(keyword: &str) -> bool
 
 /// The form of a keyword.
 fn form_of(keyword: &str) -> Form
-    ensures { form_view result ≡ form_of_keyword keyword.now }
+    ensures { form_view result ≡ Forms.form_of keyword.now }
 {
-    if is_text_keyword(keyword) {
-        return Form::Text;
+    if is_string_keyword(keyword) {
+        return Form::String;
     }
-    if is_truth_value_keyword(keyword) {
-        return Form::TruthValue;
+    if is_boolean_keyword(keyword) {
+        return Form::Boolean;
     }
     if is_count_keyword(keyword) {
         return Form::Count;
     }
     match keyword {
         "properties" => Form::ObjectOfObjects,
-        "additionalProperties" => Form::TruthValueOrObject,
+        "additionalProperties" => Form::BooleanOrObject,
         "items" | "not" => Form::Object,
         "allOf" | "anyOf" | "oneOf" => Form::SomeObjects,
-        "required" | "x-kubernetes-list-map-keys" => Form::Texts,
+        "required" | "x-kubernetes-list-map-keys" => Form::Strings,
         "enum" => Form::List,
         "minimum" | "maximum" => Form::Integer,
         _ => Form::AnyTree,
@@ -119,10 +121,10 @@ fn form_of(keyword: &str) -> Form
 
 /// The form of a member, from the form of its object.
 fn form_of_member(form: Form, name: &str) -> Form
-    ensures { form_view result ≡ form_below (form_view form) (name_step name.now) }
+    ensures { form_view result ≡ form_below (form_view form) (Paths.name name.now) }
 {
     match form {
-        Form::Object | Form::TruthValueOrObject => form_of(name),
+        Form::Object | Form::BooleanOrObject => form_of(name),
         Form::ObjectOfObjects => Form::Object,
         _ => Form::AnyTree,
     }
@@ -130,34 +132,34 @@ fn form_of_member(form: Form, name: &str) -> Form
 
 /// The form of each item, from the form of the list.
 fn form_of_items(form: Form) -> Form
-    ensures { (i : ℕ) → form_view result ≡ form_below (form_view form) (index_step i) }
+    ensures { (i : ℕ) → form_view result ≡ form_below (form_view form) (Paths.index i) }
 {
     match form {
         Form::SomeObjects => Form::Object,
-        Form::Texts => Form::Text,
+        Form::Strings => Form::String,
         _ => Form::AnyTree,
     }
 }
 
 /// Whether a value has a form, whatever its parts are.
 fn has_form(form: Form, tree: &Tree) -> bool
-    ensures { result ≡ has_form_of (form_view form) (data_of tree.now) }
+    ensures { result ≡ Forms.has_form (form_view form) (data_of tree.now) }
 {
     match form {
         Form::AnyTree => true,
-        Form::Text => matches!(tree, Tree::Text(_)),
-        Form::TruthValue => matches!(tree, Tree::Bool(_)),
+        Form::String => matches!(tree, Tree::Text(_)),
+        Form::Boolean => matches!(tree, Tree::Bool(_)),
         Form::ObjectOfObjects | Form::Object => matches!(tree, Tree::Object(_)),
-        Form::TruthValueOrObject => matches!(tree, Tree::Bool(_) | Tree::Object(_)),
+        Form::BooleanOrObject => matches!(tree, Tree::Bool(_) | Tree::Object(_)),
         Form::SomeObjects => is_some_list(tree),
-        Form::Texts | Form::List => matches!(tree, Tree::List(_)),
+        Form::Strings | Form::List => matches!(tree, Tree::List(_)),
         Form::Integer => matches!(tree, Tree::Int(_)),
         Form::Count => is_count(tree),
     }
 }
 
 fn is_some_list(tree: &Tree) -> bool
-    ensures { result ≡ is_some_list_of (data_of tree.now) }
+    ensures { result ≡ Forms.is_some_list (data_of tree.now) }
 {
     match tree {
         Tree::List(items) => !items.items.as_slice().is_empty(),
@@ -166,7 +168,7 @@ fn is_some_list(tree: &Tree) -> bool
 }
 
 fn is_count(tree: &Tree) -> bool
-    ensures { result ≡ is_count_of (data_of tree.now) }
+    ensures { result ≡ Forms.is_count (data_of tree.now) }
 {
     match tree {
         Tree::Int(number) => *number >= 0,
@@ -255,7 +257,7 @@ fn check_members<'a>(alloc: Global, form: Form, members: &'a Members) -> Result<
 
 /// The same with its pointer counted from an object, where it was counted from a member.
 fn below_name<'a>(alloc: Global, name: &str, misformed: Misformed<'a>) -> Misformed<'a>
-    ensures { (f : FormData) (d e : Data) (o : Option Path) → part_by d (name_step name.now) ≡ Some e → IsFirstBreak (form_below f (name_step name.now)) e o misformed.entry → IsFirstBreak f d (below (name_step name.now) o) result }
+    ensures { (f : Forms.Form) (d e : Data) (o : Option Path) → part_by d (Paths.name name.now) ≡ Some e → IsFirstBreak (form_below f (Paths.name name.now)) e o misformed.entry → IsFirstBreak f d (below (Paths.name name.now) o) result }
 {
     match misformed {
         Misformed::Broken(pointer, broken) => match name_and(alloc, name, pointer.as_str()) {
@@ -267,7 +269,7 @@ fn below_name<'a>(alloc: Global, name: &str, misformed: Misformed<'a>) -> Misfor
 }
 
 fn below_index<'a>(alloc: Global, index: usize, misformed: Misformed<'a>) -> Misformed<'a>
-    ensures { (f : FormData) (d e : Data) (o : Option Path) → part_by d (index_step index) ≡ Some e → IsFirstBreak (form_below f (index_step index)) e o misformed.entry → IsFirstBreak f d (below (index_step index) o) result }
+    ensures { (f : Forms.Form) (d e : Data) (o : Option Path) → part_by d (Paths.index index) ≡ Some e → IsFirstBreak (form_below f (Paths.index index)) e o misformed.entry → IsFirstBreak f d (below (Paths.index index) o) result }
 {
     match misformed {
         Misformed::Broken(pointer, broken) => {

@@ -1,6 +1,7 @@
 //! All breaks of the rules at the places of a schema.
 ghost use Rattle.std.specs.Prelude.{◌≡◌, [], All, OnOk, IfOk, IfErr};
-ghost use Rattle.jtree.specs.Data.{object, Members as MembersData, AreMembers};
+ghost use Rattle.jtree.specs.Data as Trees;
+ghost use Rattle.jtree.specs.Data.{object, AreMembers};
 ghost use Rattle.schema.specs.Internal.PlaceView.{place_of};
 ghost use Rattle.schema.specs.Internal.Subschemas.{IsSubschema, AreSubschemas};
 ghost use Rattle.schema.specs.Rules.Broken.{Broken};
@@ -35,7 +36,7 @@ pub(crate) fn subschemas_of<'a>(
     alloc: Global,
     raw: &'a RawSchema,
 ) -> Result<Vec<Subschema<'a>>, SFault>
-    ensures subschemas { IfOk result (λ v. (ms : MembersData) × (raw.now ≡ object ms) × AreMembers ms × AreSubschemas ms v.items) }
+    ensures subschemas { IfOk result (λ v. (ms : Trees.Members) × (raw.now ≡ object ms) × AreMembers ms × AreSubschemas ms v.items) }
     ensures err { IfErr result (λ e. e ≡ NoMemory) }
 {
     match raw.tree() {

@@ -5,18 +5,22 @@ ghost use Rattle.jtree.specs.Path.{member_at, under};
 ghost use Rattle.jtree.specs.View.{data_of, items_of};
 ghost use Rattle.schema.specs.Document.Places.{only_object};
 ghost use Rattle.schema.specs.Document.Texts.{is_among};
-ghost use Rattle.schema.specs.Internal.KindView.{kind_view, is_asked as is_asked_by};
+ghost use Rattle.schema.specs.Internal.KindView;
+ghost use Rattle.schema.specs.Internal.KindView.{kind_view};
 ghost use Rattle.schema.specs.Rules.Broken.{metadata_keywords};
-ghost use Rattle.schema.specs.Rules.Profile.{is_common_keyword as is_common_keyword_of, is_foreign as is_foreign_to, not_at_root, own_keywords, keywords_of_all, junctor_keywords, outside_keywords, unsupported_keywords, keywords_of_scalars, keywords_of_objects, keywords_of_lists};
-ghost use Rattle.schema.specs.Rules.Junctors.{is_judged_elsewhere as is_judged_elsewhere_of, is_branch_keyword as is_branch_keyword_of, is_presence_keyword as is_presence_keyword_of};
-ghost use Rattle.schema.specs.Rules.Keywords.{is_false, flag, has as has_of, has_text_among as has_text_of, has_other_text as has_other_text_than, has_name, is_empty as is_empty_list, texts_of, texts_under};
+ghost use Rattle.schema.specs.Rules.Profile;
+ghost use Rattle.schema.specs.Rules.Profile.{not_at_root, own_keywords, keywords_of_all, junctor_keywords, outside_keywords, unsupported_keywords};
+ghost use Rattle.schema.specs.Rules.Profile.{keywords_of_scalars, keywords_of_objects, keywords_of_lists};
+ghost use Rattle.schema.specs.Rules.Junctors as JunctorsSpec;
+ghost use Rattle.schema.specs.Rules.Keywords as KeywordsSpec;
+ghost use Rattle.schema.specs.Rules.Keywords.{is_false, flag, has_name, texts_of, texts_under};
 
 use crate::kinds::Kind;
 use jtree::{Members, Tree};
 
 /// Whether a keyword is there.
 pub(crate) fn has(schema: &Members, keyword: &str) -> bool
-    ensures { result ≡ has_of (object schema.now) keyword.now }
+    ensures { result ≡ KeywordsSpec.has (object schema.now) keyword.now }
 {
     schema.get(keyword).is_some()
 }
@@ -64,7 +68,7 @@ pub(crate) enum Keywords {
 
 /// Whether such a keyword is there.
 pub(crate) fn has_keyword(schema: &Members, keywords: Keywords) -> bool
-    ensures { result ≡ has_name (is_asked_by keywords) schema.now }
+    ensures { result ≡ has_name (KindView.is_asked keywords) schema.now }
 {
     for member in &schema.members {
         if is_asked(member.name.as_str(), keywords) {
@@ -75,7 +79,7 @@ pub(crate) fn has_keyword(schema: &Members, keywords: Keywords) -> bool
 }
 
 fn is_asked(keyword: &str, keywords: Keywords) -> bool
-    ensures { result ≡ is_asked_by keywords keyword.now }
+    ensures { result ≡ KindView.is_asked keywords keyword.now }
 {
     match keywords {
         Keywords::Junctors => is_junctor_keyword(keyword),
@@ -96,27 +100,27 @@ fn is_metadata_keyword(keyword: &str) -> bool
 }
 
 pub(crate) fn is_branch_keyword(keyword: &str) -> bool
-    ensures { result ≡ is_branch_keyword_of keyword.now }
+    ensures { result ≡ JunctorsSpec.is_branch_keyword keyword.now }
 {
     (is_keyword_of_scalars(keyword) || is_junctor_keyword(keyword)) || is_judged_elsewhere(keyword)
 }
 
 pub(crate) fn is_presence_keyword(keyword: &str) -> bool
-    ensures { result ≡ is_presence_keyword_of keyword.now }
+    ensures { result ≡ JunctorsSpec.is_presence_keyword keyword.now }
 {
     (keyword == "required" || is_junctor_keyword(keyword)) || is_judged_elsewhere(keyword)
 }
 
 /// Whether other rules say where the keyword may be.
 fn is_judged_elsewhere(keyword: &str) -> bool
-    ensures { result ≡ is_judged_elsewhere_of keyword.now }
+    ensures { result ≡ JunctorsSpec.is_judged_elsewhere keyword.now }
 {
     keyword == "type" || (is_outside_keyword(keyword) || is_unsupported_keyword(keyword))
 }
 
 /// Whether a place of the kind may not have the keyword; where it is of none it may.
 pub(crate) fn is_foreign(kind: Option<Kind>, keyword: &str) -> bool
-    ensures { result ≡ is_foreign_to (option_map kind_view kind) keyword.now }
+    ensures { result ≡ Profile.is_foreign (option_map kind_view kind) keyword.now }
 {
     match kind {
         Some(kind) => !(is_common_keyword(keyword) || is_own_keyword(keyword, kind)),
@@ -125,7 +129,7 @@ pub(crate) fn is_foreign(kind: Option<Kind>, keyword: &str) -> bool
 }
 
 fn is_common_keyword(keyword: &str) -> bool
-    ensures { result ≡ is_common_keyword_of keyword.now }
+    ensures { result ≡ Profile.is_common_keyword keyword.now }
 {
     is_keyword_of_all(keyword) || (is_junctor_keyword(keyword) || is_unsupported_keyword(keyword))
 }
@@ -260,9 +264,9 @@ pub(crate) fn is_one_of(text: &str, values: &[&str]) -> bool
     false
 }
 
-/// Whether a keyword is there and is one of these texts.
+/// Whether a keyword is there and is one of these strings.
 pub(crate) fn has_text_among(schema: &Members, keyword: &str, values: &[&str]) -> bool
-    ensures { result ≡ has_text_of (map (λ w. w.now) values.now) (object schema.now) keyword.now }
+    ensures { result ≡ KeywordsSpec.has_text_among (map (λ w. w.now) values.now) (object schema.now) keyword.now }
 {
     match schema.get(keyword) {
         Some(Tree::Text(text)) => is_one_of(text.as_str(), values),
@@ -270,14 +274,14 @@ pub(crate) fn has_text_among(schema: &Members, keyword: &str, values: &[&str]) -
     }
 }
 
-/// Whether a keyword is there and is none of these texts.
+/// Whether a keyword is there and is none of these strings.
 pub(crate) fn has_other_text(schema: &Members, keyword: &str, values: &[&str]) -> bool
-    ensures { result ≡ has_other_text_than (map (λ w. w.now) values.now) (object schema.now) keyword.now }
+    ensures { result ≡ KeywordsSpec.has_other_text (map (λ w. w.now) values.now) (object schema.now) keyword.now }
 {
     has(schema, keyword) && !has_text_among(schema, keyword, values)
 }
 
-/// Whether a text is in the list under a keyword.
+/// Whether a string is in the list under a keyword.
 pub(crate) fn lists_text(schema: &Members, keyword: &str, text: &str) -> bool
     ensures { result ≡ is_among text.now (texts_under (object schema.now) keyword.now) }
 {
@@ -287,7 +291,7 @@ pub(crate) fn lists_text(schema: &Members, keyword: &str, text: &str) -> bool
     }
 }
 
-/// Whether one of these trees is this text.
+/// Whether one of these trees is this string.
 pub(crate) fn is_listed(trees: &[Tree], text: &str) -> bool
     ensures { result ≡ is_among text.now (texts_of (items_of trees.now)) }
 {
@@ -300,7 +304,7 @@ pub(crate) fn is_listed(trees: &[Tree], text: &str) -> bool
 }
 
 pub(crate) fn is_empty(trees: &[Tree]) -> bool
-    ensures { result ≡ is_empty_list (items_of trees.now) }
+    ensures { result ≡ KeywordsSpec.is_empty (items_of trees.now) }
 {
     match trees {
         [] => true,

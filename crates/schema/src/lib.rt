@@ -1,7 +1,7 @@
 //! Reads a CustomResourceDefinition, and judges the schema of one of its versions (apiextensions.k8s.io/v1, structural schemas).
 //!
 //! [`read_crd`] reads the schema of a version as it is written, [`breaks`] lists the rules that it breaks, V14 aside, each with its
-//! place, and [`shape`] answers its nodes where it breaks none. Here `WIDGET` is a definition with an integer `a` and a truth value `b`
+//! place, and [`shape`] answers its nodes where it breaks none. Here `WIDGET` is a definition with an integer `a` and a boolean `b`
 //! below `spec`:
 //!
 //! ```
@@ -14,6 +14,7 @@
 //! A larger definition is read with other [`Limits`] by [`read_crd_within`]. `laws` says what holds of nodes and reasons.
 #![tactic(auto)]
 
+mod context;
 mod definition;
 mod explaining;
 mod fault;

@@ -1,7 +1,11 @@
 //! How large a schema may be.
 
 ghost use Rattle.std.specs.Prelude.{◌≡◌};
+ghost use Rattle.jtree.specs.View.{data_of};
+ghost use Rattle.schema.specs.Document.Limits as spec;
 ghost use Rattle.schema.specs.Document.Limits.{standard, large, most};
+
+use jtree::Tree;
 
 /// How large a schema may be.
 #[derive(Clone, Copy, Debug, PartialEq, Eq, Drop)]
@@ -82,4 +86,28 @@ pub struct Excess {
     pub limited: Limited,
     /// How many there are.
     pub found: usize,
+}
+
+/// What of a keyword is limited.
+pub(crate) fn limited_by(keyword: &str) -> Option<Limited>
+    ensures { result ≡ spec.limited_by keyword.now }
+{
+    match keyword {
+        "properties" => Some(Limited::Properties),
+        "required" => Some(Limited::Required),
+        "x-kubernetes-list-map-keys" => Some(Limited::MapKeys),
+        "enum" => Some(Limited::Choices),
+        _ => None,
+    }
+}
+
+/// How many members or entries a value has.
+pub(crate) fn size(tree: &Tree) -> usize
+    ensures { result ≡ spec.size (data_of tree.now) }
+{
+    match tree {
+        Tree::List(items) => items.items.as_slice().len(),
+        Tree::Object(members) => members.members.as_slice().len(),
+        _ => 0,
+    }
 }

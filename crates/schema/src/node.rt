@@ -3,7 +3,7 @@ use crate::names::Names;
 use jtree::{Items, Text, Tree};
 use std::marker::Model;
 
-/// The kinds of value that a scalar node accepts: truth values, integers, texts, or both integers and texts.
+/// The kinds of value that a scalar node accepts: booleans, integers, strings, or both integers and strings.
 #[derive(Clone, Copy, Debug, PartialEq, Eq, Drop)]
 pub enum ScalarKind {
     Boolean,
@@ -156,10 +156,11 @@ pub struct Field {
 }
 
 impl Model for Branches {
-    ghost use Rattle.schema.specs.Nodes.Node.{Branches as BranchesData, branches_depth};
+    ghost use Rattle.schema.specs.Nodes.Node as Nodes;
+    ghost use Rattle.schema.specs.Nodes.Node.{branches_depth};
     ghost use Rattle.schema.specs.Internal.NodeCode.{branches_coded};
 
-    ghost Value = { BranchesData };
+    ghost Value = { Nodes.Branches };
 
     ghost coded = { branches_coded };
 
@@ -175,10 +176,11 @@ impl Model for Branches {
 }
 
 impl Model for Below {
-    ghost use Rattle.schema.specs.Nodes.Node.{Node as NodeData, node_depth, IsNode};
+    ghost use Rattle.schema.specs.Nodes.Node as Nodes;
+    ghost use Rattle.schema.specs.Nodes.Node.{node_depth, IsNode};
     ghost use Rattle.schema.specs.Internal.NodeCode.{node_coded};
 
-    ghost Value = { NodeData };
+    ghost Value = { Nodes.Node };
 
     ghost coded = { node_coded };
 
@@ -196,10 +198,11 @@ impl Model for Below {
 }
 
 impl Model for Fields {
-    ghost use Rattle.schema.specs.Nodes.Node.{Fields as FieldsData, fields_depth, AreOrdered};
+    ghost use Rattle.schema.specs.Nodes.Node as Nodes;
+    ghost use Rattle.schema.specs.Nodes.Node.{fields_depth, AreOrdered};
     ghost use Rattle.schema.specs.Internal.NodeCode.{fields_coded};
 
-    ghost Value = { FieldsData };
+    ghost Value = { Nodes.Fields };
 
     ghost coded = { fields_coded };
 

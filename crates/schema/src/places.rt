@@ -1,8 +1,9 @@
 //! The places of a schema, and their pointers.
 ghost use Rattle.std.specs.Prelude.{◌≡◌, ◌++◌, ◌∷◌, [], OnOk, IfOk, IfErr, string_bytes};
-ghost use Rattle.jtree.specs.Path.{name as name_step, index as index_step};
+ghost use Rattle.jtree.specs.Path;
 ghost use Rattle.jtree.specs.Pointer.{pointer, name_token, index_token};
-ghost use Rattle.schema.specs.Document.Places.{place_path, step_path, is_junctor as is_junctor_of, is_envelope_name as is_envelope_name_of, is_envelope as is_envelope_of};
+ghost use Rattle.schema.specs.Document.Places;
+ghost use Rattle.schema.specs.Document.Places.{place_path, step_path};
 ghost use Rattle.schema.specs.Internal.PlaceView.{step_of, place_of};
 
 use crate::keywords::is_one_of;
@@ -29,7 +30,7 @@ pub(crate) enum Step<'a> {
 
 /// Whether a step is into a branch of a junctor.
 pub(crate) fn is_junctor(step: Step<'_>) -> bool
-    ensures { result ≡ is_junctor_of (step_of step.entry) }
+    ensures { result ≡ Places.is_junctor (step_of step.entry) }
 {
     match step {
         Step::AllOf(_) | Step::AnyOf(_) | Step::OneOf(_) | Step::Not => true,
@@ -39,14 +40,14 @@ pub(crate) fn is_junctor(step: Step<'_>) -> bool
 
 /// Whether a property of the root is of the envelope of a resource.
 pub(crate) fn is_envelope_name(name: &str) -> bool
-    ensures { result ≡ is_envelope_name_of name.now }
+    ensures { result ≡ Places.is_envelope_name name.now }
 {
     is_one_of(name, &["apiVersion", "kind", "metadata"])
 }
 
 /// Whether a place is `apiVersion`, `kind` or `metadata` of the root, or below one of these.
 pub(crate) fn is_envelope(place: &[Step<'_>]) -> bool
-    ensures { result ≡ is_envelope_of (place_of place.now) }
+    ensures { result ≡ Places.is_envelope (place_of place.now) }
 {
     match place.first() {
         Some(Step::Property(name)) => is_envelope_name(name),
@@ -71,7 +72,7 @@ pub(crate) fn keyword_pointer(
     place: &[Step<'_>],
     keyword: &str,
 ) -> Result<String, AllocError>
-    ensures { IfOk result (λ s. string_bytes s ≡ pointer (place_path (place_of place.now) ++ (name_step keyword.now ∷ []))) }
+    ensures { IfOk result (λ s. string_bytes s ≡ pointer (place_path (place_of place.now) ++ (Path.name keyword.now ∷ []))) }
 {
     let mut text = pointer_of(alloc, place)?;
     push_name(&mut text, keyword)?;
@@ -96,7 +97,7 @@ fn push_step(text: &mut String, step: Step<'_>) -> Result<(), AllocError>
 }
 
 fn push_branch(text: &mut String, keyword: &str, index: u64) -> Result<(), AllocError>
-    ensures { OnOk result (string_bytes text.new ≡ string_bytes text.old ++ pointer (name_step keyword.now ∷ index_step index ∷ [])) }
+    ensures { OnOk result (string_bytes text.new ≡ string_bytes text.old ++ pointer (Path.name keyword.now ∷ Path.index index ∷ [])) }
 {
     push_name(text, keyword)?;
     push_index(text, index)

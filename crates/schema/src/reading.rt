@@ -1,7 +1,8 @@
 //! What a keyword of a schema says.
 ghost use Rattle.std.specs.Prelude.{◌≡◌, option_map, IfOk};
 ghost use Rattle.jtree.specs.View.{data_of};
-ghost use Rattle.schema.specs.Rules.Keywords.{flag as flag_of, text_under, integer_under, count_under, list_under, texts_under, items_of, texts_of};
+ghost use Rattle.schema.specs.Rules.Keywords;
+ghost use Rattle.schema.specs.Rules.Keywords.{text_under, integer_under, count_under, list_under, texts_under, items_of, texts_of};
 
 use crate::node::Bounds;
 use jtree::{Items, Text, Tree};
@@ -9,7 +10,7 @@ use std::alloc::{AllocError, Global};
 
 /// Whether true is under a keyword.
 pub(crate) fn flag(schema: &Tree, keyword: &str) -> bool
-    ensures { result ≡ flag_of (data_of schema.now) keyword.now }
+    ensures { result ≡ Keywords.flag (data_of schema.now) keyword.now }
 {
     match schema.get(keyword) {
         Some(Tree::Bool(value)) => *value,
@@ -17,7 +18,7 @@ pub(crate) fn flag(schema: &Tree, keyword: &str) -> bool
     }
 }
 
-/// The text under a keyword.
+/// The string under a keyword.
 pub(crate) fn text<'a>(schema: &'a Tree, keyword: &str) -> Option<&'a str>
     ensures { option_map (λ s. s.now) result ≡ text_under (data_of schema.now) keyword.now }
 {
@@ -65,7 +66,7 @@ pub(crate) fn copy_tree(alloc: Global, tree: &Tree) -> Result<Tree, AllocError>
     tree.copy(alloc).map_err(|_| AllocError)
 }
 
-/// A copy of the text under a keyword.
+/// A copy of the string under a keyword.
 pub(crate) fn copy_text(
     alloc: Global,
     schema: &Tree,
@@ -103,7 +104,7 @@ fn copied_items(alloc: Global, tree: &Tree) -> Result<Option<Items>, AllocError>
     }
 }
 
-/// Copies of the texts in the list under a keyword.
+/// Copies of the strings in the list under a keyword.
 pub(crate) fn copy_texts(
     alloc: Global,
     schema: &Tree,
@@ -117,7 +118,7 @@ pub(crate) fn copy_texts(
     }
 }
 
-/// Copies of the texts in a list.
+/// Copies of the strings in a list.
 fn copied_texts(alloc: Global, items: &Items) -> Result<Vec<Text>, AllocError>
     ensures { IfOk result (λ v. v.items ≡ texts_of items.now) }
 {

@@ -4,7 +4,8 @@ ghost use Rattle.jtree.specs.Data.{Data, object};
 ghost use Rattle.schema.specs.Internal.PlaceView.{place_of};
 ghost use Rattle.schema.specs.Internal.Subschemas.{IsSubschema};
 ghost use Rattle.schema.specs.Internal.ReasonParts.{AreFacts, IsOutsideReason};
-ghost use Rattle.schema.specs.Rules.Reasons.{Explains, is_branch_reason as is_branch_reason_of, is_type_reason as is_type_reason_of, is_support_reason as is_support_reason_of};
+ghost use Rattle.schema.specs.Rules.Reasons;
+ghost use Rattle.schema.specs.Rules.Reasons.{Explains};
 
 mod branches;
 mod keys;
@@ -86,7 +87,7 @@ fn is_outside_reason(
 }
 
 fn is_branch_reason(keyword: &str, reason: Reason) -> bool
-    ensures { result ≡ is_branch_reason_of reason keyword.now }
+    ensures { result ≡ Reasons.is_branch_reason reason keyword.now }
 {
     match reason {
         Reason::NotInBranches => is_outside_keyword(keyword),
@@ -95,7 +96,7 @@ fn is_branch_reason(keyword: &str, reason: Reason) -> bool
 }
 
 fn is_type_reason(keyword: &str, reason: Reason) -> bool
-    ensures { result ≡ is_type_reason_of reason keyword.now }
+    ensures { result ≡ Reasons.is_type_reason reason keyword.now }
 {
     match reason {
         Reason::TypeInBranch => keyword == "type",
@@ -105,7 +106,7 @@ fn is_type_reason(keyword: &str, reason: Reason) -> bool
 
 /// V05: no place may have the keyword.
 fn is_support_reason(keyword: &str, reason: Reason) -> bool
-    ensures { result ≡ is_support_reason_of reason keyword.now }
+    ensures { result ≡ Reasons.is_support_reason reason keyword.now }
 {
     match reason {
         Reason::NotSupported => is_unsupported_keyword(keyword),

@@ -6,7 +6,8 @@ ghost use Rattle.jtree.specs.View.{data_of};
 ghost use Rattle.schema.specs.Document.Forms.{HasForms};
 ghost use Rattle.schema.specs.Document.Limits.{IsWithinLimits};
 ghost use Rattle.schema.specs.Document.ReadFault.{HasSchema, IsReadFault};
-ghost use Rattle.schema.specs.Document.Refusal.{IsRefusal, fault_of, names_of as names_of_versions};
+ghost use Rattle.schema.specs.Document.Refusal as Refusals;
+ghost use Rattle.schema.specs.Document.Refusal.{IsRefusal, fault_of};
 
 use crate::definition::{Unfound, find_definition};
 use crate::forms::{Form, Misformed, check_schema_forms};
@@ -24,7 +25,7 @@ pub enum Part {
     Group,
     /// `spec.names.kind`.
     Kind,
-    /// `spec.versions`, a list of objects with a text `name` each, no name twice.
+    /// `spec.versions`, a list of objects with a string `name` each, no name twice.
     Versions,
     /// `schema.openAPIV3Schema` of the version that is asked for.
     Schema,
@@ -78,7 +79,7 @@ impl<'a> Refusal<'a> {
 
 /// The names of versions.
 fn names_of(alloc: Global, versions: &Items) -> Result<Vec<Text>, AllocError>
-    ensures { IfOk result (λ names. names.items ≡ names_of_versions versions.now) }
+    ensures { IfOk result (λ names. names.items ≡ Refusals.names_of versions.now) }
 {
     let mut names = Vec::new(alloc);
     for version in &versions.items {

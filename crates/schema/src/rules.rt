@@ -1,11 +1,13 @@
 //! Which rules a place breaks.
 ghost use Rattle.std.specs.Prelude.{◌≡◌, ◌↔◌, IsTrue};
 ghost use Rattle.jtree.specs.Data.{Data, object};
-ghost use Rattle.schema.specs.Document.Places.{property, ends_with, is_inside as is_inside_of, is_envelope as is_envelope_of};
+ghost use Rattle.schema.specs.Document.Places;
+ghost use Rattle.schema.specs.Document.Places.{property, ends_with};
 ghost use Rattle.schema.specs.Internal.PlaceView.{step_of, place_of};
-ghost use Rattle.schema.specs.Rules.Broken.{Broken, metadata, is_field as is_field_of, ends_in_field as ends_in_field_of, metadata_names};
+ghost use Rattle.schema.specs.Rules.Broken as BrokenSpec;
+ghost use Rattle.schema.specs.Rules.Broken.{Broken, metadata, metadata_names};
 ghost use Rattle.schema.specs.Rules.Lists.{has_bad_list_type, has_bad_keys, has_bad_set_items, has_bad_map_type};
-ghost use Rattle.schema.specs.Rules.Profile.{is_property as is_property_of, has_misplaced_default as has_misplaced_default_at, is_outside_profile as is_outside_profile_at, is_root as is_root_of};
+ghost use Rattle.schema.specs.Rules.Profile;
 ghost use Rattle.schema.specs.Document.Texts.{is_among};
 ghost use Rattle.schema.specs.Internal.RuleParts.{IsOtherName, IsOtherField, IsUnspecified, HasOutsideKeyword, Restricts};
 ghost use Rattle.schema.specs.Internal.Subschemas.{IsSubschema};
@@ -87,14 +89,14 @@ fn restricts_metadata(subschema: &Subschema<'_>) -> bool
 
 /// V15: a default is where no field of the body is.
 fn has_misplaced_default(place: &[Step<'_>], schema: &Members) -> bool
-    ensures { result ≡ has_misplaced_default_at (place_of place.now) (object schema.now) }
+    ensures { result ≡ Profile.has_misplaced_default (place_of place.now) (object schema.now) }
 {
     has(schema, "default") && (!ends_in_property(place) || is_envelope(place))
 }
 
 /// Whether a step of the place is into a branch.
 pub(crate) fn is_inside(place: &[Step<'_>]) -> bool
-    ensures { result ≡ is_inside_of (place_of place.now) }
+    ensures { result ≡ Places.is_inside (place_of place.now) }
 {
     for step in place {
         if is_junctor(*step) {
@@ -105,7 +107,7 @@ pub(crate) fn is_inside(place: &[Step<'_>]) -> bool
 }
 
 pub(crate) fn is_root(place: &[Step<'_>]) -> bool
-    ensures { result ≡ is_root_of (place_of place.now) }
+    ensures { result ≡ Profile.is_root (place_of place.now) }
 {
     match place {
         [] => true,
@@ -115,7 +117,7 @@ pub(crate) fn is_root(place: &[Step<'_>]) -> bool
 
 /// Whether the last step is to a property or to the items of a list.
 fn ends_in_field(place: &[Step<'_>]) -> bool
-    ensures { result ≡ ends_in_field_of (place_of place.now) }
+    ensures { result ≡ BrokenSpec.ends_in_field (place_of place.now) }
 {
     match place.last() {
         Some(step) => is_field(*step),
@@ -125,7 +127,7 @@ fn ends_in_field(place: &[Step<'_>]) -> bool
 
 /// Whether the last step is to a property.
 fn ends_in_property(place: &[Step<'_>]) -> bool
-    ensures { result ≡ ends_with is_property_of (place_of place.now) }
+    ensures { result ≡ ends_with Profile.is_property (place_of place.now) }
 {
     match place.last() {
         Some(step) => is_property_step(*step),
@@ -134,7 +136,7 @@ fn ends_in_property(place: &[Step<'_>]) -> bool
 }
 
 fn is_property_step(step: Step<'_>) -> bool
-    ensures { result ≡ is_property_of (step_of step.entry) }
+    ensures { result ≡ Profile.is_property (step_of step.entry) }
 {
     match step {
         Step::Property(_) => true,
@@ -143,7 +145,7 @@ fn is_property_step(step: Step<'_>) -> bool
 }
 
 fn is_field(step: Step<'_>) -> bool
-    ensures { result ≡ is_field_of (step_of step.entry) }
+    ensures { result ≡ BrokenSpec.is_field (step_of step.entry) }
 {
     match step {
         Step::Property(_) | Step::Items => true,

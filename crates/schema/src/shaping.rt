@@ -4,14 +4,16 @@ ghost use Rattle.jtree.specs.Data.{no_items, item};
 ghost use Rattle.jtree.specs.Path.{under};
 ghost use Rattle.jtree.specs.View.{data_of};
 ghost use Rattle.schema.specs.Document.Texts.{is_among};
-ghost use Rattle.schema.specs.Rules.Kinds.{list as list_kind, map as map_kind, object as object_kind, IsOfKind};
+ghost use Rattle.schema.specs.Rules.Kinds;
+ghost use Rattle.schema.specs.Rules.Kinds.{IsOfKind};
 ghost use Rattle.schema.specs.Document.Places.{Place};
 ghost use Rattle.schema.specs.Rules.Breaks.{BreaksNone};
 ghost use Rattle.schema.specs.Rules.Keywords.{text_under, texts_under, members_under};
 ghost use Rattle.schema.specs.Nodes.View.{node_of, sort_of, object_of, map_of, list_of};
 ghost use Rattle.schema.specs.Nodes.ByPlace.{AreNodesOf, list_type_named, map_type_named};
 ghost use Rattle.schema.specs.Nodes.Shape.{IsRootOf, IsShapeRefusal};
-ghost use Rattle.schema.specs.Internal.NodeOf.{IsNodeOf, IsSortOf, AreFieldsOf, is_declared as is_declared_of, declared_of};
+ghost use Rattle.schema.specs.Internal.NodeOf;
+ghost use Rattle.schema.specs.Internal.NodeOf.{IsNodeOf, IsSortOf, AreFieldsOf, declared_of};
 ghost use Rattle.schema.specs.Internal.Building.{HasNodes, HaveNodes, IsFieldOf};
 
 use crate::judging::breaks;
@@ -104,7 +106,7 @@ fn read_sort(alloc: Global, schema: &Tree, root: bool) -> Result<Sort, AllocErro
 #[cycle(read)]
 fn read_object(alloc: Global, schema: &Tree, root: bool) -> Result<ObjectNode, AllocError>
     requires nodes { HasNodes root (data_of schema.now) }
-    requires kind { IsOfKind (data_of schema.now) object_kind }
+    requires kind { IsOfKind (data_of schema.now) Kinds.object }
     ensures { IfOk result (λ n. IsSortOf root (object_of n) (data_of schema.now)) }
 {
     Ok(ObjectNode {
@@ -133,7 +135,7 @@ fn read_properties(alloc: Global, schema: &Tree, root: bool) -> Result<Fields, A
 #[cycle(read)]
 fn read_map(alloc: Global, schema: &Tree, root: bool) -> Result<MapNode, AllocError>
     requires nodes { HasNodes root (data_of schema.now) }
-    requires kind { IsOfKind (data_of schema.now) map_kind }
+    requires kind { IsOfKind (data_of schema.now) Kinds.map }
     ensures { IfOk result (λ n. IsSortOf root (map_of n) (data_of schema.now)) }
 {
     match schema.get("additionalProperties") {
@@ -149,7 +151,7 @@ fn read_map(alloc: Global, schema: &Tree, root: bool) -> Result<MapNode, AllocEr
 #[cycle(read)]
 fn read_list(alloc: Global, schema: &Tree, root: bool) -> Result<ListNode, AllocError>
     requires nodes { HasNodes root (data_of schema.now) }
-    requires kind { IsOfKind (data_of schema.now) list_kind }
+    requires kind { IsOfKind (data_of schema.now) Kinds.list }
     ensures { IfOk result (λ n. IsSortOf root (list_of n) (data_of schema.now)) }
 {
     match schema.get("items") {
@@ -216,7 +218,7 @@ fn read_field(alloc: Global, schema: &Tree, property: &Member) -> Result<Field, 
 
 /// Whether a property has a field.
 fn is_declared(property: &Member, root: bool) -> bool
-    ensures { result ≡ is_declared_of root property.now.name (data_of property.now.tree) }
+    ensures { result ≡ NodeOf.is_declared root property.now.name (data_of property.now.tree) }
 {
     match &property.tree {
         Tree::Object(_) => !(root && is_envelope_name(property.name.as_str())),

@@ -10,7 +10,7 @@ use jtree::{Items, Tree};
 use std::alloc::Global;
 use std::collections::BTreeMap;
 
-/// The version of a name, where each version has a text `name` and no name occurs twice. `NotACrd` where this is not so.
+/// The version of a name, where each version has a string `name` and no name occurs twice. `NotACrd` where this is not so.
 pub(crate) fn select<'a>(
     alloc: Global,
     versions: &'a Items,

@@ -23,10 +23,10 @@ impl Drop for Schema {
 }
 
 impl Model for Schema {
-    ghost use Rattle.schema.specs.Nodes.Node.{Node as NodeData};
+    ghost use Rattle.schema.specs.Nodes.Node as Nodes;
     ghost use Rattle.schema.specs.Internal.NodeCode.{node_coded};
 
-    ghost Value = { NodeData };
+    ghost Value = { Nodes.Node };
 
     ghost coded = { node_coded };
 

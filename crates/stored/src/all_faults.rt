@@ -1,20 +1,25 @@
 //! All faults of an object, in order.
 ghost use Rattle.std.specs.Prelude.{◌≡◌, ◌++◌, ◌∷◌, ◌&&◌, [], not, false, OnOk, IfOk, string_bytes};
-ghost use Rattle.jtree.specs.Path.{name as name_step, index as index_step, item_at};
+ghost use Rattle.jtree.specs.Path;
+ghost use Rattle.jtree.specs.Path.{item_at};
 ghost use Rattle.jtree.specs.Pointer.{name_token, index_token};
 ghost use Rattle.jtree.specs.View.{data_of, members_of};
 ghost use Rattle.schema.specs.Nodes.View.{node_of, fields_of};
-ghost use Rattle.stored.specs.Objects.Fault.{Test, number as number_of, fails, F01, F02, F03, F04, F05, F06, F07, F08, F09, F10, F11, F12, F14, are_few, are_many, are_alike, has_alike_before, members_count as members_count_of};
+ghost use Rattle.stored.specs.Objects.Fault as Faults;
+ghost use Rattle.stored.specs.Objects.Fault.{Test, fails, F01, F02, F03, F04, F05, F06, F07, F08, F09, F10, F11, F12, F14, are_few, are_many, are_alike};
+ghost use Rattle.stored.specs.Objects.Fault.{has_alike_before};
 ghost use Rattle.stored.specs.Objects.AllFaults.{AreReported, AreFaults};
 ghost use Rattle.stored.specs.Objects.StrictFaults.{AreStrictFaults};
-ghost use Rattle.stored.specs.Internal.FailuresByLevel.{progress, noted, added, failed as failed_of, own, under, joined, found, outcomes, here, at_field, value_parts, item_parts, field_parts, dropped, members_before, members_from as members_from_of, members_past as members_past_of, first_at, FailsWithin};
+ghost use Rattle.stored.specs.Internal.FailuresByLevel;
+ghost use Rattle.stored.specs.Internal.FailuresByLevel.{progress, noted, added, own, under, joined, found, outcomes, here, at_field, value_parts, item_parts};
+ghost use Rattle.stored.specs.Internal.FailuresByLevel.{field_parts, dropped, members_before, first_at, FailsWithin};
 
-use crate::fault::Fault;
-use crate::repetition::repeats;
-use crate::tests::{
+use crate::constraints::{
     accepts_scalar, is_above, is_above_maximum, is_below, is_below_minimum, is_other_value,
     is_too_long, is_too_short, meets_junctors,
 };
+use crate::fault::Fault;
+use crate::repetition::repeats;
 use crate::validity::{items_count, members_count};
 use jtree::{Items, Member, Members, Text, Tree};
 use schema::{Bounds, Field, ListNode, MapNode, Node, ObjectNode, Sort};
@@ -78,7 +83,7 @@ impl Report {
 
     /// Adds the numbers of the tests that fail at the place.
     fn add_failed(&mut self, tests: &[(u8, bool)]) -> Result<(), AllocError>
-        ensures { OnOk result (progress self.new ≡ noted (progress self.old) (failed_of (string_bytes self.old.pointer) tests.now)) }
+        ensures { OnOk result (progress self.new ≡ noted (progress self.old) (FailuresByLevel.failed (string_bytes self.old.pointer) tests.now)) }
     {
         for (number, fails) in tests {
             if *fails {
@@ -90,7 +95,7 @@ impl Report {
 
     /// Adds a fault at a name below the place.
     fn add_below(&mut self, name: &str, number: u8) -> Result<(), AllocError>
-        ensures { (t : Test) → number_of t ≡ number → OnOk result (progress self.new ≡ added (progress self.old) (under (name_step name.now) (here t ∷ []))) }
+        ensures { (t : Test) → Faults.number t ≡ number → OnOk result (progress self.new ≡ added (progress self.old) (under (Path.name name.now) (here t ∷ []))) }
     {
         let mut path = self.pointer.clone()?;
         push_name(&mut path, name)?;
@@ -100,7 +105,7 @@ impl Report {
 
     /// Adds that a required name is missing at the place.
     fn add_missing(&mut self, name: &str) -> Result<(), AllocError>
-        ensures { OnOk result (progress self.new ≡ added (progress self.old) (under (name_step name.now) (here F12 ∷ []))) }
+        ensures { OnOk result (progress self.new ≡ added (progress self.old) (under (Path.name name.now) (here F12 ∷ []))) }
     {
         self.add_below(name, 12)
     }
@@ -233,7 +238,7 @@ fn bound_tests(node: &Node, tree: &Tree) -> [(u8, bool); 4]
 }
 
 fn member_tests(members: &Members, bounds: Bounds) -> [(u8, bool); 4]
-    ensures { result ≡ (8, false) ∷ (9, false) ∷ (10, are_few bounds (members_count_of members.now)) ∷ (11, are_many bounds (members_count_of members.now)) ∷ [] }
+    ensures { result ≡ (8, false) ∷ (9, false) ∷ (10, are_few bounds (Faults.members_count members.now)) ∷ (11, are_many bounds (Faults.members_count members.now)) ∷ [] }
 {
     let count = members_count(members) as u64;
     [
@@ -281,7 +286,7 @@ fn find_in_fields(
 /// The members at the beginning whose names come before this one, and the others.
 fn split_before<'a>(members: &'a [Member], name: &Text) -> (&'a [Member], &'a [Member])
     ensures before { members_of result.0.now ≡ members_before name.now (members_of members.now) }
-    ensures from { members_of result.1.now ≡ members_from_of name.now (members_of members.now) }
+    ensures from { members_of result.1.now ≡ FailuresByLevel.members_from name.now (members_of members.now) }
 {
     for (i, member) in members.iter().enumerate() {
         if member.name.cmp(name).is_ge() {
@@ -293,7 +298,7 @@ fn split_before<'a>(members: &'a [Member], name: &Text) -> (&'a [Member], &'a [M
 
 /// The members after the first one, where that has this name.
 fn members_past<'a>(members: &'a [Member], name: &Text) -> &'a [Member]
-    ensures { members_of result.now ≡ members_past_of name.now (members_of members.now) }
+    ensures { members_of result.now ≡ FailuresByLevel.members_past name.now (members_of members.now) }
 {
     match members {
         [first, rest @ ..] if first.name == *name => rest,
@@ -309,7 +314,7 @@ fn find_at_field(
     members: &[Member],
     strict: bool,
 ) -> Result<(), AllocError>
-    ensures { OnOk result (progress report.new ≡ added (progress report.old) (under (name_step field.now.name)
+    ensures { OnOk result (progress report.new ≡ added (progress report.old) (under (Path.name field.now.name)
         (at_field field.now.required (λ d. found strict false (node_of field.now.node) d) (first_at field.now.name (members_of members.now))))) }
 {
     match members.first() {
@@ -329,7 +334,7 @@ fn find_named(
     member: &Member,
     strict: bool,
 ) -> Result<(), AllocError>
-    ensures { OnOk result (progress report.new ≡ added (progress report.old) (under (name_step member.now.name) (found strict false (node_of node.now) (data_of member.now.tree)))) }
+    ensures { OnOk result (progress report.new ≡ added (progress report.old) (under (Path.name member.now.name) (found strict false (node_of node.now) (data_of member.now.tree)))) }
 {
     let length = report.pointer.len();
     push_name(&mut report.pointer, member.name.as_str())?;
@@ -382,7 +387,7 @@ fn find_item(
     strict: bool,
     is_repeated: bool,
 ) -> Result<(), AllocError>
-    ensures { OnOk result (progress report.new ≡ added (progress report.old) (under (index_step index) (found strict is_repeated (node_of node.now) (data_of item.now)))) }
+    ensures { OnOk result (progress report.new ≡ added (progress report.old) (under (Path.index index) (found strict is_repeated (node_of node.now) (data_of item.now)))) }
 {
     let length = report.pointer.len();
     push_index(&mut report.pointer, index as u64)?;

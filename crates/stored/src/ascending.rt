@@ -5,7 +5,8 @@ ghost use Rattle.std.specs.Option.{option_cmp};
 ghost use Rattle.jtree.specs.Order.{tree_cmp};
 ghost use Rattle.jtree.specs.Path.{member_at};
 ghost use Rattle.jtree.specs.View.{data_of, items_of};
-ghost use Rattle.stored.specs.Internal.ItemKeys.{item_cmp, is_before_first as is_before_first_of, ascend as ascend_of, are_ordered as are_ordered_of};
+ghost use Rattle.stored.specs.Internal.ItemKeys;
+ghost use Rattle.stored.specs.Internal.ItemKeys.{item_cmp};
 
 use jtree::{Items, Members, Text, Tree};
 use schema::{ListNode, ListType};
@@ -14,7 +15,7 @@ use std::cmp::Ordering;
 /// Whether one pass, without memory, shows that no item repeats another. It does where the items of a set or a map list ascend;
 /// in an atomic list no item ever repeats another.
 pub(crate) fn are_ordered(list: &ListNode, items: &Items) -> bool
-    ensures { result ≡ are_ordered_of list.now.list_type list.now.keys.items items.now }
+    ensures { result ≡ ItemKeys.are_ordered list.now.list_type list.now.keys.items items.now }
 {
     match list.list_type {
         ListType::Atomic => true,
@@ -24,7 +25,7 @@ pub(crate) fn are_ordered(list: &ListNode, items: &Items) -> bool
 
 /// Whether each item comes before the next one.
 fn ascend(list: &ListNode, items: &Items) -> bool
-    ensures { result ≡ ascend_of (item_cmp list.now.list_type list.now.keys.items) items.now }
+    ensures { result ≡ ItemKeys.ascend (item_cmp list.now.list_type list.now.keys.items) items.now }
 {
     let mut rest = items.items.as_slice();
     while let [item, later @ ..] = rest {
@@ -38,7 +39,7 @@ fn ascend(list: &ListNode, items: &Items) -> bool
 
 /// Whether an item comes before the first of those that follow, if there is one.
 fn is_before_first(list: &ListNode, item: &Tree, later: &[Tree]) -> bool
-    ensures { result ≡ is_before_first_of (item_cmp list.now.list_type list.now.keys.items) (data_of item.now) (items_of later.now) }
+    ensures { result ≡ ItemKeys.is_before_first (item_cmp list.now.list_type list.now.keys.items) (data_of item.now) (items_of later.now) }
 {
     match later.first() {
         Some(next) => compare_items(list, item, next).is_lt(),

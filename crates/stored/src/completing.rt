@@ -3,7 +3,7 @@ ghost use Rattle.std.specs.Prelude.{◌≡◌, ◌↔◌, Some, IfOk};
 ghost use Rattle.jtree.specs.Data.{Data, IsTree};
 ghost use Rattle.jtree.specs.View.{data_of};
 ghost use Rattle.schema.specs.Document.Places.{Place};
-ghost use Rattle.schema.specs.Nodes.Node.{Node as NodeData};
+ghost use Rattle.schema.specs.Nodes.Node as Nodes;
 ghost use Rattle.schema.specs.Nodes.ByPlace.{node_at};
 ghost use Rattle.schema.specs.Nodes.View.{node_of};
 ghost use Rattle.stored.specs.Objects.Parts.{Leading};
@@ -24,7 +24,7 @@ use std::alloc::{AllocError, Global};
 /// allocation failed.
 pub fn complete(alloc: Global, node: &Node, tree: &Tree) -> Result<Tree, AllocError>
     ensures completed { IfOk result (λ t. IsCompleted (node_of node.now) (data_of tree.now) (data_of t)) }
-    ensures again { let N = node_of node.now in IfOk result (λ t. (root : NodeData) (p : Place) (w : Data) → HasGoodDefaults root → node_at root p ≡ Some N → IsTree w → (IsPruned N (data_of t) w ↔ (w ≡ data_of t)) × (IsCompleted N (data_of t) w ↔ (w ≡ data_of t))) }
+    ensures again { let N = node_of node.now in IfOk result (λ t. (root : Nodes.Node) (p : Place) (w : Data) → HasGoodDefaults root → node_at root p ≡ Some N → IsTree w → (IsPruned N (data_of t) w ↔ (w ≡ data_of t)) × (IsCompleted N (data_of t) w ↔ (w ≡ data_of t))) }
 {
     // one copy, pruned in place and filled by moving its parts: besides it only defaults are copied
     let mut pruned = copy_tree(alloc, tree)?;

@@ -4,7 +4,8 @@ ghost use Rattle.jtree.specs.Path.{member_at};
 ghost use Rattle.jtree.specs.View.{data_of};
 ghost use Rattle.schema.specs.Nodes.View.{node_of};
 ghost use Rattle.stored.specs.Objects.Becomes.{is_nullable, IsFilled};
-ghost use Rattle.stored.specs.Internal.FilledTest.{is_filled as is_filled_at, are_fields_filled as are_fields_filled_at, stays, is_null_default, all_values, all_items};
+ghost use Rattle.stored.specs.Internal.FilledTest;
+ghost use Rattle.stored.specs.Internal.FilledTest.{stays, is_null_default, all_values, all_items};
 
 use jtree::{Items, Members, Tree};
 use schema::{Field, Fields, Node, Sort};
@@ -20,7 +21,7 @@ pub(crate) fn is_filled(node: &Node, tree: &Tree) -> bool
 
 #[cycle(is_filled)]
 fn is_tree_filled(node: &Node, tree: &Tree) -> bool
-    ensures { result ≡ is_filled_at (node_of node.now) (data_of tree.now) }
+    ensures { result ≡ FilledTest.is_filled (node_of node.now) (data_of tree.now) }
 {
     match (&node.sort, tree) {
         (Sort::Object(object), Tree::Object(members)) => {
@@ -34,7 +35,7 @@ fn is_tree_filled(node: &Node, tree: &Tree) -> bool
 
 #[cycle(is_filled)]
 fn are_fields_filled(fields: &Fields, members: &Members) -> bool
-    ensures { result ≡ are_fields_filled_at fields.now members.now }
+    ensures { result ≡ FilledTest.are_fields_filled fields.now members.now }
 {
     for field in &fields.fields {
         if !is_field_filled(field, members) {
@@ -47,7 +48,7 @@ fn are_fields_filled(fields: &Fields, members: &Members) -> bool
 /// Whether what is under the name of a field stays.
 #[cycle(is_filled)]
 fn is_field_filled(field: &Field, members: &Members) -> bool
-    ensures { result ≡ stays (is_nullable (node_of field.now.node)) (option_map data_of field.now.default) (λ v. is_filled_at (node_of field.now.node) v) (member_at field.now.name members.now) }
+    ensures { result ≡ stays (is_nullable (node_of field.now.node)) (option_map data_of field.now.default) (λ v. FilledTest.is_filled (node_of field.now.node) v) (member_at field.now.name members.now) }
 {
     match members.get(field.name.as_str()) {
         None => field.default.is_none(),
@@ -67,7 +68,7 @@ fn is_null(default: &Option<Tree>) -> bool
 
 #[cycle(is_filled)]
 fn are_values_filled(node: &Node, members: &Members) -> bool
-    ensures { result ≡ all_values (λ v. stays (is_nullable (node_of node.now)) None (λ w. is_filled_at (node_of node.now) w) (Some v)) members.now }
+    ensures { result ≡ all_values (λ v. stays (is_nullable (node_of node.now)) None (λ w. FilledTest.is_filled (node_of node.now) w) (Some v)) members.now }
 {
     for member in &members.members {
         if !is_value_filled(node, &member.tree) {
@@ -80,7 +81,7 @@ fn are_values_filled(node: &Node, members: &Members) -> bool
 /// Whether a value of a map stays.
 #[cycle(is_filled)]
 fn is_value_filled(node: &Node, tree: &Tree) -> bool
-    ensures { result ≡ stays (is_nullable (node_of node.now)) None (λ w. is_filled_at (node_of node.now) w) (Some (data_of tree.now)) }
+    ensures { result ≡ stays (is_nullable (node_of node.now)) None (λ w. FilledTest.is_filled (node_of node.now) w) (Some (data_of tree.now)) }
 {
     match tree {
         Tree::Null => node.nullable,
@@ -90,7 +91,7 @@ fn is_value_filled(node: &Node, tree: &Tree) -> bool
 
 #[cycle(is_filled)]
 fn are_items_filled(node: &Node, items: &Items) -> bool
-    ensures { result ≡ all_items (λ v. is_filled_at (node_of node.now) v) items.now }
+    ensures { result ≡ all_items (λ v. FilledTest.is_filled (node_of node.now) v) items.now }
 {
     for item in &items.items {
         if !is_tree_filled(node, item) {

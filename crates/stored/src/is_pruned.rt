@@ -4,7 +4,8 @@ ghost use Rattle.jtree.specs.Data as tree;
 ghost use Rattle.jtree.specs.View.{data_of};
 ghost use Rattle.schema.specs.Nodes.View.{node_of};
 ghost use Rattle.stored.specs.Objects.Becomes.{IsPruned};
-ghost use Rattle.stored.specs.Internal.Pruning.{by_node, field_node, is_pruned as is_pruned_at, are_pruned, are_items_pruned};
+ghost use Rattle.stored.specs.Internal.Pruning;
+ghost use Rattle.stored.specs.Internal.Pruning.{by_node, field_node, are_pruned, are_items_pruned};
 
 use crate::fields::field_named;
 use jtree::{Items, Member, Members, Tree};
@@ -20,7 +21,7 @@ pub(crate) fn is_pruned(node: &Node, tree: &Tree) -> bool
 
 #[cycle(is_pruned)]
 fn is_tree_pruned(tree: &Tree, node: &Node) -> bool
-    ensures { result ≡ is_pruned_at (node_of node.now) (data_of tree.now) }
+    ensures { result ≡ Pruning.is_pruned (node_of node.now) (data_of tree.now) }
 {
     match tree {
         Tree::Object(members) => is_object_pruned(members, node),
@@ -31,7 +32,7 @@ fn is_tree_pruned(tree: &Tree, node: &Node) -> bool
 
 #[cycle(is_pruned)]
 fn is_object_pruned(members: &Members, node: &Node) -> bool
-    ensures { result ≡ is_pruned_at (node_of node.now) (tree.object members.now) }
+    ensures { result ≡ Pruning.is_pruned (node_of node.now) (tree.object members.now) }
 {
     match &node.sort {
         Sort::Object(object) => are_fields_pruned(members, &object.fields, object.preserves),
@@ -42,7 +43,7 @@ fn is_object_pruned(members: &Members, node: &Node) -> bool
 
 #[cycle(is_pruned)]
 fn is_list_pruned(items: &Items, node: &Node) -> bool
-    ensures { result ≡ is_pruned_at (node_of node.now) (tree.list items.now) }
+    ensures { result ≡ Pruning.is_pruned (node_of node.now) (tree.list items.now) }
 {
     match &node.sort {
         Sort::List(list) => are_each_pruned(items, &list.item.node),
@@ -64,7 +65,7 @@ fn are_fields_pruned(members: &Members, fields: &Fields, preserves: bool) -> boo
 
 #[cycle(is_pruned)]
 fn is_member_pruned(member: &Member, fields: &Fields, preserves: bool) -> bool
-    ensures { result ≡ by_node (field_node fields.now member.now.name) (λ N. is_pruned_at N (data_of member.now.tree)) preserves }
+    ensures { result ≡ by_node (field_node fields.now member.now.name) (λ N. Pruning.is_pruned N (data_of member.now.tree)) preserves }
 {
     match field_named(fields, member.name.as_str()) {
         Some(field) => is_tree_pruned(&member.tree, &field.node),

@@ -1,17 +1,18 @@
 //! Whether junctors hold, by a test of what each branch itself asks (OpenAPI 3.0, Schema Object).
 ghost use Rattle.std.specs.Prelude.{◌≡◌, ◌+◌, not, ◌&&◌, ◌||◌, nat_eq};
 ghost use Rattle.schema.specs.Nodes.View.{validations_of, branches_of};
-ghost use Rattle.stored.specs.Objects.Tests.{holds_by, meets_junctors_by, all_hold as all_hold_of, any_holds as any_holds_of, is_absent as is_absent_of, holding as holding_of};
+ghost use Rattle.stored.specs.Objects.Tests;
+ghost use Rattle.stored.specs.Objects.Tests.{holds_by, meets_junctors_by};
 
 use schema::{Branches, Constraints, Validations};
 
 /// A test of what a branch itself asks, its own junctors left aside.
 pub trait BranchTest {
     ghost use Rattle.std.specs.Prelude.{◌≡◌, Bool};
-    ghost use Rattle.schema.specs.declared.node.Constraints.{Constraints as ConstraintsData};
+    ghost use Rattle.schema.specs.declared.node.Constraints as ConstraintsSpec;
 
     // The answer for these constraints.
-    ghost test: { Self → ConstraintsData → Bool };
+    ghost test: { Self → ConstraintsSpec.Constraints → Bool };
 
     /// Whether these constraints of a branch are met.
     fn meets(&self, constraints: &Constraints) -> bool
@@ -39,7 +40,7 @@ pub(crate) fn holds<T: BranchTest>(test: &T, validations: &Validations) -> bool
 }
 
 fn is_absent(branches: &Branches) -> bool
-    ensures { result ≡ is_absent_of branches.now }
+    ensures { result ≡ Tests.is_absent branches.now }
 {
     match branches.branches.as_slice() {
         [] => true,
@@ -49,7 +50,7 @@ fn is_absent(branches: &Branches) -> bool
 
 #[cycle(branches)]
 fn all_hold<T: BranchTest>(test: &T, branches: &Branches) -> bool
-    ensures { result ≡ all_hold_of (T.test test.now) branches.now }
+    ensures { result ≡ Tests.all_hold (T.test test.now) branches.now }
 {
     for branch in &branches.branches {
         if !holds(test, branch) {
@@ -61,7 +62,7 @@ fn all_hold<T: BranchTest>(test: &T, branches: &Branches) -> bool
 
 #[cycle(branches)]
 fn any_holds<T: BranchTest>(test: &T, branches: &Branches) -> bool
-    ensures { result ≡ any_holds_of (T.test test.now) branches.now }
+    ensures { result ≡ Tests.any_holds (T.test test.now) branches.now }
 {
     for branch in &branches.branches {
         if holds(test, branch) {
@@ -74,7 +75,7 @@ fn any_holds<T: BranchTest>(test: &T, branches: &Branches) -> bool
 /// How many branches hold.
 #[cycle(branches)]
 fn holding<T: BranchTest>(test: &T, branches: &Branches) -> usize
-    ensures { result ≡ holding_of (T.test test.now) branches.now }
+    ensures { result ≡ Tests.holding (T.test test.now) branches.now }
 {
     let mut count = 0;
     for branch in &branches.branches {

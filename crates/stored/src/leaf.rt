@@ -3,7 +3,8 @@ ghost use Rattle.std.specs.Prelude.{◌≡◌, ◌++◌, IfOk};
 ghost use Rattle.jtree.specs.Text.{compact};
 ghost use Rattle.jtree.specs.View.{data_of};
 ghost use Rattle.schema.specs.Document.Texts.{is_among};
-ghost use Rattle.stored.specs.Objects.Leaves.{item_element as item_element_of, members_among};
+ghost use Rattle.stored.specs.Objects.Leaves;
+ghost use Rattle.stored.specs.Objects.Leaves.{members_among};
 
 use crate::defaulting::copy_tree;
 use jtree::{Member, Members, Text, Tree};
@@ -19,7 +20,7 @@ pub struct Leaf {
 
 /// The element of an item of a list: in a map list its keys, and otherwise the item itself.
 pub(crate) fn item_element(alloc: Global, list: &ListNode, item: &Tree) -> Result<Text, AllocError>
-    ensures { IfOk result (λ t. t ≡ item_element_of list.now.list_type list.now.keys.items (data_of item.now)) }
+    ensures { IfOk result (λ t. t ≡ Leaves.item_element list.now.list_type list.now.keys.items (data_of item.now)) }
 {
     match (list.list_type, item) {
         (ListType::Map, Tree::Object(members)) => {

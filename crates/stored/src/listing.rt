@@ -1,18 +1,20 @@
 //! All leaves of a stored object, in order.
 ghost use Rattle.std.specs.Prelude.{◌≡◌, ◌++◌, ℕ, ◌∷◌, [], OnOk, IfOk, IfErr, Some, map, option_map, codes};
 ghost use Rattle.jtree.specs.Data.{Data};
-ghost use Rattle.jtree.specs.Path.{name as name_step, index as index_step};
+ghost use Rattle.jtree.specs.Path;
 ghost use Rattle.jtree.specs.View.{data_of};
 ghost use Rattle.schema.specs.Document.Places.{Place};
 ghost use Rattle.schema.specs.Nodes.ByPlace.{node_at};
-ghost use Rattle.schema.specs.Nodes.Node.{Node as NodeData};
+ghost use Rattle.schema.specs.Nodes.Node as Nodes;
 ghost use Rattle.schema.specs.Nodes.Shape.{IsRootOf};
 ghost use Rattle.schema.specs.Nodes.View.{node_of};
 ghost use Rattle.stored.specs.declared.fault.LFault.TheVariants.{NotStored};
 ghost use Rattle.stored.specs.Objects.Becomes.{IsStored};
-ghost use Rattle.stored.specs.Objects.Leaves.{is_divided, item_element as item_element_of, elements_of, AreLeaves, AreApart, IsCovered};
+ghost use Rattle.stored.specs.Objects.Leaves;
+ghost use Rattle.stored.specs.Objects.Leaves.{is_divided, elements_of, AreLeaves, AreApart, IsCovered};
 ghost use Rattle.stored.specs.Internal.Pruning.{field_node};
-ghost use Rattle.stored.specs.Internal.LeavesByLevel.{divides_object, divides_list, here, below, leaves_below, of_members, of_items, leaves_by_level, part_leaves, walked, added};
+ghost use Rattle.stored.specs.Internal.LeavesByLevel.{divides_object, divides_list, here, below, leaves_below, of_members, of_items, leaves_by_level};
+ghost use Rattle.stored.specs.Internal.LeavesByLevel.{part_leaves, walked, added};
 
 use crate::fault::LFault;
 use crate::fields::field_named;
@@ -35,7 +37,7 @@ pub fn leaves(alloc: Global, node: &Node, tree: &Tree) -> Result<Vec<Leaf>, LFau
     ensures leaves { IfOk result (λ ls. AreLeaves (node_of node.now) (data_of tree.now) (map elements_of ls.items)) }
     ensures stored { OnOk result (IsStored (node_of node.now) (data_of tree.now)) }
     ensures not_stored { IfErr result (λ e. e ≡ NotStored → IsStored (node_of node.now) (data_of tree.now) → ⊥) }
-    ensures apart { IfOk result (λ ls. (raw : Data) (root : NodeData) (p : Place) → IsRootOf root raw → node_at root p ≡ Some (node_of node.now) → AreApart (map elements_of ls.items)) }
+    ensures apart { IfOk result (λ ls. (raw : Data) (root : Nodes.Node) (p : Place) → IsRootOf root raw → node_at root p ≡ Some (node_of node.now) → AreApart (map elements_of ls.items)) }
     ensures covered { OnOk result (IsCovered (node_of node.now) (data_of tree.now)) }
 {
     tree.reveal_invariant();
@@ -156,7 +158,7 @@ fn list_field(
     fields: &Fields,
 ) -> Result<(), AllocError>
     ensures { OnOk result (walked walk.new ≡ added (walked walk.old)
-        (map (below (name_step member.now.name) (codes "f:" ++ member.now.name)) (part_leaves (field_node fields.now member.now.name) (data_of member.now.tree)))) }
+        (map (below (Path.name member.now.name) (codes "f:" ++ member.now.name)) (part_leaves (field_node fields.now member.now.name) (data_of member.now.tree)))) }
 {
     match field_named(fields, member.name.as_str()) {
         Some(field) => list_named(alloc, walk, member, Some(&field.node)),
@@ -189,7 +191,7 @@ fn list_named(
     node: Option<&Node>,
 ) -> Result<(), AllocError>
     ensures { OnOk result (walked walk.new ≡ added (walked walk.old)
-        (map (below (name_step member.now.name) (codes "f:" ++ member.now.name)) (part_leaves (option_map (λ n. node_of n.now) node.entry) (data_of member.now.tree)))) }
+        (map (below (Path.name member.now.name) (codes "f:" ++ member.now.name)) (part_leaves (option_map (λ n. node_of n.now) node.entry) (data_of member.now.tree)))) }
 {
     let depth = walk.way.len();
     walk.way
@@ -223,7 +225,7 @@ fn list_items(
     items: &Items,
     list: &ListNode,
 ) -> Result<(), AllocError>
-    ensures { OnOk result (walked walk.new ≡ added (walked walk.old) (of_items list.now.item (item_element_of list.now.list_type list.now.keys.items) 0 items.now)) }
+    ensures { OnOk result (walked walk.new ≡ added (walked walk.old) (of_items list.now.item (Leaves.item_element list.now.list_type list.now.keys.items) 0 items.now)) }
 {
     for item in &items.items {
         list_item(alloc, walk, item, list)?;
@@ -235,7 +237,7 @@ fn list_items(
 #[cycle(list)]
 fn list_item(alloc: Global, walk: &mut Walk, item: &Tree, list: &ListNode) -> Result<(), AllocError>
     ensures { OnOk result ((i : ℕ) → walked walk.new ≡ added (walked walk.old)
-        (map (below (index_step i) (item_element_of list.now.list_type list.now.keys.items (data_of item.now))) (leaves_by_level list.now.item (data_of item.now)))) }
+        (map (below (Path.index i) (Leaves.item_element list.now.list_type list.now.keys.items (data_of item.now))) (leaves_by_level list.now.item (data_of item.now)))) }
 {
     let depth = walk.way.len();
     walk.way.push(item_element(alloc, list, item)?)?;

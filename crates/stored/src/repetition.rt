@@ -3,8 +3,10 @@ ghost use Rattle.std.specs.Prelude.{◌≡◌, ◌<◌, ◌||◌, ℕ, List, Boo
 ghost use Rattle.std.proofs.Common.{get_or};
 ghost use Rattle.jtree.specs.Path.{item_at, member_at};
 ghost use Rattle.jtree.specs.View.{data_of};
-ghost use Rattle.stored.specs.Objects.Fault.{are_alike, has_alike_before, items_count as items_count_of};
-ghost use Rattle.stored.specs.Internal.ItemKeys.{ItemKey, item_key, has_key, passes, key_of as view_of_key, HasKeys};
+ghost use Rattle.stored.specs.Objects.Fault;
+ghost use Rattle.stored.specs.Objects.Fault.{are_alike, has_alike_before};
+ghost use Rattle.stored.specs.Internal.ItemKeys;
+ghost use Rattle.stored.specs.Internal.ItemKeys.{ItemKey, item_key, has_key, passes, HasKeys};
 
 use crate::ascending::are_ordered;
 use crate::validity::items_count;
@@ -20,8 +22,8 @@ pub(crate) fn repeats(
     list: &ListNode,
     items: &Items,
 ) -> Result<Vec<bool>, AllocError>
-    ensures count { IfOk result (λ v. length v.items ≡ items_count_of items.now) }
-    ensures each { IfOk result (λ v. (i : ℕ) (b : Bool) → i < items_count_of items.now → get_or v.items i b ≡ has_alike_before (are_alike list.now.list_type list.now.keys.items) i items.now (item_at i items.now)) }
+    ensures count { IfOk result (λ v. length v.items ≡ Fault.items_count items.now) }
+    ensures each { IfOk result (λ v. (i : ℕ) (b : Bool) → i < Fault.items_count items.now → get_or v.items i b ≡ has_alike_before (are_alike list.now.list_type list.now.keys.items) i items.now (item_at i items.now)) }
 {
     if are_ordered(list, items) {
         return vec![in alloc; false; items_count(items)];
@@ -31,8 +33,8 @@ pub(crate) fn repeats(
 
 /// The same where the items may be in any order.
 fn repeats_by_keys(alloc: Global, list: &ListNode, items: &Items) -> Result<Vec<bool>, AllocError>
-    ensures count { IfOk result (λ v. length v.items ≡ items_count_of items.now) }
-    ensures each { IfOk result (λ v. (i : ℕ) (b : Bool) → i < items_count_of items.now → get_or v.items i b ≡ has_alike_before (are_alike list.now.list_type list.now.keys.items) i items.now (item_at i items.now)) }
+    ensures count { IfOk result (λ v. length v.items ≡ Fault.items_count items.now) }
+    ensures each { IfOk result (λ v. (i : ℕ) (b : Bool) → i < Fault.items_count items.now → get_or v.items i b ≡ has_alike_before (are_alike list.now.list_type list.now.keys.items) i items.now (item_at i items.now)) }
 {
     let mut seen = BTreeSet::new(alloc);
     let mut repeated = Vec::with_capacity(alloc, items.items.len())?;
@@ -64,7 +66,7 @@ fn key_of<'a>(
     list: &ListNode,
     item: &'a Tree,
 ) -> Result<Option<Vec<Option<&'a Tree>>>, AllocError>
-    ensures { IfOk result (λ key. option_map view_of_key key ≡ item_key list.now.list_type list.now.keys.items (data_of item.now)) }
+    ensures { IfOk result (λ key. option_map ItemKeys.key_of key ≡ item_key list.now.list_type list.now.keys.items (data_of item.now)) }
 {
     match (list.list_type, item) {
         (ListType::Set, _) => {
@@ -83,7 +85,7 @@ fn values_at<'a>(
     keys: &[Text],
     members: &'a Members,
 ) -> Result<Vec<Option<&'a Tree>>, AllocError>
-    ensures { IfOk result (λ values. view_of_key values ≡ map (λ k. member_at k members.now) keys.now) }
+    ensures { IfOk result (λ values. ItemKeys.key_of values ≡ map (λ k. member_at k members.now) keys.now) }
 {
     let mut values = Vec::with_capacity(alloc, keys.len())?;
     for key in keys {

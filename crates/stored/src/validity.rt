@@ -6,12 +6,14 @@ ghost use Rattle.schema.specs.Rules.Keywords.{any_item};
 ghost use Rattle.schema.specs.Nodes.ByPlace.{field_at};
 ghost use Rattle.schema.specs.Nodes.View.{node_of};
 ghost use Rattle.stored.specs.Objects.Tests.{is_same};
-ghost use Rattle.stored.specs.Objects.Fault.{agree as agree_of, agree_at as agree_at_of, are_alike as are_alike_of, items_count as items_count_of, members_count as members_count_of, IsValid};
-ghost use Rattle.stored.specs.Objects.StoredByParts.{are_apart as are_apart_of};
-ghost use Rattle.stored.specs.Internal.ValidByLevel.{true_if_any, is_valid as is_valid_of, has_required as has_required_of, are_fields_valid as are_fields_valid_of, are_values_valid as are_values_valid_of, are_items_valid as are_items_valid_of};
+ghost use Rattle.stored.specs.Objects.Fault;
+ghost use Rattle.stored.specs.Objects.Fault.{IsValid};
+ghost use Rattle.stored.specs.Objects.StoredByParts;
+ghost use Rattle.stored.specs.Internal.ValidByLevel;
+ghost use Rattle.stored.specs.Internal.ValidByLevel.{true_if_any};
 
 use crate::ascending::are_ordered;
-use crate::tests::{accepts_scalar, holds, is_within, meets_junctors};
+use crate::constraints::{accepts_scalar, holds, is_within, meets_junctors};
 use jtree::{Items, Member, Members, Text, Tree};
 use schema::{Fields, ListNode, ListType, Node, Sort};
 
@@ -28,7 +30,7 @@ pub fn valid(node: &Node, tree: &Tree) -> bool
 
 #[cycle(valid)]
 fn is_valid(node: &Node, tree: &Tree) -> bool
-    ensures { result ≡ is_valid_of (node_of node.now) (data_of tree.now) }
+    ensures { result ≡ ValidByLevel.is_valid (node_of node.now) (data_of tree.now) }
 {
     match (&node.sort, tree) {
         (_, Tree::Null) => node.nullable,
@@ -55,20 +57,20 @@ fn is_valid(node: &Node, tree: &Tree) -> bool
 }
 
 pub(crate) fn members_count(members: &Members) -> usize
-    ensures { result ≡ members_count_of members.now }
+    ensures { result ≡ Fault.members_count members.now }
 {
     members.members.as_slice().len()
 }
 
 pub(crate) fn items_count(items: &Items) -> usize
-    ensures { result ≡ items_count_of items.now }
+    ensures { result ≡ Fault.items_count items.now }
 {
     items.items.as_slice().len()
 }
 
 /// Whether no required field is absent.
 fn has_required(fields: &Fields, members: &Members) -> bool
-    ensures { result ≡ has_required_of fields.now members.now }
+    ensures { result ≡ ValidByLevel.has_required fields.now members.now }
 {
     for field in &fields.fields {
         if field.required && members.get(field.name.as_str()).is_none() {
@@ -80,7 +82,7 @@ fn has_required(fields: &Fields, members: &Members) -> bool
 
 #[cycle(valid)]
 fn are_fields_valid(fields: &Fields, members: &Members) -> bool
-    ensures { result ≡ are_fields_valid_of fields.now members.now }
+    ensures { result ≡ ValidByLevel.are_fields_valid fields.now members.now }
 {
     for member in &members.members {
         if !is_member_valid(fields, member) {
@@ -93,7 +95,7 @@ fn are_fields_valid(fields: &Fields, members: &Members) -> bool
 /// Whether a member is valid at the node of its field, where it is declared.
 #[cycle(valid)]
 fn is_member_valid(fields: &Fields, member: &Member) -> bool
-    ensures { result ≡ true_if_any (option_map (λ f. is_valid_of f.node (data_of member.now.tree)) (field_at member.now.name fields.now)) }
+    ensures { result ≡ true_if_any (option_map (λ f. ValidByLevel.is_valid f.node (data_of member.now.tree)) (field_at member.now.name fields.now)) }
 {
     for field in &fields.fields {
         if member.name == field.name {
@@ -105,7 +107,7 @@ fn is_member_valid(fields: &Fields, member: &Member) -> bool
 
 #[cycle(valid)]
 fn are_values_valid(node: &Node, members: &Members) -> bool
-    ensures { result ≡ are_values_valid_of (node_of node.now) members.now }
+    ensures { result ≡ ValidByLevel.are_values_valid (node_of node.now) members.now }
 {
     for member in &members.members {
         if !is_valid(node, &member.tree) {
@@ -117,7 +119,7 @@ fn are_values_valid(node: &Node, members: &Members) -> bool
 
 #[cycle(valid)]
 fn are_items_valid(node: &Node, items: &Items) -> bool
-    ensures { result ≡ are_items_valid_of (node_of node.now) items.now }
+    ensures { result ≡ ValidByLevel.are_items_valid (node_of node.now) items.now }
 {
     for item in &items.items {
         if !is_valid(node, item) {
@@ -129,14 +131,14 @@ fn are_items_valid(node: &Node, items: &Items) -> bool
 
 /// Whether any two items may be in one list.
 fn are_apart(list: &ListNode, items: &Items) -> bool
-    ensures { result ≡ are_apart_of (are_alike_of list.now.list_type list.now.keys.items) items.now }
+    ensures { result ≡ StoredByParts.are_apart (Fault.are_alike list.now.list_type list.now.keys.items) items.now }
 {
     are_ordered(list, items) || are_apart_in_pairs(list, items)
 }
 
 /// The same where the items may be in any order.
 fn are_apart_in_pairs(list: &ListNode, items: &Items) -> bool
-    ensures { result ≡ are_apart_of (are_alike_of list.now.list_type list.now.keys.items) items.now }
+    ensures { result ≡ StoredByParts.are_apart (Fault.are_alike list.now.list_type list.now.keys.items) items.now }
 {
     let mut rest = items.items.as_slice();
     while let [item, later @ ..] = rest {
@@ -150,7 +152,7 @@ fn are_apart_in_pairs(list: &ListNode, items: &Items) -> bool
 
 /// Whether an item may not be in one list with one of those that follow.
 fn is_repeated(list: &ListNode, item: &Tree, later: &[Tree]) -> bool
-    ensures { result ≡ any_item (are_alike_of list.now.list_type list.now.keys.items (data_of item.now)) (items_of later.now) }
+    ensures { result ≡ any_item (Fault.are_alike list.now.list_type list.now.keys.items (data_of item.now)) (items_of later.now) }
 {
     for other in later {
         if are_alike(list, item, other) {
@@ -162,7 +164,7 @@ fn is_repeated(list: &ListNode, item: &Tree, later: &[Tree]) -> bool
 
 /// Whether two items may not be in one list: in a set equal ones, in a map list objects that agree on all keys.
 fn are_alike(list: &ListNode, item: &Tree, other: &Tree) -> bool
-    ensures { result ≡ are_alike_of list.now.list_type list.now.keys.items (data_of item.now) (data_of other.now) }
+    ensures { result ≡ Fault.are_alike list.now.list_type list.now.keys.items (data_of item.now) (data_of other.now) }
 {
     match (list.list_type, item, other) {
         (ListType::Set, _, _) => item == other,
@@ -175,7 +177,7 @@ fn are_alike(list: &ListNode, item: &Tree, other: &Tree) -> bool
 
 /// Whether two objects agree on all keys.
 fn agree(keys: &[Text], members: &Members, others: &Members) -> bool
-    ensures { result ≡ agree_of keys.now members.now others.now }
+    ensures { result ≡ Fault.agree keys.now members.now others.now }
 {
     for key in keys {
         if !agree_at(key.as_str(), members, others) {
@@ -187,7 +189,7 @@ fn agree(keys: &[Text], members: &Members, others: &Members) -> bool
 
 /// Whether two objects have the same value under a name, or both have none.
 fn agree_at(name: &str, members: &Members, others: &Members) -> bool
-    ensures { result ≡ agree_at_of (member_at name.now members.now) (member_at name.now others.now) }
+    ensures { result ≡ Fault.agree_at (member_at name.now members.now) (member_at name.now others.now) }
 {
     match (members.get(name), others.get(name)) {
         (Some(value), Some(other)) => value == other,

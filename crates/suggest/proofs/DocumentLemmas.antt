@@ -1,5 +1,5 @@
--- Lists of trees as the code makes them, the members of a document, and what is said with its pools.
-use Rattle.std.proofs.Common.{◌≡◌, ◌∙◌, ℕ, suc, length, List, [], ◌∷◌, ◌++◌, Bool, true, not, ◌==◌, Some, map, refl, ap, arith}
+-- Lists of trees as the code makes them, the members of a document, and what is suggested with its pools.
+use Rattle.std.proofs.Common.{◌≡◌, ◌∙◌, ℕ, suc, length, List, [], ◌∷◌, ◌++◌, Bool, true, not, ◌==◌, Some, None, map, refl, ap, arith}
 use Rattle.std.proofs.lemmas.Bool.Decides.{nat_tests}
 use Rattle.std.specs.Borrow.{Bor}
 use Rattle.std.specs.Prelude.{codes}
@@ -11,10 +11,10 @@ use Rattle.jtree.specs.declared.value.Tree.{Tree}
 use Rattle.schema.specs.Nodes.Node.{Node}
 use Rattle.plan.specs.declared.pool_limits.PoolLimits.{PoolLimits}
 use Rattle.suggest.specs.View.{texts_at}
-use Rattle.suggest.specs.Suggested.Document.{items_of, with_member, document_with, general_of, all_free, single, said_by}
-use Rattle.suggest.specs.Suggested.Varied.{said_below}
+use Rattle.suggest.specs.Suggested.Document.{items_of, with_member, document_with, general_of, single, suggestions_by}
+use Rattle.suggest.specs.Suggested.Varied.{lists_alone, suggestions_below}
 use Rattle.suggest.specs.Suggested.Wanted.{Wanted}
-use Rattle.suggest.specs.Internal.Parts.{with_lists_member, with_texts_member, general_with, said_from}
+use Rattle.suggest.specs.Internal.Parts.{with_lists_member, with_texts_member, general_with, suggestions_from}
 
 pub items_are : (ts : List Tree) → view.items_of ts ≡ items_of (map (λ t. data_of t) ts)
 items_are [] = refl
@@ -43,12 +43,12 @@ in_place any (member l e ns) integers names no_members (t ∷ ts) strings = refl
 in_place any (member l e ns) integers names (member k d ms) [] strings = refl
 in_place any (member l e ns) integers names (member k d ms) (t ∷ ts) strings = refl
 
--- ---- what is said with the pools that suit
+-- ---- what is suggested with the pools that suit
 
 some_more : (n : ℕ) → not (suc n == 0) ≡ true
 some_more n = grind (arith, nat_tests)
 
 pub said_around : (varied : List (Bor (List ℕ))) (beside : Bool) (limits : PoolLimits) (raw : Data) (root : Node) (w : Wanted) → beside ≡ not (length varied == 0)
-    → said_from (texts_at varied) (general_with beside limits root) w raw root ≡ said_by (texts_at varied) (general_of limits root) w raw root
-said_around [] beside limits raw root w is = ap (λ b. all_free (general_with b limits root) w raw root) is
-said_around (t ∷ ts) beside limits raw root w is = ap (λ b. said_below (general_with b limits root) (texts_at (t ∷ ts)) (single w.objects) (Some raw) [] root) (is ∙ some_more (length ts))
+    → suggestions_from (texts_at varied) (general_with beside limits root) w raw root ≡ suggestions_by (texts_at varied) (general_of limits root) w raw root
+said_around [] beside limits raw root w is = ap (λ b. lists_alone (general_with b limits root) w.objects None (Some raw) [] root) is
+said_around (t ∷ ts) beside limits raw root w is = ap (λ b. suggestions_below (general_with b limits root) (texts_at (t ∷ ts)) (single w.objects) (Some raw) [] root) (is ∙ some_more (length ts))

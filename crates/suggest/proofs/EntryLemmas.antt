@@ -16,7 +16,7 @@ use Rattle.plan.specs.Pools.Document.{entries_of, members_of, text_of, pools_of}
 use Rattle.suggest.specs.Suggested.Chosen.{chosen_names}
 use Rattle.suggest.specs.Suggested.Document.{items_of, suggested_any, suggested_integers, suggested_strings, usual_names, with_member, with_entry, members_from, without_entry, lists_member, texts_member, document_of}
 use Rattle.suggest.specs.Suggested.Lists.{Entry}
-use Rattle.suggest.specs.Suggested.Varied.{Said}
+use Rattle.suggest.specs.Suggested.Varied.{Suggestions}
 
 pub other_name : (k l : List ℕ) → (k ≡ l → ⊥) → bytes_eq k l ≡ false
 other_name k l other = elim (bool_cases (bytes_eq k l)) [ inl same ↦ absurd (other (same_name k l same)) | inr f ↦ f ]
@@ -131,33 +131,33 @@ present_part any integers names strings (member k d ms) no_members [] = refl
 present_part any integers names strings no_members (member l e ns) [] = refl
 present_part any integers names strings no_members no_members [] = refl
 
-abbrev chosen : PoolLimits → Said → List (List ℕ)
+abbrev chosen : PoolLimits → Suggestions → List (List ℕ)
 chosen limits said = chosen_names limits.names (said.names ++ usual_names)
 
-abbrev kept_present : List (List ℕ) → Said → List (List ℕ)
+abbrev kept_present : List (List ℕ) → Suggestions → List (List ℕ)
 kept_present without said = filter (λ t. not (is_among t without)) said.present
 
-pub pool_fixed : (limits : PoolLimits) (root : Node) (without : List (List ℕ)) (said : Said) (text : List ℕ)
+pub pool_fixed : (limits : PoolLimits) (root : Node) (without : List (List ℕ)) (said : Suggestions) (text : List ℕ)
     → fixed_at text (pools_of (document_of limits root without said)) ≡ values_at text (said.fixed ++ map without_entry without)
 pool_fixed limits root without said text = ap (λ ms. option_and_then entries_in (member_at text ms))
     (fixed_part (items_of suggested_any) (items_of (suggested_integers root)) (items_of (map (λ t. tree.text t) (chosen limits said))) (items_of (suggested_strings root))
     (members_from (said.fixed ++ map without_entry without)) (members_from (take limits.paths said.lists)) (kept_present without said))
     ∙ found_values (said.fixed ++ map without_entry without) text
 
-pub pool_lists : (limits : PoolLimits) (root : Node) (without : List (List ℕ)) (said : Said) (text : List ℕ)
+pub pool_lists : (limits : PoolLimits) (root : Node) (without : List (List ℕ)) (said : Suggestions) (text : List ℕ)
     → list_at text (pools_of (document_of limits root without said)) ≡ values_at text (take limits.paths said.lists)
 pool_lists limits root without said text = ap (λ ms. option_and_then entries_in (member_at text ms))
     (paths_part (items_of suggested_any) (items_of (suggested_integers root)) (items_of (map (λ t. tree.text t) (chosen limits said))) (items_of (suggested_strings root))
     (members_from (said.fixed ++ map without_entry without)) (members_from (take limits.paths said.lists)) (kept_present without said))
     ∙ found_values (take limits.paths said.lists) text
 
-pub pool_names : (limits : PoolLimits) (root : Node) (without : List (List ℕ)) (said : Said) → (pools_of (document_of limits root without said)).names ≡ chosen limits said
+pub pool_names : (limits : PoolLimits) (root : Node) (without : List (List ℕ)) (said : Suggestions) → (pools_of (document_of limits root without said)).names ≡ chosen limits said
 pool_names limits root without said = ap (filter_map text_of)
     (names_part (items_of suggested_any) (items_of (suggested_integers root)) (items_of (map (λ t. tree.text t) (chosen limits said))) (items_of (suggested_strings root))
     (members_from (said.fixed ++ map without_entry without)) (members_from (take limits.paths said.lists)) (kept_present without said))
     ∙ texts_back (chosen limits said)
 
-pub pool_present : (limits : PoolLimits) (root : Node) (without : List (List ℕ)) (said : Said) → (pools_of (document_of limits root without said)).present ≡ kept_present without said
+pub pool_present : (limits : PoolLimits) (root : Node) (without : List (List ℕ)) (said : Suggestions) → (pools_of (document_of limits root without said)).present ≡ kept_present without said
 pool_present limits root without said =
     present_part (items_of suggested_any) (items_of (suggested_integers root)) (items_of (map (λ t. tree.text t) (chosen limits said))) (items_of (suggested_strings root))
     (members_from (said.fixed ++ map without_entry without)) (members_from (take limits.paths said.lists)) (kept_present without said)

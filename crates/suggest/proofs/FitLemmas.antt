@@ -7,7 +7,7 @@ use Rattle.jtree.specs.Internal.Rising.{Among, among_parts}
 use Rattle.schema.specs.Nodes.Node.{Validations, validations, Branches, no_branches, branch, Node, node, scalar, object, map as map_node, list as list_node, open_, Fields, no_fields, field}
 use Rattle.schema.specs.declared.node.Constraints.{Constraints}
 use Rattle.suggest.specs.Suggested.Scalars.{in_scalar, in_branches, in_scalars, in_fields}
-use Rattle.suggest.specs.Suggested.Values.{fits_64_bits, around, around_bounds, all_integers}
+use Rattle.suggest.specs.Suggested.Values.{fits_64_bits, with_neighbours, bounds_with_neighbours, all_integers}
 use Rattle.suggest.proofs.AscendingLemmas.{ascending_only}
 
 -- ---- what holds of all that is found
@@ -50,14 +50,14 @@ kept (y ∷ zs) z a = elim (bool_cases (fits_64_bits y)) [
   | inr f ↦ kept zs z (rw f at a)
 ]
 
-around_fits : (o : Option ℤ) (z : ℤ) → Among (around o) z → fits_64_bits z ≡ true
-around_fits None z a = absurd a
-around_fits (Some b) z a = kept ((b -ℤ pos 1) ∷ b ∷ (b +ℤ pos 1) ∷ []) z a
+neighbours_fit : (o : Option ℤ) (z : ℤ) → Among (with_neighbours o) z → fits_64_bits z ≡ true
+neighbours_fit None z a = absurd a
+neighbours_fit (Some b) z a = kept ((b -ℤ pos 1) ∷ b ∷ (b +ℤ pos 1) ∷ []) z a
 
 -- 0 and 1 fit too
 pub integer_fits : (root : Node) (z : ℤ) → Among (all_integers root) z → fits_64_bits z ≡ true
-integer_fits root z a = elim (ascending_only int_cmp (pos 0 ∷ pos 1 ∷ in_scalars around_bounds root) z a) [
+integer_fits root z a = elim (ascending_only int_cmp (pos 0 ∷ pos 1 ∷ in_scalars bounds_with_neighbours root) z a) [
   | inl e ↦ rw (← e) refl
   | inr (inl e) ↦ rw (← e) refl
-  | inr (inr b) ↦ node_each (λ z. fits_64_bits z ≡ true) around_bounds (λ t z c. elim (among_parts (around t.minimum) (around t.maximum) z c) [ inl h ↦ around_fits t.minimum z h | inr h ↦ around_fits t.maximum z h ]) root z b
+  | inr (inr b) ↦ node_each (λ z. fits_64_bits z ≡ true) bounds_with_neighbours (λ t z c. elim (among_parts (with_neighbours t.minimum) (with_neighbours t.maximum) z c) [ inl h ↦ neighbours_fit t.minimum z h | inr h ↦ neighbours_fit t.maximum z h ]) root z b
 ]

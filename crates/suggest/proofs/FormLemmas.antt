@@ -18,7 +18,7 @@ use Rattle.suggest.specs.Suggested.Values.{all_integers, all_lengths}
 use Rattle.suggest.specs.Suggested.Document.{items_of, letters, suggested_any, suggested_integers, suggested_strings, with_member, with_entry, members_from, without_entry, usual_names, lists_member, texts_member, document_with, document_of}
 use Rattle.suggest.specs.Suggested.Chosen.{chosen_names}
 use Rattle.suggest.specs.Suggested.Lists.{Entry}
-use Rattle.suggest.specs.Suggested.Varied.{Said}
+use Rattle.suggest.specs.Suggested.Varied.{Suggestions}
 
 -- ---- what breaks the form
 
@@ -200,7 +200,7 @@ form_with any fixed integers names paths present strings pi ps lf lp = form_of _
   ),
 )
 
-pub suggested_form : (limits : PoolLimits) (root : Node) (without : List (List ℕ)) (said : Said) → HasForm (document_of limits root without said)
+pub suggested_form : (limits : PoolLimits) (root : Node) (without : List (List ℕ)) (said : Suggestions) → HasForm (document_of limits root without said)
 suggested_form limits root without said = form_with suggested_any _ (suggested_integers root) _ _ _ (suggested_strings root)
     (all_of is_integer (λ z. integer z) (λ z. refl) (take standard.entries (all_integers root))) (all_of is_text (λ n. text (letters n)) (λ n. refl) (take standard.entries (all_lengths root)))
     (members_are_lists (said.fixed ++ map without_entry without)) (members_are_lists (take limits.paths said.lists))
@@ -241,7 +241,7 @@ pools_with any (member l e ns) integers names no_members (t ∷ ts) strings = re
 pools_with any (member l e ns) integers names (member k d ms) [] strings = record { fixed_is = refl; integers_are = refl; paths_are = refl; present_is = refl; strings_are = refl }
 pools_with any (member l e ns) integers names (member k d ms) (t ∷ ts) strings = record { fixed_is = refl; integers_are = refl; paths_are = refl; present_is = texts_same (t ∷ ts); strings_are = refl }
 
-module _ (limits : PoolLimits) (root : Node) (without : List (List ℕ)) (said : Said) where
+module _ (limits : PoolLimits) (root : Node) (without : List (List ℕ)) (said : Suggestions) where
   parts : HasPools (document_of limits root without said) (members_from (said.fixed ++ map without_entry without)) (suggested_integers root) (members_from (take limits.paths said.lists)) (filter (λ t. not (is_among t without)) said.present) (suggested_strings root)
   parts = pools_with suggested_any (members_from (said.fixed ++ map without_entry without)) (suggested_integers root) (chosen_names limits.names (said.names ++ usual_names)) (members_from (take limits.paths said.lists)) (filter (λ t. not (is_among t without)) said.present) (suggested_strings root)
 

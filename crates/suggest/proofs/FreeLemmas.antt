@@ -27,14 +27,14 @@ use Rattle.explain.specs.Paths.PathText.{path_text}
 use Rattle.plan.specs.Pools.Pools.{Pools, items_list, list_at, fixed_at, is_present}
 use Rattle.plan.specs.Samples.Site.{below, fixed_below}
 use Rattle.plan.specs.Samples.Over.{scalars_of, listed, listed_for, is_in, all_names, asks_field, has_present, has_enough, is_over_here, StepFollows, IsOverAlong}
-use Rattle.suggest.specs.Suggested.Around.{are_declared}
+use Rattle.suggest.specs.Suggested.VariedSamples.{are_declared}
 use Rattle.suggest.specs.Suggested.Chosen.{chosen_values}
-use Rattle.suggest.specs.Suggested.Standing.{field_values, items_in, item_values, trees_of, names_of, members_in, member_values, member_names}
-use Rattle.suggest.specs.Suggested.Listed.{General, takes, lists_itself, general_values, hinted_values, or_general, joined, listed_values}
+use Rattle.suggest.specs.Suggested.ValuesBelow.{field_values, items_in, item_values, trees_of, names_of, members_in, member_values, member_names}
+use Rattle.suggest.specs.Suggested.LeafValues.{General, takes, lists_itself, general_values, hinted_values, or_general, joined, leaf_values}
 use Rattle.suggest.specs.Suggested.Lists.{Entry, entry_of, schema_of_field, schema_of_items, schema_of_values, lists_at, lists_of_fields, names_at, names_of_fields}
-use Rattle.suggest.proofs.AroundLemmas.{StoredLaw, own_values, field_node}
+use Rattle.suggest.proofs.VariedSampleLemmas.{StoredLaw, own_values, field_node}
 use Rattle.suggest.proofs.EntryLemmas.{values_at}
-use Rattle.suggest.proofs.SaidLemmas.{OneText, further, other_field, before_off, lists_off, lists_off_fields, left_same, right_same}
+use Rattle.suggest.proofs.SuggestionLemmas.{OneText, further, other_field, before_off, lists_off, lists_off_fields, left_same, right_same}
 use Rattle.suggest.proofs.UncutLemmas.{own_same, values_uncut, some_chosen}
 
 -- each object part at an object node has declared names alone
@@ -212,10 +212,10 @@ standing_listed most G N (u ∷ us) hinted v path o a room is short ds itself = 
 ]
 
 leaf_listed : (P : Pools) (G : General) (path : List ℕ) (N : Node) (vs : List Data) (default schema : Option Data) (v : Data) → AreShort P G.limits.entries → 0 < G.limits.entries
-    → Among vs v → takes N v ≡ true → (lists_itself N ≡ true → is_in v (listed_for P N) ≡ true) → AreFree P path (entry_of path (listed_values G vs default schema N)) → is_in v (listed P path N) ≡ true
+    → Among vs v → takes N v ≡ true → (lists_itself N ≡ true → is_in v (listed_for P N) ≡ true) → AreFree P path (entry_of path (leaf_values G vs default schema N)) → is_in v (listed P path N) ≡ true
 leaf_listed P G path N vs default schema v short room a accepted itself f =
     standing_listed G.limits.entries G N (filter (takes N) vs) (hinted_values G N default schema) v path (list_at path P) (among_kept (takes N) vs v a accepted) room
-    (subst (λ t. list_at t P ≡ values_at t (entry_of path (listed_values G vs default schema N))) (append-nil path) (f.lists [])) (short path) (listed_for P N) itself
+    (subst (λ t. list_at t P ≡ values_at t (entry_of path (leaf_values G vs default schema N))) (append-nil path) (f.lists [])) (short path) (listed_for P N) itself
 
 pub or_left : (a b : Bool) → a ≡ true → (a || b) ≡ true
 or_left true b e = refl

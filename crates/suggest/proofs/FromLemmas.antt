@@ -24,21 +24,21 @@ use Rattle.plan.specs.Pools.Pools.{Pools, fixed_at}
 use Rattle.plan.specs.Samples.Candidates.{sort_at}
 use Rattle.plan.specs.Samples.Site.{below}
 use Rattle.plan.specs.Samples.Over.{listed, listed_for, is_in, IsOverAlong}
-use Rattle.suggest.specs.Suggested.Document.{general_of, said_by}
+use Rattle.suggest.specs.Suggested.Document.{general_of, suggestions_by}
 use Rattle.suggest.specs.Suggested.FromObjects.{from_objects, pools_from, WhatStandsThereIsACandidate}
 use Rattle.suggest.specs.Suggested.LeftOut.{Follows}
-use Rattle.suggest.specs.Suggested.Listed.{General, takes, hinted_values, joined, listed_values}
+use Rattle.suggest.specs.Suggested.LeafValues.{General, takes, hinted_values, joined, leaf_values}
 use Rattle.suggest.specs.Suggested.Lists.{Entry, entry_of, schema_of_field, schema_of_items, schema_of_values, lists_at, lists_of_fields}
-use Rattle.suggest.specs.Suggested.Standing.{field_values, items_in, item_values, trees_of, members_in, member_values}
+use Rattle.suggest.specs.Suggested.ValuesBelow.{field_values, items_in, item_values, trees_of, members_in, member_values}
 use Rattle.suggest.specs.Suggested.Without.{taken_out, without_paths}
-use Rattle.suggest.proofs.AroundLemmas.{StoredLaw, found_field, field_node}
+use Rattle.suggest.proofs.VariedSampleLemmas.{StoredLaw, found_field, field_node}
 use Rattle.suggest.proofs.EntryLemmas.{later_or, values_of, values_at, pool_lists}
 use Rattle.suggest.proofs.FreeLemmas.{among_under, among_flat, among_trees, among_items, among_kept, or_left, or_right, scalar_valid, open_valid}
 use Rattle.suggest.proofs.LeftOutLemmas.{step_there, none_left_out, fixed_is}
 use Rattle.suggest.proofs.ObjectLemmas.{found_entry}
 use Rattle.suggest.proofs.PathLemmas.{entry_among}
 use Rattle.suggest.proofs.GoodLemmas.{among_taken}
-use Rattle.suggest.proofs.SaidLemmas.{OneText, further, other_field, before_off, lists_off, lists_off_fields}
+use Rattle.suggest.proofs.SuggestionLemmas.{OneText, further, other_field, before_off, lists_off, lists_off_fields}
 use Rattle.suggest.proofs.UncutLemmas.{values_uncut}
 
 -- ---- the entry of a path
@@ -88,10 +88,10 @@ alone : (G : General) (N : Node) (standing hinted : List Data) (v : Data) → G.
 alone G N [] hinted v free a = absurd a
 alone G N (u ∷ us) hinted v free a = rw free a
 
-leaf_entry : (G : General) (vs : List Data) (default schema : Option Data) (path : List ℕ) (N M : Node) (x v : Data) (e : Entry) → Among (entry_of path (listed_values G vs default schema N)) e → N ≡ M → x ≡ v
+leaf_entry : (G : General) (vs : List Data) (default schema : Option Data) (path : List ℕ) (N M : Node) (x v : Data) (e : Entry) → Among (entry_of path (leaf_values G vs default schema N)) e → N ≡ M → x ≡ v
     → Among vs x → takes M v ≡ true → G.beside ≡ false → length e.values < G.limits.entries → is_in v e.values ≡ true
 leaf_entry G vs default schema path N M x v e a same part stands takes_it free short =
-    let values = (entry_among path (listed_values G vs default schema N) e a).1 in
+    let values = (entry_among path (leaf_values G vs default schema N) e a).1 in
     let standing = among_kept (takes N) vs v (subst (Among vs) part stands) (subst (λ K. takes K v ≡ true) (sym same) takes_it) in
     let all = joined G N (filter (takes N) vs) (hinted_values G N default schema) in
     subst (λ ds. is_in v ds ≡ true) (sym values) (values_uncut G.limits.entries all v (alone G N (filter (takes N) vs) (hinted_values G N default schema) v free standing)
@@ -222,7 +222,7 @@ pub standing_candidate : StoredLaw → OneText → WhatStandsThereIsACandidate
 standing_candidate law one limits raw root vs ws x p N v ordered there s uncut =
     let P = pools_from limits raw root vs ws in
     let w = without_paths root (from_objects vs ws) in
-    let S = said_by [] (general_of limits root) w raw root in
+    let S = suggestions_by [] (general_of limits root) w raw root in
     let stays : is_among (path_text p) ws ≡ false = elim (bool_cases (is_among (path_text p) ws)) [
       | inl gone ↦ absurd (none_left_out ws s.path p [] root N x v (λ e. absurd (s.below_root e)) gone s.node s.follows s.part)
       | inr stays ↦ stays

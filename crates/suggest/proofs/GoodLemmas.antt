@@ -25,10 +25,10 @@ use Rattle.plan.specs.Pools.PlanFault.{IsLeafPath, IsDeclaredPath, HasGoodPaths}
 use Rattle.plan.specs.Samples.Candidates.{sort_at}
 use Rattle.plan.specs.declared.pool_limits.PoolLimits.{PoolLimits}
 use Rattle.plan.specs.declared.sort.Sort.TheVariants.{Leaf}
-use Rattle.suggest.specs.Suggested.Document.{items_of, with_member, with_entry, members_from, without_entry, general_of, beside_standing, said_by, single, document_of, suggested_document}
-use Rattle.suggest.specs.Suggested.Listed.{General}
+use Rattle.suggest.specs.Suggested.Document.{items_of, with_member, with_entry, members_from, without_entry, general_of, for_variation, suggestions_by, single, document_of, suggested_document}
+use Rattle.suggest.specs.Suggested.LeafValues.{General}
 use Rattle.suggest.specs.Suggested.Lists.{Entry}
-use Rattle.suggest.specs.Suggested.Varied.{Said, said_below}
+use Rattle.suggest.specs.Suggested.Varied.{Suggestions, suggestions_below}
 use Rattle.suggest.specs.Suggested.Wanted.{Wanted}
 use Rattle.suggest.specs.Suggested.Without.{without_paths}
 use Rattle.suggest.proofs.FormLemmas.{pool_fixed, pool_paths, pool_present}
@@ -130,9 +130,9 @@ named_path n d fs preserves type bounds cs text u =
 declared_path : (root : Node) (text : List ℕ) → IsFixablePath root text → IsDeclaredPath root text
 declared_path root text f = (f.0, f.1, f.2.0)
 
--- ---- what is said
+-- ---- what is suggested
 
-pub record IsSaidWell (root : Node) (s : Said) : Type 0 where
+pub record IsSaidWell (root : Node) (s : Suggestions) : Type 0 where
   pub lists : (e : Entry) → Among s.lists e → IsLeafPath root e.path
   pub fixed : (e : Entry) → Among s.fixed e → IsFixablePath root e.path
   pub present : (t : List ℕ) → Among s.present t → IsFixablePath root t
@@ -140,7 +140,7 @@ pub record IsSaidWell (root : Node) (s : Said) : Type 0 where
 nothing_said : (root : Node) → IsSaidWell root (record { lists = []; names = []; fixed = []; present = [] })
 nothing_said root = record { lists = λ e a. absurd a; fixed = λ e a. absurd a; present = λ t a. absurd a }
 
-varied_well : (G : General) (ts : List (List ℕ)) (v schema : Option Data) (root : Node) → IsNode root → IsSaidWell root (said_below G ts v schema [] root)
+varied_well : (G : General) (ts : List (List ℕ)) (v schema : Option Data) (root : Node) → IsNode root → IsSaidWell root (suggestions_below G ts v schema [] root)
 varied_well G ts v schema (node n d (scalar kind cs)) ordered = nothing_said _
 varied_well G ts v schema (node n d open_) ordered = nothing_said _
 varied_well G ts v schema (node n d (map_node N type bounds)) ordered = nothing_said _
@@ -153,17 +153,17 @@ varied_well G ts v schema (node n d (object fs preserves type bounds cs)) ordere
       present = λ t a. named_path n d fs preserves type bounds cs t (u.present t a);
     }
 
-said_well : (ts : List (List ℕ)) (G : General) (w : Wanted) (raw : Data) (root : Node) → IsNode root → (sort_at root ≡ Leaf → ⊥) → IsSaidWell root (said_by ts G w raw root)
+said_well : (ts : List (List ℕ)) (G : General) (w : Wanted) (raw : Data) (root : Node) → IsNode root → (sort_at root ≡ Leaf → ⊥) → IsSaidWell root (suggestions_by ts G w raw root)
 said_well [] G w raw root ordered other = record {
   lists = λ e a. leaf_path root e.path other (lists_listed G w.objects None (Some raw) [] root ordered e a).leaf;
   fixed = λ e a. absurd a;
   present = λ t a. absurd a;
 }
-said_well (t ∷ ts) G w raw root ordered other = varied_well (beside_standing G) (t ∷ ts) (single w.objects) (Some raw) root ordered
+said_well (t ∷ ts) G w raw root ordered other = varied_well (for_variation G) (t ∷ ts) (single w.objects) (Some raw) root ordered
 
 -- ---- the document
 
-good_document : (limits : PoolLimits) (root : Node) (without : List (List ℕ)) (s : Said) → IsSaidWell root s → All (IsFixablePath root) without → HasGoodPaths root (pools_of (document_of limits root without s))
+good_document : (limits : PoolLimits) (root : Node) (without : List (List ℕ)) (s : Suggestions) → IsSaidWell root s → All (IsFixablePath root) without → HasGoodPaths root (pools_of (document_of limits root without s))
 good_document limits root without s well fixable = record {
   paths = λ text has.
       let n = value_of_entry (take limits.paths s.lists) text has.0 (subst (λ ms. member_at text ms ≡ Some has.0) (pool_paths limits root without s) has.1) in
@@ -183,4 +183,4 @@ pub suggested_paths : (limits : PoolLimits) (raw : Data) (root : Node) (w : Want
     → HasGoodPaths root (pools_of (suggested_document limits raw root w))
 suggested_paths limits raw root w ordered other fixable =
     let left = without_paths root w in
-    good_document limits root w.without (said_by w.varied (general_of limits root) left raw root) (said_well w.varied (general_of limits root) left raw root ordered other) fixable
+    good_document limits root w.without (suggestions_by w.varied (general_of limits root) left raw root) (said_well w.varied (general_of limits root) left raw root ordered other) fixable

@@ -19,7 +19,7 @@ use Rattle.plan.specs.Samples.Site.{below}
 use Rattle.suggest.specs.Suggested.Varied.{begins_with, goes_on, leads_on, there_in, reach, reach_by_fields}
 use Rattle.suggest.specs.declared.varying.Reach.TheVariants.{Missing, There}
 use Rattle.suggest.proofs.EntryLemmas.{other_name}
-use Rattle.suggest.proofs.SaidLemmas.{OneText}
+use Rattle.suggest.proofs.SuggestionLemmas.{OneText}
 
 -- ---- beginnings of texts
 

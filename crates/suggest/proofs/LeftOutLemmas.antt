@@ -21,17 +21,17 @@ use Rattle.plan.specs.Pools.Document.{pools_of}
 use Rattle.plan.specs.Pools.FixedPaths.{IsMapItem}
 use Rattle.plan.specs.Samples.Site.{below, fixed_below}
 use Rattle.plan.specs.Samples.Over.{is_in, StepFollows, IsOverAlong}
-use Rattle.suggest.specs.Suggested.Document.{general_of, beside_standing, without_entry, single, said_by, suggested_document}
+use Rattle.suggest.specs.Suggested.Document.{general_of, for_variation, without_entry, single, suggestions_by, suggested_document}
 use Rattle.suggest.specs.Suggested.LeftOut.{Follows, NoSampleHasALeftOutPath}
-use Rattle.suggest.specs.Suggested.Listed.{General}
+use Rattle.suggest.specs.Suggested.LeafValues.{General}
 use Rattle.suggest.specs.Suggested.Lists.{schema_of_field}
-use Rattle.suggest.specs.Suggested.Varied.{kept, said_at, said_below, leads_on}
+use Rattle.suggest.specs.Suggested.Varied.{as_in_object, suggestions_at, suggestions_below, leads_on}
 use Rattle.suggest.specs.Suggested.Wanted.{Wanted}
 use Rattle.suggest.specs.Suggested.Without.{Place, place_of_field, place_of_value, place_of_item, left_at, left_member, taken_out, members_left, items_left, without_paths}
-use Rattle.suggest.proofs.AroundLemmas.{leads_at, kept_at, own_among, own_values, found_field, field_node, same_tree}
+use Rattle.suggest.proofs.VariedSampleLemmas.{leads_at, kept_at, own_among, own_values, found_field, field_node, same_tree}
 use Rattle.suggest.proofs.EntryLemmas.{other_name, later_or, values_at, values_append, pool_fixed}
 use Rattle.suggest.proofs.FreeLemmas.{or_right}
-use Rattle.suggest.proofs.SaidLemmas.{OneText, further, field_says, nothing_here, not_below_itself}
+use Rattle.suggest.proofs.SuggestionLemmas.{OneText, further, field_says, nothing_here, not_below_itself}
 
 -- ---- a step into what is left of a value
 
@@ -158,13 +158,13 @@ under_left ts path N M (Some d) k down = elim (option_cases (under (taken_out ts
 ]
 
 kept_left : OneText → (ts : List (List ℕ)) (path : List ℕ) (N M : Node) (x : Option Data) (p : FieldPath) (vs : List Data) → node_at N (place_of p) ≡ Some M
-    → values_at (path ++ path_text p) (kept path (option_map (λ d. taken_out ts path N d) x)).fixed ≡ Some vs → AreFixedLeft ts (path ++ path_text p) M vs
+    → values_at (path ++ path_text p) (as_in_object path (option_map (λ d. taken_out ts path N d) x)).fixed ≡ Some vs → AreFixedLeft ts (path ++ path_text p) M vs
 kept_left one ts path N M None p vs down found = elim (bool_cases (bytes_eq (path ++ path_text p) path)) [
   | inl same ↦ inl (sym (same_Some [] vs (rw same at found)))
   | inr other ↦ absurd (let none : None ≡ Some vs = rw other at found in cc)
 ]
 kept_left one ts path N M (Some d) [] vs down found =
-    let here = subst (λ t. values_at t (kept path (Some (taken_out ts path N d))).fixed ≡ Some vs) (append-nil path) found in
+    let here = subst (λ t. values_at t (as_in_object path (Some (taken_out ts path N d))).fixed ≡ Some vs) (append-nil path) found in
     let are : taken_out ts path N d ∷ [] ≡ vs = same_Some (taken_out ts path N d ∷ []) vs (sym (own_values path (taken_out ts path N d ∷ [])) ∙ here) in
     inr (record { value = d; are = sym are ∙ λ i. taken_out ts (sym (append-nil path) i) (same_Some N M down i) d ∷ [] })
 kept_left one ts path N M (Some d) (t ∷ p) vs down found =
@@ -172,10 +172,10 @@ kept_left one ts path N M (Some d) (t ∷ p) vs down found =
     absurd (let none : None ≡ Some vs = rw other at found in cc)
 
 fixed_left : OneText → (ts ws : List (List ℕ)) (G : General) (p : FieldPath) (path : List ℕ) (N M : Node) (x schema : Option Data) (vs : List Data) → IsNode N → node_at N (place_of p) ≡ Some M
-    → values_at (path ++ path_text p) (said_below G ts (option_map (λ d. taken_out ws path N d) x) schema path N).fixed ≡ Some vs → AreFixedLeft ws (path ++ path_text p) M vs
+    → values_at (path ++ path_text p) (suggestions_below G ts (option_map (λ d. taken_out ws path N d) x) schema path N).fixed ≡ Some vs → AreFixedLeft ws (path ++ path_text p) M vs
 fixed_left one ts ws G [] path N M x schema vs ordered down found =
     let none = (nothing_here one G ts (option_map (λ d. taken_out ws path N d) x) schema path N).fixed in
-    let here = subst (λ t. values_at t (said_below G ts (option_map (λ d. taken_out ws path N d) x) schema path N).fixed ≡ Some vs) (append-nil path) found in
+    let here = subst (λ t. values_at t (suggestions_below G ts (option_map (λ d. taken_out ws path N d) x) schema path N).fixed ≡ Some vs) (append-nil path) found in
     absurd (cc)
 fixed_left one ts ws G (field k ∷ p) path (node nullable description (object fs preserves type bounds cs)) M x schema vs ordered down found =
     let v = option_map (λ d. taken_out ws path (node nullable description (object fs preserves type bounds cs)) d) x in
@@ -184,9 +184,9 @@ fixed_left one ts ws G (field k ∷ p) path (node nullable description (object f
     let y = under_left ws path (node nullable description (object fs preserves type bounds cs)) f.0.node x k (ap (option_map (λ f. f.node)) f.1) in
     let u = option_map (λ d. taken_out ws at f.0.node d) y.0 in
     let said = sym (field_says one G ts v schema path fs k f.0 p ordered f.1).fixed ∙ found in
-    let here : values_at (at ++ path_text p) (said_at G ts u f.0.default (schema_of_field schema k) at f.0.node).fixed ≡ Some vs =
-    subst (λ t. values_at t (said_at G ts u f.0.default (schema_of_field schema k) at f.0.node).fixed ≡ Some vs) (sym (further path (field k) p))
-    (subst (λ o. values_at (path ++ path_text (field k ∷ p)) (said_at G ts o f.0.default (schema_of_field schema k) at f.0.node).fixed ≡ Some vs) y.1 said) in
+    let here : values_at (at ++ path_text p) (suggestions_at G ts u f.0.default (schema_of_field schema k) at f.0.node).fixed ≡ Some vs =
+    subst (λ t. values_at t (suggestions_at G ts u f.0.default (schema_of_field schema k) at f.0.node).fixed ≡ Some vs) (sym (further path (field k) p))
+    (subst (λ o. values_at (path ++ path_text (field k ∷ p)) (suggestions_at G ts o f.0.default (schema_of_field schema k) at f.0.node).fixed ≡ Some vs) y.1 said) in
     subst (λ t. AreFixedLeft ws t M vs) (further path (field k) p) (elim (bool_cases (is_among at ts)) [
       | inl varied ↦ absurd (let none : None ≡ Some vs = rw varied at here in cc)
       | inr other ↦ elim (bool_cases (leads_on at ts)) [
@@ -208,10 +208,10 @@ single_left f (v ∷ []) = refl
 single_left f (v ∷ u ∷ vs) = refl
 
 said_left : OneText → (ts : List (List ℕ)) (G : General) (w : Wanted) (raw : Data) (root M : Node) (p : FieldPath) (vs : List Data) → IsNode root → node_at root (place_of p) ≡ Some M
-    → values_at (path_text p) (said_by ts G (without_paths root w) raw root).fixed ≡ Some vs → AreFixedLeft w.without (path_text p) M vs
+    → values_at (path_text p) (suggestions_by ts G (without_paths root w) raw root).fixed ≡ Some vs → AreFixedLeft w.without (path_text p) M vs
 said_left one [] G w raw root M p vs ordered there found = absurd (cc)
-said_left one (t ∷ ts) G w raw root M p vs ordered there found = fixed_left one (t ∷ ts) w.without (beside_standing G) p [] root M (single w.objects) (Some raw) vs ordered there
-    (subst (λ v. values_at (path_text p) (said_below (beside_standing G) (t ∷ ts) v (Some raw) [] root).fixed ≡ Some vs) (single_left (λ v. taken_out w.without [] root v) w.objects) found)
+said_left one (t ∷ ts) G w raw root M p vs ordered there found = fixed_left one (t ∷ ts) w.without (for_variation G) p [] root M (single w.objects) (Some raw) vs ordered there
+    (subst (λ v. values_at (path_text p) (suggestions_below (for_variation G) (t ∷ ts) v (Some raw) [] root).fixed ≡ Some vs) (single_left (λ v. taken_out w.without [] root v) w.objects) found)
 
 -- ---- what is fixed at a path has nothing where a path leads from there that is left out
 
@@ -219,9 +219,9 @@ abbrev pools : PoolLimits → Data → Node → Wanted → Pools
 pools limits raw root w = pools_of (suggested_document limits raw root w)
 
 pub fixed_is : (limits : PoolLimits) (raw : Data) (root : Node) (w : Wanted) (text : List ℕ)
-    → fixed_at text (pools limits raw root w) ≡ later_or (if is_among text w.without then Some [] else None) (values_at text (said_by w.varied (general_of limits root) (without_paths root w) raw root).fixed)
+    → fixed_at text (pools limits raw root w) ≡ later_or (if is_among text w.without then Some [] else None) (values_at text (suggestions_by w.varied (general_of limits root) (without_paths root w) raw root).fixed)
 fixed_is limits raw root w text =
-    let S = said_by w.varied (general_of limits root) (without_paths root w) raw root in
+    let S = suggestions_by w.varied (general_of limits root) (without_paths root w) raw root in
     pool_fixed limits root w.without S text ∙ (values_append text S.fixed (map without_entry w.without) ∙ ap (λ o. later_or o (values_at text S.fixed)) (without_values text w.without))
 
 left_out_fixed : (limits : PoolLimits) (raw : Data) (root : Node) (w : Wanted) (text : List ℕ) → is_among text w.without ≡ true → fixed_at text (pools limits raw root w) ≡ Some []
@@ -235,7 +235,7 @@ fixed_clear one limits raw root w q p path N M vs u ordered there fixed listed d
       let no : is_in u [] ≡ true = subst (λ ds. is_in u ds ≡ true) (sym none) listed in
       absurd (cc)
   | inr stays ↦
-      let said : values_at (path_text q) (said_by w.varied (general_of limits root) (without_paths root w) raw root).fixed ≡ Some vs = rw stays at (sym (fixed_is limits raw root w (path_text q)) ∙ fixed) in
+      let said : values_at (path_text q) (suggestions_by w.varied (general_of limits root) (without_paths root w) raw root).fixed ≡ Some vs = rw stays at (sym (fixed_is limits raw root w (path_text q)) ∙ fixed) in
       elim (said_left one w.varied (general_of limits root) w raw root N q vs ordered there said) [
         | inl none ↦ absurd (let no : is_in u [] ≡ true = subst (λ ds. is_in u ds ≡ true) none listed in cc)
         | inr l ↦

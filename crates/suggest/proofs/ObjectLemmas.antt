@@ -1,5 +1,5 @@
 -- An object is a sample over the pools around it, where nothing is cut.
-use Rattle.std.proofs.Common.{◌≡◌, ◌≤◌, ◌<◌, ◌⊎◌, ℕ, List, [], ◌∷◌, ◌++◌, true, false, ◌||◌, not, Option, Some, None, All, length, option_and_then, is_some, refl, sym, ap, ◌∙◌, subst, inl, inr, append-nil}
+use Rattle.std.proofs.Common.{option_to_list, ◌≡◌, ◌≤◌, ◌<◌, ◌⊎◌, ℕ, List, [], ◌∷◌, ◌++◌, true, false, ◌||◌, not, Option, Some, None, All, length, option_and_then, is_some, refl, sym, ap, ◌∙◌, subst, inl, inr, append-nil}
 use Rattle.std.specs.Str.{bytes_eq}
 use Rattle.std.proofs.lemmas.Bool.{and_from}
 use Rattle.std.proofs.lemmas.List.{take_all}
@@ -23,54 +23,54 @@ use Rattle.plan.specs.Pools.Document.{pools_of}
 use Rattle.plan.specs.Samples.Site.{below, fixed_below}
 use Rattle.plan.specs.Samples.Over.{all_names, has_present, is_over_here, StepFollows, IsOverAlong}
 use Rattle.plan.specs.Samples.Part.{IsSample}
-use Rattle.suggest.specs.Suggested.Around.{path_of_names, are_declared, steps_of_names, TheObjectIsASample}
-use Rattle.suggest.specs.Suggested.Document.{usual_names, general_of, beside_standing, document_of}
-use Rattle.suggest.specs.Suggested.Listed.{General}
+use Rattle.suggest.specs.Suggested.VariedSamples.{path_of_names, are_declared, steps_of_names, TheObjectIsASample}
+use Rattle.suggest.specs.Suggested.Document.{usual_names, general_of, for_variation, document_of}
+use Rattle.suggest.specs.Suggested.LeafValues.{General}
 use Rattle.suggest.specs.Suggested.Lists.{Entry, schema_of_field}
-use Rattle.suggest.specs.Suggested.Varied.{Said, both, leads_on, free, kept, asked, said_at, said_below, said_of_fields, reach}
+use Rattle.suggest.specs.Suggested.Varied.{Suggestions, both, leads_on, lists_alone, as_in_object, always_present, suggestions_at, suggestions_below, suggestions_of_fields, reach}
 use Rattle.suggest.specs.declared.varying.Reach.TheVariants.{There}
-use Rattle.suggest.proofs.AroundLemmas.{StoredLaw, AreSaidBelow, AreSaidAt, fixed_here, present_here, said_at_field, leads_at, kept_at, own_values, leading_unfixed, said_after, field_node, root_said, root_leads}
+use Rattle.suggest.proofs.VariedSampleLemmas.{StoredLaw, AreSaidBelow, AreSaidAt, fixed_here, present_here, said_at_field, leads_at, kept_at, own_values, leading_unfixed, said_after, field_node, root_said, root_leads}
 use Rattle.suggest.proofs.EntryLemmas.{values_at, values_of, pool_lists, pool_names}
 use Rattle.suggest.proofs.FreeLemmas.{AreAllDeclared, leads_there, AreShort, IsFreePart, found_node, free_over}
 use Rattle.suggest.proofs.LeadingLemmas.{none_reached, object_reached, AreReached, reached_below, leading_text}
-use Rattle.suggest.proofs.SaidLemmas.{OneText, further, field_says, said_of_field, asks_below_same}
+use Rattle.suggest.proofs.SuggestionLemmas.{OneText, further, field_says, said_of_field, asks_below_same}
 use Rattle.suggest.proofs.UncutLemmas.{own_same, names_uncut}
 use Rattle.suggest.proofs.WithoutLemmas.{nothing_taken}
 
 -- ---- lists and names of a field
 
-abbrev AreListedBelow : Pools → List ℕ → Said → Type 0
+abbrev AreListedBelow : Pools → List ℕ → Suggestions → Type 0
 AreListedBelow P path S = (s : FieldStep) (p : FieldPath) → list_at (path ++ path_text (s ∷ p)) P ≡ values_at (path ++ path_text (s ∷ p)) S.lists
 
-abbrev AreListedAt : Pools → List ℕ → Said → Type 0
+abbrev AreListedAt : Pools → List ℕ → Suggestions → Type 0
 AreListedAt P path S = (p : FieldPath) → list_at (path ++ path_text p) P ≡ values_at (path ++ path_text p) S.lists
 
-abbrev AreNamed : Pools → Said → Type 0
+abbrev AreNamed : Pools → Suggestions → Type 0
 AreNamed P S = (k : List ℕ) → Among S.names k → is_among k P.names ≡ true
 
 listed_at_field : OneText → (P : Pools) (G : General) (ts : List (List ℕ)) (v schema : Option Data) (path : List ℕ) (fs : Fields) (k : List ℕ) (f : Declared) → AreOrdered fs → field_at k fs ≡ Some f
-    → AreListedBelow P path (said_of_fields G ts v schema path fs) → AreListedAt P (below path (field k)) (said_of_field G ts v schema path k f)
+    → AreListedBelow P path (suggestions_of_fields G ts v schema path fs) → AreListedAt P (below path (field k)) (said_of_field G ts v schema path k f)
 listed_at_field one P G ts v schema path fs k f ordered found a p = subst (λ t. list_at t P ≡ values_at t (said_of_field G ts v schema path k f).lists) (sym (further path (field k) p))
     (a (field k) p ∙ (field_says one G ts v schema path fs k f p ordered found).lists)
 
-listed_after : OneText → (P : Pools) (path : List ℕ) (S : Said) → AreListedAt P path (both (asked path) S) → AreListedBelow P path S
+listed_after : OneText → (P : Pools) (path : List ℕ) (S : Suggestions) → AreListedAt P path (both (always_present path) S) → AreListedBelow P path S
 listed_after one P path S a s p = a (s ∷ p) ∙ (asks_below_same one path s p S).lists
 
 said_names : (G : General) (ts : List (List ℕ)) (v schema : Option Data) (path : List ℕ) (fs : Fields) (k : List ℕ) (f : Declared) (x : List ℕ) → field_at k fs ≡ Some f
-    → Among (said_of_field G ts v schema path k f).names x → Among (said_of_fields G ts v schema path fs).names x
+    → Among (said_of_field G ts v schema path k f).names x → Among (suggestions_of_fields G ts v schema path fs).names x
 said_names G ts v schema path no_fields k f x found a = absurd (cc)
 said_names G ts v schema path (nodes.field l N required default fs) k f x found a = elim (bool_cases (bytes_eq k l)) [
   | inl same ↦
       let here : Some (record { node = N; required = required; default = default }) ≡ Some f = rw same at found in
       let is : f ≡ record { node = N; required = required; default = default } = cc in
-      among_left (said_of_field G ts v schema path l (record { node = N; required = required; default = default })).names (said_of_fields G ts v schema path fs).names x
+      among_left (said_of_field G ts v schema path l (record { node = N; required = required; default = default })).names (suggestions_of_fields G ts v schema path fs).names x
       (subst (λ n. Among (said_of_field G ts v schema path n (record { node = N; required = required; default = default })).names x) (same_name k l same)
       (subst (λ g. Among (said_of_field G ts v schema path k g).names x) is a))
-  | inr other ↦ among_right (said_of_field G ts v schema path l (record { node = N; required = required; default = default })).names (said_of_fields G ts v schema path fs).names x
+  | inr other ↦ among_right (said_of_field G ts v schema path l (record { node = N; required = required; default = default })).names (suggestions_of_fields G ts v schema path fs).names x
       (said_names G ts v schema path fs k f x (rw other at found) a)
 ]
 
-free_at : (G : General) (ts : List (List ℕ)) (v default schema : Option Data) (path : List ℕ) (N : Node) → is_among path ts ≡ true → said_at G ts v default schema path N ≡ free G v default schema path N
+free_at : (G : General) (ts : List (List ℕ)) (v default schema : Option Data) (path : List ℕ) (N : Node) → is_among path ts ≡ true → suggestions_at G ts v default schema path N ≡ lists_alone G (option_to_list v) default schema path N
 free_at G ts v default schema path N varied = rw varied refl
 
 -- ---- a part of the object on the way to a varied path
@@ -101,20 +101,20 @@ record IsLeadingPart (P : Pools) (G : General) (ts : List (List ℕ)) (path : Li
   pub ordered : IsNode N
   pub stored : IsStored N v
   pub declared : AreDeclaredFrom ts path N v
-  pub said : AreSaidBelow P path (said_below G ts (Some v) schema path N)
-  pub lists : AreListedBelow P path (said_below G ts (Some v) schema path N)
-  pub named : AreNamed P (said_below G ts (Some v) schema path N)
+  pub said : AreSaidBelow P path (suggestions_below G ts (Some v) schema path N)
+  pub lists : AreListedBelow P path (suggestions_below G ts (Some v) schema path N)
+  pub named : AreNamed P (suggestions_below G ts (Some v) schema path N)
 
 -- what is always there is there in the object
 asked_has : OneText → (P : Pools) (G : General) (ts : List (List ℕ)) (v schema : Option Data) (path : List ℕ) (fs : Fields) (k : List ℕ) (f : Declared) → AreOrdered fs → field_at k fs ≡ Some f
-    → AreSaidBelow P path (said_of_fields G ts v schema path fs) → AreReached ts (option_and_then (λ u. under u k) v) (below path (field k)) f.node
+    → AreSaidBelow P path (suggestions_of_fields G ts v schema path fs) → AreReached ts (option_and_then (λ u. under u k) v) (below path (field k)) f.node
     → is_present (below path (field k)) P ≡ true → option_and_then (λ u. under u k) v ≡ None → ⊥
 asked_has one P G ts v schema path fs k f ordered found said reached asked none =
-    let at : AreSaidAt P (below path (field k)) (said_at G ts None f.default (schema_of_field schema k) (below path (field k)) f.node) =
-    subst (λ o. AreSaidAt P (below path (field k)) (said_at G ts o f.default (schema_of_field schema k) (below path (field k)) f.node)) none (said_at_field one P G ts v schema path fs k f ordered found said) in
+    let at : AreSaidAt P (below path (field k)) (suggestions_at G ts None f.default (schema_of_field schema k) (below path (field k)) f.node) =
+    subst (λ o. AreSaidAt P (below path (field k)) (suggestions_at G ts o f.default (schema_of_field schema k) (below path (field k)) f.node)) none (said_at_field one P G ts v schema path fs k f ordered found said) in
     elim (bool_cases (is_among (below path (field k)) ts)) [
       | inl varied ↦
-          let no : is_present (below path (field k)) P ≡ false = present_here P (below path (field k)) (free G None f.default (schema_of_field schema k) (below path (field k)) f.node)
+          let no : is_present (below path (field k)) P ≡ false = present_here P (below path (field k)) (lists_alone G (option_to_list None) f.default (schema_of_field schema k) (below path (field k)) f.node)
           (subst (λ S. AreSaidAt P (below path (field k)) S) (free_at G ts None f.default (schema_of_field schema k) (below path (field k)) f.node varied) at) in
           cc
       | inr other ↦ elim (bool_cases (leads_on (below path (field k)) ts)) [
@@ -122,7 +122,7 @@ asked_has one P G ts v schema path fs k f ordered found said reached asked none 
             let t = leading_text (below path (field k)) ts more in
             none_reached t.0 (below path (field k)) f.node (subst (λ o. reach t.0 o (below path (field k)) f.node ≡ There) none (reached t.0 t.1 t.2))
         | inr ends ↦
-            let no : is_present (below path (field k)) P ≡ false = present_here P (below path (field k)) (kept (below path (field k)) None)
+            let no : is_present (below path (field k)) P ≡ false = present_here P (below path (field k)) (as_in_object (below path (field k)) None)
             (subst (λ S. AreSaidAt P (below path (field k)) S) (kept_at G ts None f.default (schema_of_field schema k) (below path (field k)) f.node other ends) at) in
             cc
       ]
@@ -168,24 +168,24 @@ leading_next law one P G ts path (node nullable description (object fs preserves
     (subst (λ o. IsStoredField f.0 o) there (((law (node nullable description (object fs preserves type bounds cs)) (tree.object ms)).0 l.stored).1.1 k f.0 f.1)) in
     let below_declared : AreDeclaredFrom ts (below path (field k)) M w = declared_after ts path k (node nullable description (object fs preserves type bounds cs)) M (tree.object ms) w
     (leads_there (node nullable description (object fs preserves type bounds cs)) M (tree.object ms) w (name k) (field k) refl down there) l.declared in
-    let said : AreSaidAt P (below path (field k)) (said_at G ts (Some w) f.0.default (schema_of_field l.schema k) (below path (field k)) M) =
-    subst (λ K. AreSaidAt P (below path (field k)) (said_at G ts (Some w) f.0.default (schema_of_field l.schema k) (below path (field k)) K)) f.2
-    (subst (λ o. AreSaidAt P (below path (field k)) (said_at G ts o f.0.default (schema_of_field l.schema k) (below path (field k)) f.0.node)) there
+    let said : AreSaidAt P (below path (field k)) (suggestions_at G ts (Some w) f.0.default (schema_of_field l.schema k) (below path (field k)) M) =
+    subst (λ K. AreSaidAt P (below path (field k)) (suggestions_at G ts (Some w) f.0.default (schema_of_field l.schema k) (below path (field k)) K)) f.2
+    (subst (λ o. AreSaidAt P (below path (field k)) (suggestions_at G ts o f.0.default (schema_of_field l.schema k) (below path (field k)) f.0.node)) there
     (said_at_field one P G ts (Some (tree.object ms)) l.schema path fs k f.0 l.ordered f.1 l.said)) in
-    let lists : AreListedAt P (below path (field k)) (said_at G ts (Some w) f.0.default (schema_of_field l.schema k) (below path (field k)) M) =
-    subst (λ K. AreListedAt P (below path (field k)) (said_at G ts (Some w) f.0.default (schema_of_field l.schema k) (below path (field k)) K)) f.2
-    (subst (λ o. AreListedAt P (below path (field k)) (said_at G ts o f.0.default (schema_of_field l.schema k) (below path (field k)) f.0.node)) there
+    let lists : AreListedAt P (below path (field k)) (suggestions_at G ts (Some w) f.0.default (schema_of_field l.schema k) (below path (field k)) M) =
+    subst (λ K. AreListedAt P (below path (field k)) (suggestions_at G ts (Some w) f.0.default (schema_of_field l.schema k) (below path (field k)) K)) f.2
+    (subst (λ o. AreListedAt P (below path (field k)) (suggestions_at G ts o f.0.default (schema_of_field l.schema k) (below path (field k)) f.0.node)) there
     (listed_at_field one P G ts (Some (tree.object ms)) l.schema path fs k f.0 l.ordered f.1 l.lists)) in
-    let named : AreNamed P (said_at G ts (Some w) f.0.default (schema_of_field l.schema k) (below path (field k)) M) =
-    subst (λ K. AreNamed P (said_at G ts (Some w) f.0.default (schema_of_field l.schema k) (below path (field k)) K)) f.2
-    (subst (λ o. AreNamed P (said_at G ts o f.0.default (schema_of_field l.schema k) (below path (field k)) f.0.node)) there
+    let named : AreNamed P (suggestions_at G ts (Some w) f.0.default (schema_of_field l.schema k) (below path (field k)) M) =
+    subst (λ K. AreNamed P (suggestions_at G ts (Some w) f.0.default (schema_of_field l.schema k) (below path (field k)) K)) f.2
+    (subst (λ o. AreNamed P (suggestions_at G ts o f.0.default (schema_of_field l.schema k) (below path (field k)) f.0.node)) there
     (λ x a. l.named x (said_names G ts (Some (tree.object ms)) l.schema path fs k f.0 x f.1 a))) in
     elim (bool_cases (is_among (below path (field k)) ts)) [
       | inl varied ↦
           let is = free_at G ts (Some w) f.0.default (schema_of_field l.schema k) (below path (field k)) M varied in
           let free_said = subst (λ S. AreSaidAt P (below path (field k)) S) is said in
           inl (
-            fixed_here P (below path (field k)) (free G (Some w) f.0.default (schema_of_field l.schema k) (below path (field k)) M) free_said,
+            fixed_here P (below path (field k)) (lists_alone G (option_to_list (Some w)) f.0.default (schema_of_field l.schema k) (below path (field k)) M) free_said,
             record {
               values = w ∷ [];
               default = f.0.default;
@@ -212,14 +212,14 @@ leading_next law one P G ts path (node nullable description (object fs preserves
                 ordered = below_node;
                 stored = below_stored;
                 declared = below_declared;
-                said = said_after one P (below path (field k)) (said_below G ts (Some w) (schema_of_field l.schema k) (below path (field k)) M) leads_said;
-                lists = listed_after one P (below path (field k)) (said_below G ts (Some w) (schema_of_field l.schema k) (below path (field k)) M) (subst (λ S. AreListedAt P (below path (field k)) S) is lists);
+                said = said_after one P (below path (field k)) (suggestions_below G ts (Some w) (schema_of_field l.schema k) (below path (field k)) M) leads_said;
+                lists = listed_after one P (below path (field k)) (suggestions_below G ts (Some w) (schema_of_field l.schema k) (below path (field k)) M) (subst (λ S. AreListedAt P (below path (field k)) S) is lists);
                 named = subst (λ S. AreNamed P S) is named;
               },
             ))
         | inr ends ↦
             let is = kept_at G ts (Some w) f.0.default (schema_of_field l.schema k) (below path (field k)) M other ends in
-            inr (inr (fixed_here P (below path (field k)) (kept (below path (field k)) (Some w)) (subst (λ S. AreSaidAt P (below path (field k)) S) is said) ∙ own_values (below path (field k)) (w ∷ [])))
+            inr (inr (fixed_here P (below path (field k)) (as_in_object (below path (field k)) (Some w)) (subst (λ S. AreSaidAt P (below path (field k)) S) is said) ∙ own_values (below path (field k)) (w ∷ [])))
       ]
     ]
 leading_next law one P G ts path N M v w (name j) item follows down found u reaches l = absurd follows
@@ -269,23 +269,23 @@ found_entry text (e ∷ es) vs is = elim (option_cases (values_at text es)) [
       record { entry = x.entry; among = inr x.among; path = x.path; values = x.values }
 ]
 
-root_lists : (limits : PoolLimits) (root : Node) (S : Said) → length S.lists ≤ limits.paths → (text : List ℕ) → list_at text (pools_of (document_of limits root [] S)) ≡ values_at text S.lists
+root_lists : (limits : PoolLimits) (root : Node) (S : Suggestions) → length S.lists ≤ limits.paths → (text : List ℕ) → list_at text (pools_of (document_of limits root [] S)) ≡ values_at text S.lists
 root_lists limits root S few text = pool_lists limits root [] S text ∙ ap (values_at text) (take_all limits.paths S.lists few)
 
 pub object_sample : StoredLaw → OneText → TheObjectIsASample
 object_sample law one limits raw root v [] limit ordered some varied sound stored declared within uncut = absurd (some refl)
 object_sample law one limits raw root v (t ∷ ts) limit ordered some varied sound stored declared within uncut =
     let reached : (s : List ℕ) → Among (t ∷ ts) s → reach s (Some v) [] root ≡ There = all_among (λ s. reach s (Some v) [] root ≡ There) (t ∷ ts) varied in
-    let lists = root_lists limits root (said_below (beside_standing (general_of limits root)) (t ∷ ts) (Some v) (Some raw) [] root) uncut.lists in
-    let sample : IsSample root (pools_of (document_of limits root [] (said_below (beside_standing (general_of limits root)) (t ∷ ts) (Some v) (Some raw) [] root))) limit v = record {
+    let lists = root_lists limits root (suggestions_below (for_variation (general_of limits root)) (t ∷ ts) (Some v) (Some raw) [] root) uncut.lists in
+    let sample : IsSample root (pools_of (document_of limits root [] (suggestions_below (for_variation (general_of limits root)) (t ∷ ts) (Some v) (Some raw) [] root))) limit v = record {
       part = record {
         tree = sound;
         stored = stored;
-        over = λ q p. leading_over law one (pools_of (document_of limits root [] (said_below (beside_standing (general_of limits root)) (t ∷ ts) (Some v) (Some raw) [] root))) (beside_standing (general_of limits root)) (t ∷ ts)
+        over = λ q p. leading_over law one (pools_of (document_of limits root [] (suggestions_below (for_variation (general_of limits root)) (t ∷ ts) (Some v) (Some raw) [] root))) (for_variation (general_of limits root)) (t ∷ ts)
             (λ text vs is.
-            let x = found_entry text (said_below (beside_standing (general_of limits root)) (t ∷ ts) (Some v) (Some raw) [] root).lists vs (sym (lists text) ∙ is) in
+            let x = found_entry text (suggestions_below (for_variation (general_of limits root)) (t ∷ ts) (Some v) (Some raw) [] root).lists vs (sym (lists text) ∙ is) in
             subst (λ ds. length ds < limits.entries) x.values
-            (all_among (λ e. length e.values < limits.entries) (said_below (beside_standing (general_of limits root)) (t ∷ ts) (Some v) (Some raw) [] root).lists uncut.values x.entry x.among))
+            (all_among (λ e. length e.values < limits.entries) (suggestions_below (for_variation (general_of limits root)) (t ∷ ts) (Some v) (Some raw) [] root).lists uncut.values x.entry x.among))
             uncut.some q p [] root v (record {
               schema = Some raw;
               leads = root_leads root v t ts (reached t (inl refl));
@@ -293,13 +293,13 @@ object_sample law one limits raw root v (t ∷ ts) limit ordered some varied sou
               ordered = ordered;
               stored = stored;
               declared = record { on_the_way = declared.on_the_way; at_varied = declared.at_varied };
-              said = root_said limits root (said_below (beside_standing (general_of limits root)) (t ∷ ts) (Some v) (Some raw) [] root);
+              said = root_said limits root (suggestions_below (for_variation (general_of limits root)) (t ∷ ts) (Some v) (Some raw) [] root);
               lists = λ s p. lists (path_text (s ∷ p));
-              named = λ k a. subst (λ ks. is_among k ks ≡ true) (sym (pool_names limits root [] (said_below (beside_standing (general_of limits root)) (t ∷ ts) (Some v) (Some raw) [] root)))
-                  (names_uncut limits.names ((said_below (beside_standing (general_of limits root)) (t ∷ ts) (Some v) (Some raw) [] root).names ++ usual_names) k
-                  (among_left (said_below (beside_standing (general_of limits root)) (t ∷ ts) (Some v) (Some raw) [] root).names usual_names k a) uncut.names);
+              named = λ k a. subst (λ ks. is_among k ks ≡ true) (sym (pool_names limits root [] (suggestions_below (for_variation (general_of limits root)) (t ∷ ts) (Some v) (Some raw) [] root)))
+                  (names_uncut limits.names ((suggestions_below (for_variation (general_of limits root)) (t ∷ ts) (Some v) (Some raw) [] root).names ++ usual_names) k
+                  (among_left (suggestions_below (for_variation (general_of limits root)) (t ∷ ts) (Some v) (Some raw) [] root).names usual_names k a) uncut.names);
             });
       };
       within = within;
     } in
-    subst (λ u. IsSample root (pools_of (document_of limits root [] (said_below (beside_standing (general_of limits root)) (t ∷ ts) (Some u) (Some raw) [] root))) limit v) (sym (nothing_taken [] root v)) sample
+    subst (λ u. IsSample root (pools_of (document_of limits root [] (suggestions_below (for_variation (general_of limits root)) (t ∷ ts) (Some u) (Some raw) [] root))) limit v) (sym (nothing_taken [] root v)) sample

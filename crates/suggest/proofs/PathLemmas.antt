@@ -1,4 +1,4 @@
--- Where what is said is in the schema: each list is at a leaf, and each fixed value and each path that is always there is at a path of names.
+-- Where what is suggested is in the schema: each list is at a leaf, and each fixed value and each path that is always there is at a path of names.
 use Rattle.std.proofs.Common.{◌≡◌, ℕ, List, [], ◌∷◌, ◌++◌, ◌∙◌, Bool, Option, Some, None, map, refl, sym, ap, subst, append_assoc, append-nil, inl, inr}
 use Rattle.std.specs.Prelude.{option_map, option_and_then}
 use Rattle.std.specs.Option.{option_to_list}
@@ -22,10 +22,10 @@ use Rattle.explain.specs.Paths.PathText.{step_text, path_text}
 use Rattle.plan.specs.Samples.Candidates.{sort_at}
 use Rattle.plan.specs.Samples.Site.{below}
 use Rattle.plan.specs.declared.sort.Sort.TheVariants.{Leaf}
-use Rattle.suggest.specs.Suggested.Listed.{General, listed_values}
+use Rattle.suggest.specs.Suggested.LeafValues.{General, leaf_values}
 use Rattle.suggest.specs.Suggested.Lists.{Entry, entry_of, schema_of_field, schema_of_items, schema_of_values, lists_at, lists_of_fields}
-use Rattle.suggest.specs.Suggested.Standing.{field_values, item_values, member_values}
-use Rattle.suggest.specs.Suggested.Varied.{Said, leads_on, free, kept, said_at, said_below, said_of_fields}
+use Rattle.suggest.specs.Suggested.ValuesBelow.{field_values, item_values, member_values}
+use Rattle.suggest.specs.Suggested.Varied.{Suggestions, leads_on, lists_alone, as_in_object, suggestions_at, suggestions_below, suggestions_of_fields}
 
 -- ---- fields that follow others
 
@@ -74,7 +74,7 @@ pub record IsListed (G : General) (vs : List Data) (front : List ℕ) (N : Node)
   pub standing : List Data
   pub default : Option Data
   pub schema : Option Data
-  pub values : e.values ≡ listed_values G standing default schema leaf.node
+  pub values : e.values ≡ leaf_values G standing default schema leaf.node
   pub none : vs ≡ [] → standing ≡ []
   pub some : e.values ≡ [] → ⊥
 
@@ -91,9 +91,9 @@ entry_among path [] e a = absurd a
 entry_among path (v ∷ vs) e (inl same) = let values : e.values ≡ v ∷ vs = ap (λ x. x.values) (sym same) in (ap (λ x. x.path) (sym same), values, λ none. cc)
 entry_among path (v ∷ vs) e (inr a) = absurd a
 
-listed_here : (G : General) (vs : List Data) (default schema : Option Data) (front : List ℕ) (N : Node) (e : Entry) → sort_at N ≡ Leaf → Among (entry_of front (listed_values G vs default schema N)) e → IsListed G vs front N e
+listed_here : (G : General) (vs : List Data) (default schema : Option Data) (front : List ℕ) (N : Node) (e : Entry) → sort_at N ≡ Leaf → Among (entry_of front (leaf_values G vs default schema N)) e → IsListed G vs front N e
 listed_here G vs default schema front N e leaf a =
-    let h = entry_among front (listed_values G vs default schema N) e a in
+    let h = entry_among front (leaf_values G vs default schema N) e a in
     record { leaf = record { path = []; node = N; there = refl; leaf = leaf; is = h.0 ∙ sym (append-nil front) }; standing = vs; default = default; schema = schema; values = h.1; none = λ x. x; some = h.2 }
 
 mutual
@@ -136,27 +136,27 @@ named_above front N M k text leads l = record {
   is = l.is ∙ append_assoc front (step_text (step.field k)) (path_text (map step.field l.names));
 }
 
--- ---- what is said of an object
+-- ---- what is suggested of an object
 
 -- where the lists, the fixed values and the paths that are always there are
-record AreAt (front : List ℕ) (N : Node) (s : Said) : Type 0 where
+record AreAt (front : List ℕ) (N : Node) (s : Suggestions) : Type 0 where
   pub lists : (e : Entry) → Among s.lists e → IsLeafAt front N e.path
   pub fixed : (e : Entry) → Among s.fixed e → IsNamedAt front N e.path
   pub present : (t : List ℕ) → Among s.present t → IsNamedAt front N t
 
-pub record AreUnder (front : List ℕ) (fs : Fields) (s : Said) : Type 0 where
+pub record AreUnder (front : List ℕ) (fs : Fields) (s : Suggestions) : Type 0 where
   pub lists : (e : Entry) → Among s.lists e → Under (λ at M. IsLeafAt at M e.path) front fs
   pub fixed : (e : Entry) → Among s.fixed e → Under (λ at M. IsNamedAt at M e.path) front fs
   pub present : (t : List ℕ) → Among s.present t → Under (λ at M. IsNamedAt at M t) front fs
 
-free_at : (G : General) (v default schema : Option Data) (front : List ℕ) (N : Node) → IsNode N → AreAt front N (free G v default schema front N)
+free_at : (G : General) (v default schema : Option Data) (front : List ℕ) (N : Node) → IsNode N → AreAt front N (lists_alone G (option_to_list v) default schema front N)
 free_at G v default schema front N ordered = record {
   lists = λ e a. (lists_listed G (option_to_list v) default schema front N ordered e a).leaf;
   fixed = λ e a. absurd a;
   present = λ t a. absurd a;
 }
 
-kept_at : (front : List ℕ) (v : Option Data) (N : Node) → AreAt front N (kept front v)
+kept_at : (front : List ℕ) (v : Option Data) (N : Node) → AreAt front N (as_in_object front v)
 kept_at front None N = record {
   lists = λ e a. absurd a;
   fixed = λ e a. elim a [ inl same ↦ named_here front N e.path (ap (λ x. x.path) (sym same)) | inr n ↦ absurd n ];
@@ -168,7 +168,7 @@ kept_at front (Some v) N = record {
   present = λ t a. elim a [ inl same ↦ named_here front N t (sym same) | inr n ↦ absurd n ];
 }
 
-object_at : (front : List ℕ) (n : Bool) (d : Option (List ℕ)) (fs : Fields) (preserves : Bool) (type : MapType) (bounds : Bounds) (cs : Validations) (s : Said) → AreUnder front fs s
+object_at : (front : List ℕ) (n : Bool) (d : Option (List ℕ)) (fs : Fields) (preserves : Bool) (type : MapType) (bounds : Bounds) (cs : Validations) (s : Suggestions) → AreUnder front fs s
     → AreAt front (node n d (object fs preserves type bounds cs)) s
 object_at front n d fs preserves type bounds cs s u = record {
   lists = λ e a. let h = u.lists e a in leaf_above front (node n d (object fs preserves type bounds cs)) h.declared.node (step.field h.name) e.path (ap (option_map (λ f. f.node)) h.found) h.here;
@@ -180,7 +180,7 @@ pub object_leaf : (front : List ℕ) (n : Bool) (d : Option (List ℕ)) (fs : Fi
     → IsLeafAt front (node n d (object fs preserves type bounds cs)) text
 object_leaf front n d fs preserves type bounds cs text h = leaf_above front (node n d (object fs preserves type bounds cs)) h.declared.node (step.field h.name) text (ap (option_map (λ f. f.node)) h.found) h.here
 
-asked_at : (front : List ℕ) (N : Node) (s : Said) → AreAt front N s → AreAt front N (record { lists = s.lists; names = s.names; fixed = s.fixed; present = front ∷ s.present })
+asked_at : (front : List ℕ) (N : Node) (s : Suggestions) → AreAt front N s → AreAt front N (record { lists = s.lists; names = s.names; fixed = s.fixed; present = front ∷ s.present })
 asked_at front N s h = record {
   lists = h.lists;
   fixed = h.fixed;
@@ -190,32 +190,32 @@ asked_at front N s h = record {
 nothing_at : (front : List ℕ) (N : Node) → AreAt front N (record { lists = []; names = []; fixed = []; present = [] })
 nothing_at front N = record { lists = λ e a. absurd a; fixed = λ e a. absurd a; present = λ t a. absurd a }
 
-said_is_at : (G : General) (ts : List (List ℕ)) (v default schema : Option Data) (front : List ℕ) (N : Node) → IsNode N → AreAt front N (said_below G ts v schema front N) → AreAt front N (said_at G ts v default schema front N)
+said_is_at : (G : General) (ts : List (List ℕ)) (v default schema : Option Data) (front : List ℕ) (N : Node) → IsNode N → AreAt front N (suggestions_below G ts v schema front N) → AreAt front N (suggestions_at G ts v default schema front N)
 said_is_at G ts v default schema front N ordered below_at = elim (bool_cases (is_among front ts)) [
   | inl t ↦ rw t (free_at G v default schema front N ordered)
   | inr f ↦ rw f (elim (bool_cases (leads_on front ts)) [
-    | inl l ↦ rw l (asked_at front N (said_below G ts v schema front N) below_at)
+    | inl l ↦ rw l (asked_at front N (suggestions_below G ts v schema front N) below_at)
     | inr o ↦ rw o (kept_at front v N)
   ])
 ]
 
 mutual
-  below_is_at : (G : General) (ts : List (List ℕ)) (v schema : Option Data) (front : List ℕ) (N : Node) → IsNode N → AreAt front N (said_below G ts v schema front N)
-  below_is_at G ts v schema front (node n d (object fs preserves type bounds cs)) ordered = object_at front n d fs preserves type bounds cs (said_of_fields G ts v schema front fs) (said_is_under G ts v schema front fs ordered)
+  below_is_at : (G : General) (ts : List (List ℕ)) (v schema : Option Data) (front : List ℕ) (N : Node) → IsNode N → AreAt front N (suggestions_below G ts v schema front N)
+  below_is_at G ts v schema front (node n d (object fs preserves type bounds cs)) ordered = object_at front n d fs preserves type bounds cs (suggestions_of_fields G ts v schema front fs) (said_is_under G ts v schema front fs ordered)
   below_is_at G ts v schema front (node n d (scalar kind cs)) ordered = nothing_at front _
   below_is_at G ts v schema front (node n d open_) ordered = nothing_at front _
   below_is_at G ts v schema front (node n d (map_node N type bounds)) ordered = nothing_at front _
   below_is_at G ts v schema front (node n d (list_node N type keys bounds)) ordered = nothing_at front _
 
-  pub said_is_under : (G : General) (ts : List (List ℕ)) (v schema : Option Data) (front : List ℕ) (fs : Fields) → AreOrdered fs → AreUnder front fs (said_of_fields G ts v schema front fs)
+  pub said_is_under : (G : General) (ts : List (List ℕ)) (v schema : Option Data) (front : List ℕ) (fs : Fields) → AreOrdered fs → AreUnder front fs (suggestions_of_fields G ts v schema front fs)
   said_is_under G ts v schema front no_fields ordered = record { lists = λ e a. absurd a; fixed = λ e a. absurd a; present = λ t a. absurd a }
   said_is_under G ts v schema front (field k N required default fs) ordered =
       let w = option_and_then (λ o. under o k) v in
       let at = below front (step.field k) in
       let here = said_is_at G ts w default (schema_of_field schema k) at N ordered.0 (below_is_at G ts w (schema_of_field schema k) at N ordered.0) in
       let later = said_is_under G ts v schema front fs ordered.2 in
-      let first = said_at G ts w default (schema_of_field schema k) at N in
-      let rest = said_of_fields G ts v schema front fs in
+      let first = suggestions_at G ts w default (schema_of_field schema k) at N in
+      let rest = suggestions_of_fields G ts v schema front fs in
       record {
         lists = λ e a. elim (among_parts first.lists rest.lists e a) [
           | inl h ↦ under_first (λ at M. IsLeafAt at M e.path) front k N required default fs (here.lists e h)

@@ -37,20 +37,20 @@ use Rattle.std.specs.Option.{option_to_list}
 use Rattle.std.specs.List.{fold}
 use Rattle.plan.specs.Samples.Over.{is_in, scalars_of, IsOver}
 use Rattle.suggest.specs.Suggested.Scalars.{in_scalar, in_branches, in_scalars, in_fields}
-use Rattle.suggest.specs.Suggested.Values.{fits_64_bits, around, around_bounds, longest, short_length, short_lengths, all_integers, all_lengths}
-use Rattle.suggest.specs.Suggested.Document.{letters, suggested_integers, suggested_strings, members_from, general_of, nothing_wanted, said_by}
+use Rattle.suggest.specs.Suggested.Values.{fits_64_bits, with_neighbours, bounds_with_neighbours, longest, short_length, short_lengths, all_integers, all_lengths}
+use Rattle.suggest.specs.Suggested.Document.{letters, suggested_integers, suggested_strings, members_from, general_of, nothing_wanted, suggestions_by}
 use Rattle.suggest.specs.Suggested.Reached.{HasBoundsAlone, IsBounded, IsWithinReach, suggested_alone, HasCandidateLike}
 use Rattle.suggest.specs.Suggested.Chosen.{with_value, chosen_values}
 use Rattle.suggest.specs.Suggested.Formats.{texts_of_format}
-use Rattle.suggest.specs.Suggested.Listed.{General, takes, lists_itself, takes_texts_alone, own_values, format_values, few, general_values, hinted_from, hinted_values, listed_values}
+use Rattle.suggest.specs.Suggested.LeafValues.{General, takes, lists_itself, takes_texts_alone, own_values, format_values, few, general_values, hinted_from, hinted_values, leaf_values}
 use Rattle.suggest.specs.Suggested.Lists.{Entry, lists_at}
-use Rattle.suggest.specs.Suggested.Varied.{Said}
+use Rattle.suggest.specs.Suggested.Varied.{Suggestions}
 use Rattle.suggest.proofs.AscendingLemmas.{ascending_has}
 use Rattle.suggest.proofs.FitLemmas.{integer_fits}
 use Rattle.suggest.proofs.FormLemmas.{listed_back, pool_fixed, pool_paths, pool_integers, pool_strings}
 use Rattle.suggest.proofs.GoodLemmas.{value_of_entry, among_taken, among_kept}
 use Rattle.suggest.proofs.PathLemmas.{lists_listed}
-use Rattle.suggest.proofs.ListedLemmas.{StoredLaw}
+use Rattle.suggest.proofs.LeafValueLemmas.{StoredLaw}
 
 -- ---- what is found at a node is found from the root
 
@@ -93,13 +93,13 @@ among_first z zs w = rw w (inl refl)
 among_later : (y z : ℤ) (zs : List ℤ) → Among (filter fits_64_bits zs) z → Among (filter fits_64_bits (y ∷ zs)) z
 among_later y z zs a = elim (bool_cases (fits_64_bits y)) [ inl w ↦ rw w (inr a) | inr n ↦ rw n a ]
 
-before_among : (z : ℤ) → fits_64_bits (z -ℤ pos 1) ≡ true → Among (around (Some z)) (z -ℤ pos 1)
+before_among : (z : ℤ) → fits_64_bits (z -ℤ pos 1) ≡ true → Among (with_neighbours (Some z)) (z -ℤ pos 1)
 before_among z w = among_first (z -ℤ pos 1) (z ∷ (z +ℤ pos 1) ∷ []) w
 
-own_among : (z : ℤ) → fits_64_bits z ≡ true → Among (around (Some z)) z
+own_among : (z : ℤ) → fits_64_bits z ≡ true → Among (with_neighbours (Some z)) z
 own_among z w = among_later (z -ℤ pos 1) z (z ∷ (z +ℤ pos 1) ∷ []) (among_first z ((z +ℤ pos 1) ∷ []) w)
 
-after_among : (z : ℤ) → fits_64_bits (z +ℤ pos 1) ≡ true → Among (around (Some z)) (z +ℤ pos 1)
+after_among : (z : ℤ) → fits_64_bits (z +ℤ pos 1) ≡ true → Among (with_neighbours (Some z)) (z +ℤ pos 1)
 after_among z w = among_later (z -ℤ pos 1) (z +ℤ pos 1) (z ∷ (z +ℤ pos 1) ∷ []) (among_later z (z +ℤ pos 1) ((z +ℤ pos 1) ∷ []) (among_first (z +ℤ pos 1) [] w))
 
 at_least : (a b : ℤ) → int_lt a b ≡ false → b ≤ℤ a
@@ -139,7 +139,7 @@ record IsNear (zs : List ℤ) (fails : Data → Bool) (Beyond : ℤ → Type 0) 
 abbrev AllPass : (Data → Bool) → Type 0
 AllPass fails = (w : ℤ) → FitsSigned w64 w → fails (tree.integer w) ≡ false
 
-low : (min : Option ℤ) (e : Bool) (z : ℤ) → FitsSigned w64 z → is_below_minimum min e (tree.integer z) ≡ false → IsNear (around min) (is_below_minimum min e) (λ w. w ≤ℤ z) ⊎ AllPass (is_below_minimum min e)
+low : (min : Option ℤ) (e : Bool) (z : ℤ) → FitsSigned w64 z → is_below_minimum min e (tree.integer z) ≡ false → IsNear (with_neighbours min) (is_below_minimum min e) (λ w. w ≤ℤ z) ⊎ AllPass (is_below_minimum min e)
 low None e z f h = inr (λ w g. refl)
 low (Some m) false z f h = let least = at_least z m h in elim (bool_cases (fits_64_bits m)) [
   | inl w ↦ inl (record { value = m; fits = fits m w; among = own_among m w; passes = no_less m m (omega (arith, ints)); beyond = least })
@@ -150,7 +150,7 @@ low (Some m) true z f h = let least = above z m h in elim (bool_cases (fits_64_b
   | inr n ↦ inr (λ w g. no_more w m (elim (narrow (m +ℤ pos 1) n) [ inl under ↦ omega (arith, ints, (within w g).0) | inr over_all ↦ absurd (omega (arith, ints, (within z f).1)) ]))
 ]
 
-high : (max : Option ℤ) (e : Bool) (z : ℤ) → FitsSigned w64 z → is_above_maximum max e (tree.integer z) ≡ false → IsNear (around max) (is_above_maximum max e) (λ w. z ≤ℤ w) ⊎ AllPass (is_above_maximum max e)
+high : (max : Option ℤ) (e : Bool) (z : ℤ) → FitsSigned w64 z → is_above_maximum max e (tree.integer z) ≡ false → IsNear (with_neighbours max) (is_above_maximum max e) (λ w. z ≤ℤ w) ⊎ AllPass (is_above_maximum max e)
 high None e z f h = inr (λ w g. refl)
 high (Some m) false z f h = let most = at_least m z h in elim (bool_cases (fits_64_bits m)) [
   | inl w ↦ inl (record { value = m; fits = fits m w; among = own_among m w; passes = no_less m m (omega (arith, ints)); beyond = most })
@@ -173,20 +173,20 @@ record IsIntegerFound (t : Constraints) (zs : List ℤ) : Type 0 where
   pub among : Among (pos 0 ∷ pos 1 ∷ zs) value
   pub allowed : IsAllowed t.minimum t.maximum t.exclusive_minimum t.exclusive_maximum value
 
-integer_found : (t : Constraints) (zs : List ℤ) → ((w : ℤ) → Among (around_bounds t) w → Among zs w) → (z : ℤ) → FitsSigned w64 z
+integer_found : (t : Constraints) (zs : List ℤ) → ((w : ℤ) → Among (bounds_with_neighbours t) w → Among zs w) → (z : ℤ) → FitsSigned w64 z
     → IsAllowed t.minimum t.maximum t.exclusive_minimum t.exclusive_maximum z → IsIntegerFound t zs
 integer_found t zs all z f a = elim (low t.minimum t.exclusive_minimum z f a.low) [
   | inl l ↦ record {
     value = l.value;
     fits = l.fits;
-    among = inr (inr (all l.value (among_left (around t.minimum) (around t.maximum) l.value l.among)));
+    among = inr (inr (all l.value (among_left (with_neighbours t.minimum) (with_neighbours t.maximum) l.value l.among)));
     allowed = record { low = l.passes; high = falls t.maximum t.exclusive_maximum z l.value l.beyond a.high };
   }
   | inr below ↦ elim (high t.maximum t.exclusive_maximum z f a.high) [
     | inl h ↦ record {
       value = h.value;
       fits = h.fits;
-      among = inr (inr (all h.value (among_right (around t.minimum) (around t.maximum) h.value h.among)));
+      among = inr (inr (all h.value (among_right (with_neighbours t.minimum) (with_neighbours t.maximum) h.value h.among)));
       allowed = record { low = below h.value h.fits; high = h.passes };
     }
     | inr upper ↦ let zero_fits = fits (pos 0) refl in record { value = pos 0; fits = zero_fits; among = inl refl; allowed = record { low = below (pos 0) zero_fits; high = upper (pos 0) zero_fits } }
@@ -271,8 +271,8 @@ no_below n d kind cs negation = refl
 abbrev general : Node → General
 general root = general_of standard root
 
-abbrev said_alone : Data → Node → Said
-said_alone raw root = said_by [] (general root) nothing_wanted raw root
+abbrev said_alone : Data → Node → Suggestions
+said_alone raw root = suggestions_by [] (general root) nothing_wanted raw root
 
 abbrev Pool : Data → Node → Pools
 Pool raw root = suggested_alone raw root
@@ -501,7 +501,7 @@ list_found one raw root ordered p N there ds found =
           record {
             default = l.default;
             schema = l.schema;
-            is = values ∙ (l.values ∙ λ j. listed_values (general root) (l.none refl j) l.default l.schema (same j));
+            is = values ∙ (l.values ∙ λ j. leaf_values (general root) (l.none refl j) l.default l.schema (same j));
             some = λ none. l.some (sym values ∙ none);
           }
     ]
@@ -679,11 +679,11 @@ module _ (law : StoredLaw) (one_text : OneText) (raw : Data) (root : Node) (orde
       let N = node n d (scalar k cs) in
       let here = ((law N (tree.integer z)).0 stored).0 in
       let both = two_fail _ _ (sym (bounds_alone t all any one negated (tree.integer z) bounded ∙ integer_test t z bounded.0) ∙ here.1) in
-      let r = integer_found t (in_scalars around_bounds root) (λ w a. found around_bounds root (place_of p) N w there (own_found around_bounds t all any one negated w a)) z sound (record { low = both.0; high = both.1 }) in
+      let r = integer_found t (in_scalars bounds_with_neighbours root) (λ w a. found bounds_with_neighbours root (place_of p) N w there (own_found bounds_with_neighbours t all any one negated w a)) z sound (record { low = both.0; high = both.1 }) in
       let asked : holds cs (tree.integer r.value) ≡ true = bounds_alone t all any one negated (tree.integer r.value) bounded ∙ (integer_test t r.value bounded.0 ∙ rw (r.allowed.low, r.allowed.high) refl) in
       let accepted : accepts_scalar k (tree.integer r.value) ≡ true = same_integer k r.value z ∙ here.0 in
       let taken : Among (take standard.entries (all_integers root)) r.value =
-      subst (λ zs. Among zs r.value) (sym (take_all standard.entries (all_integers root) within)) (ascending_has int_cmp exact_signed (pos 0 ∷ pos 1 ∷ in_scalars around_bounds root) r.value r.among) in
+      subst (λ zs. Among zs r.value) (sym (take_all standard.entries (all_integers root) within)) (ascending_has int_cmp exact_signed (pos 0 ∷ pos 1 ∷ in_scalars bounds_with_neighbours root) r.value r.among) in
       let among = subst (λ zs. Among zs r.value) (sym (pool_integers standard root [] (said_alone raw root))) taken in
       elim (option_cases (list_at (path_text p) (Pool raw root))) [
         | inl none ↦ record {

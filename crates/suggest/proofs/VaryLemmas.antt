@@ -1,5 +1,5 @@
--- What is said around an object, as the code makes it.
-use Rattle.std.proofs.Common.{◌≡◌, ◌≢◌, ◌≤◌, ◌<◌, ◌+◌, ℕ, List, [], ◌∷◌, ◌++◌, ◌∙◌, Bool, true, false, Option, length, get_or, drop, eqb, refl, sym, ap, append_assoc, inl, inr, arith}
+-- What is suggested around an object, as the code makes it.
+use Rattle.std.proofs.Common.{◌≡◌, ◌≢◌, ◌≤◌, ◌<◌, ◌+◌, ℕ, List, [], ◌∷◌, ◌++◌, ◌∙◌, Bool, true, false, Option, length, get_or, drop, eqb, refl, sym, ap, append_assoc, append-nil, inl, inr, arith}
 use Rattle.std.specs.Prelude.{◌==◌, ◌&&◌, option_map, option_and_then, codes, nat_eq}
 use Rattle.std.proofs.lemmas.Bool.{and_parts, eq-eqb, eqb-true}
 use Rattle.std.proofs.lemmas.List.{at_drop_more}
@@ -11,9 +11,9 @@ use Rattle.schema.specs.Nodes.View.{node_of, fields_of}
 use Rattle.schema.specs.declared.node.Field.{Field as CodeField}
 use Rattle.explain.specs.Paths.FieldPath as step
 use Rattle.plan.specs.Samples.Site.{below}
-use Rattle.suggest.specs.Suggested.Listed.{General}
+use Rattle.suggest.specs.Suggested.LeafValues.{General}
 use Rattle.suggest.specs.Suggested.Lists.{schema_of_field}
-use Rattle.suggest.specs.Suggested.Varied.{both, begins_with, goes_on, said_at, said_of_fields}
+use Rattle.suggest.specs.Suggested.Varied.{Suggestions, nothing, both, begins_with, goes_on, suggestions_at, suggestions_of_fields}
 
 -- ---- texts of paths
 
@@ -60,10 +60,23 @@ slash_first (x ∷ rest) some = turned x 47 ∙ sym (and_true (eqb 47 x))
 
 pub field_step : (G : General) (ts : List (List ℕ)) (v s : Option Data) (path : List ℕ) (fs : List CodeField) (i : ℕ) (f : CodeField) → i < length fs → f ≡ get_or fs i f
     → (w d t : Option Data) (path' : List ℕ) → w ≡ option_and_then (λ o. under o f.name) v → d ≡ option_map (λ o. data_of o) f.default → t ≡ schema_of_field s f.name → path' ≡ below path (step.field f.name)
-    → said_of_fields G ts v s path (fields_of (drop i fs)) ≡ both (said_at G ts w d t path' (node_of f.node)) (said_of_fields G ts v s path (fields_of (drop (i + 1) fs)))
+    → suggestions_of_fields G ts v s path (fields_of (drop i fs)) ≡ both (suggestions_at G ts w d t path' (node_of f.node)) (suggestions_of_fields G ts v s path (fields_of (drop (i + 1) fs)))
 field_step G ts v s path fs i f lt is w d t path' ew ed et ep =
-    at_drop_more (λ gs. said_of_fields G ts v s path (fields_of gs)) fs i f lt ∙ (ap (λ g. said_of_fields G ts v s path (fields_of (g ∷ drop (i + 1) fs))) (sym is)
-    ∙ λ j. both (said_at G ts (sym ew j) (sym ed j) (sym et j) (sym ep j) (node_of f.node)) (said_of_fields G ts v s path (fields_of (drop (i + 1) fs))))
+    at_drop_more (λ gs. suggestions_of_fields G ts v s path (fields_of gs)) fs i f lt ∙ (ap (λ g. suggestions_of_fields G ts v s path (fields_of (g ∷ drop (i + 1) fs))) (sym is)
+    ∙ λ j. both (suggestions_at G ts (sym ew j) (sym ed j) (sym et j) (sym ep j) (node_of f.node)) (suggestions_of_fields G ts v s path (fields_of (drop (i + 1) fs))))
 
-pub grown : {X : Type 0} (old new here rest all : List X) → new ≡ old ++ here → old ++ (here ++ rest) ≡ all → new ++ rest ≡ all
-grown old new here rest all e h = ap (λ xs. xs ++ rest) e ∙ (append_assoc old here rest ∙ h)
+-- ---- what is suggested, and more
+
+pub both_assoc : (a b c : Suggestions) → both (both a b) c ≡ both a (both b c)
+both_assoc a b c = λ i. record {
+  lists = append_assoc a.lists b.lists c.lists i;
+  names = append_assoc a.names b.names c.names i;
+  fixed = append_assoc a.fixed b.fixed c.fixed i;
+  present = append_assoc a.present b.present c.present i;
+}
+
+pub both_nothing : (a : Suggestions) → both a nothing ≡ a
+both_nothing a = λ i. record { lists = append-nil a.lists i; names = append-nil a.names i; fixed = append-nil a.fixed i; present = append-nil a.present i }
+
+pub both_grown : (old new here rest all : Suggestions) → new ≡ both old here → both old (both here rest) ≡ all → both new rest ≡ all
+both_grown old new here rest all e h = ap (λ s. both s rest) e ∙ (both_assoc old here rest ∙ h)

@@ -4,8 +4,8 @@ pub mod Ascending
 pub mod Values
 pub mod Formats
 pub mod Chosen
-pub mod Standing
-pub mod Listed
+pub mod ValuesBelow
+pub mod LeafValues
 pub mod Lists
 pub mod Varied
 pub mod Wanted
@@ -14,5 +14,5 @@ pub mod Document
 pub mod Fault
 pub mod LeftOut
 pub mod FromObjects
-pub mod Around
+pub mod VariedSamples
 pub mod Reached

@@ -2,7 +2,7 @@
 ghost use Rattle.std.specs.Prelude.{◌≡◌, IfOk, OnOk};
 ghost use Rattle.jtree.specs.View.{data_of};
 ghost use Rattle.schema.specs.Document.Texts.{is_among};
-ghost use Rattle.plan.specs.Samples.Over.{is_in as is_in_of};
+ghost use Rattle.plan.specs.Samples.Over;
 ghost use Rattle.suggest.specs.View.{trees_of};
 ghost use Rattle.suggest.specs.Suggested.Chosen.{with_value, with_name, chosen_values};
 
@@ -37,7 +37,7 @@ fn push_value(
 
 /// Whether a value is one of these.
 fn is_in(value: &Tree, values: &[Tree]) -> bool
-    ensures { result ≡ is_in_of (data_of value.now) (trees_of values.now) }
+    ensures { result ≡ Over.is_in (data_of value.now) (trees_of values.now) }
 {
     for other in values {
         if *value == *other {

@@ -1,30 +1,32 @@
 //! The pools document that is suggested for a schema.
-ghost use Rattle.std.specs.Prelude.{◌≡◌, ◌≤◌, ◌<◌, ◌++◌, [], Some, None, IfOk, IfErr, OnOk, length, map, filter, take, not};
-ghost use Rattle.jtree.specs.Data.{depth, no_members as none};
+ghost use Rattle.std.specs.Prelude.{◌≡◌, ◌≤◌, ◌<◌, ◌++◌, IfOk, IfErr, OnOk, length, map, filter, take, not};
+ghost use Rattle.jtree.specs.Data.{depth};
+ghost use Rattle.jtree.specs.Data as tree;
 ghost use Rattle.jtree.specs.Reads.{most_bytes, most_depth};
 ghost use Rattle.jtree.specs.Text.{compact};
 ghost use Rattle.jtree.specs.View.{data_of};
-ghost use Rattle.schema.specs.Document.Texts.{is_among as is_among_of};
+ghost use Rattle.schema.specs.Document.Texts;
 ghost use Rattle.schema.specs.Nodes.View.{node_of};
 ghost use Rattle.plan.specs.Pools.Pools.{AreSmall};
 ghost use Rattle.plan.specs.Pools.Document.{HasForm, pools_of};
 ghost use Rattle.plan.specs.Pools.PlanFault.{HasGoodPaths};
 ghost use Rattle.suggest.specs.View.{trees_of, texts_at, wanted_of};
-ghost use Rattle.suggest.specs.Internal.Parts.{general_of as general_from, said_of, said_from, entries_of, document_from, with_lists_member, with_texts_member};
+ghost use Rattle.suggest.specs.Internal.Parts;
+ghost use Rattle.suggest.specs.Internal.Parts.{suggestions_of, suggestions_from, lists_there, entries_of, document_from, with_lists_member, with_texts_member};
 ghost use Rattle.suggest.specs.Suggested.Chosen.{chosen_names};
 ghost use Rattle.suggest.specs.Suggested.Document.{members_from, without_entry, usual_names, suggested_document};
-ghost use Rattle.suggest.specs.Suggested.Lists.{lists_at, names_at};
+ghost use Rattle.suggest.specs.Suggested.Varied.{both};
 ghost use Rattle.suggest.specs.Suggested.Fault.{IsSuggestFault};
 
 use crate::chosen::push_name;
-use crate::entry::{Entry, Listed, Said};
 use crate::fault::SuggestFault;
 use crate::general::{General, general_pools};
 use crate::judging::{can_be_read, check_varied, check_without, single};
-use crate::listed::Hints;
-use crate::lists::add_lists;
+use crate::leaf_values::Hints;
+use crate::lists::{Site, add_lists};
 use crate::members::{list, text_list, with, with_lists};
-use crate::varying::{Around, add_below, is_among};
+use crate::suggestions::{Entry, Suggestions};
+use crate::varying::{Variation, add_below, is_among};
 use crate::wanted::Wanted;
 use crate::without::objects_without;
 use jtree::{Members, Text, Tree};
@@ -43,11 +45,11 @@ use stored::Schema;
 ///
 /// `paths` lists what stands at each scalar or open node in the objects. Where nothing stands there that is stored, it lists the
 /// default, the example and two texts of the format, as far as they are stored there; without such a text some of the pools besides.
-/// Nothing of that kind is listed for a truth value or an `enum`. The first paths are listed, as many as the limits allow.
+/// Nothing of that kind is listed for a boolean or an `enum`. The first paths are listed, as many as the limits allow.
 ///
 /// Where paths are varied, all else is as it is in the one object, by `fixed` and `present`, and values are listed at the varied paths
 /// and below them alone. What stands there in the object comes first, and what would be listed without it besides, or, where that is
-/// nothing, some of the pools. Nothing is listed for a truth value or an `enum` there, so that all its values are candidates.
+/// nothing, some of the pools. Nothing is listed for a boolean or an `enum` there, so that all its values are candidates.
 ///
 /// A path of `without` has an empty list under `fixed`, and the objects are taken without what stands there. `raw` is the schema as
 /// written, of which formats and examples are read.
@@ -82,10 +84,10 @@ pub fn suggested_pools(
     check_without(alloc, schema, wanted)?;
     let beside = !wanted.varied.is_empty();
     let general = general_pools(alloc, root, limits, beside)?;
-    let said = said(alloc, &general, raw, root, wanted)?;
-    let document = document(alloc, &general, &said, wanted.without)?;
+    let suggestions = suggest(alloc, &general, raw, root, wanted)?;
+    let document = write_document(alloc, &general, &suggestions, wanted.without)?;
     drop(general);
-    drop(said);
+    drop(suggestions);
     if !can_be_read(alloc, &document, limits)? {
         drop(document);
         return Err(SuggestFault::TooLarge);
@@ -93,79 +95,86 @@ pub fn suggested_pools(
     Ok(document)
 }
 
-/// What the pools say, with these values for all scalars and open nodes.
-fn said(
+/// What is suggested at paths, with these values for all scalars and open nodes.
+fn suggest(
     alloc: Global,
     general: &General,
     raw: &Tree,
     root: &Node,
     wanted: &Wanted<'_>,
-) -> Result<Said, AllocError>
-    ensures { IfOk result (λ s. said_of s ≡ said_from (wanted_of wanted.now).varied (general_from general.now) (wanted_of wanted.now) (data_of raw.now) (node_of root.now)) }
+) -> Result<Suggestions, AllocError>
+    ensures { IfOk result (λ s. suggestions_of s ≡ suggestions_from (wanted_of wanted.now).varied (Parts.general_of general.now) (wanted_of wanted.now) (data_of raw.now) (node_of root.now)) }
 {
-    let mut said = Said {
-        listed: Listed {
-            lists: Vec::new(alloc),
-            names: Vec::new(alloc),
-        },
+    let mut suggestions = Suggestions {
+        lists: Vec::new(alloc),
+        names: Vec::new(alloc),
         fixed: Vec::new(alloc),
         present: Vec::new(alloc),
     };
+    let site = Site {
+        path: "",
+        hints: Hints {
+            default: None,
+            schema: Some(raw),
+        },
+    };
     if wanted.varied.is_empty() {
-        add_all(alloc, general, raw, root, wanted.objects, &mut said.listed)?;
+        add_all(
+            alloc,
+            general,
+            &site,
+            root,
+            wanted.objects,
+            &mut suggestions,
+        )?;
     } else {
-        let around = Around {
+        let variation = Variation {
             general,
             varied: wanted.varied,
         };
         let object = single(wanted.objects);
-        add_below(alloc, &around, root, object, Some(raw), "", &mut said)?;
+        add_below(alloc, &variation, &site, root, object, &mut suggestions)?;
     }
-    Ok(said)
+    Ok(suggestions)
 }
 
-/// Adds what is listed where all is free.
+/// Adds what is suggested where no path is varied.
 fn add_all(
     alloc: Global,
     general: &General,
-    raw: &Tree,
+    site: &Site<'_>,
     root: &Node,
     objects: &[Tree],
-    listed: &mut Listed,
+    suggestions: &mut Suggestions,
 ) -> Result<(), AllocError>
-    ensures lists { OnOk result (entries_of listed.new.lists.items ≡ entries_of listed.old.lists.items ++ lists_at (general_from general.now) (trees_of objects.now) None (Some (data_of raw.now)) [] (node_of root.now)) }
-    ensures names { OnOk result (listed.new.names.items ≡ listed.old.names.items ++ names_at (trees_of objects.now) (node_of root.now)) }
+    ensures { OnOk result (suggestions_of suggestions.new ≡ both (suggestions_of suggestions.old) (lists_there general.now site.now (node_of root.now) (trees_of objects.now))) }
 {
-    let mut standing = Vec::with_capacity(alloc, objects.len())?;
+    let mut values = Vec::with_capacity(alloc, objects.len())?;
     for object in objects {
-        standing.push(object)?;
+        values.push(object)?;
     }
-    let hints = Hints {
-        default: None,
-        schema: Some(raw),
-    };
-    add_lists(alloc, general, root, &standing, &hints, "", listed)
+    add_lists(alloc, general, site, root, &values, suggestions)
 }
 
-/// The document that says it.
-fn document(
+/// The document of these suggestions.
+fn write_document(
     alloc: Global,
     general: &General,
-    said: &Said,
+    suggestions: &Suggestions,
     without: &[&str],
 ) -> Result<Tree, AllocError>
-    ensures { IfOk result (λ d. data_of d ≡ document_from (general_from general.now) (texts_at without.now) (said_of said.now)) }
+    ensures { IfOk result (λ d. data_of d ≡ document_from (Parts.general_of general.now) (texts_at without.now) (suggestions_of suggestions.now)) }
 {
     let mut members = no_members(alloc);
     members = with(alloc, members, "any", list(alloc, &general.any)?)?;
-    let fixed = fixed_lists(alloc, &said.fixed, without)?;
+    let fixed = fixed_lists(alloc, &suggestions.fixed, without)?;
     members = with_object(alloc, members, "fixed", fixed)?;
     members = with(alloc, members, "integers", list(alloc, &general.integers)?)?;
-    let names = names(alloc, general.limits.names, &said.listed.names)?;
+    let names = with_usual_names(alloc, general.limits.names, &suggestions.names)?;
     members = with(alloc, members, "names", text_list(alloc, &names)?)?;
-    let lists = first_lists(alloc, general.limits.paths, &said.listed.lists)?;
+    let lists = first_lists(alloc, general.limits.paths, &suggestions.lists)?;
     members = with_object(alloc, members, "paths", lists)?;
-    let present = present(alloc, &said.present, without)?;
+    let present = kept_paths(alloc, &suggestions.present, without)?;
     members = with_texts(alloc, members, "present", &present)?;
     members = with(alloc, members, "strings", list(alloc, &general.strings)?)?;
     Ok(Tree::Object(members))
@@ -183,7 +192,7 @@ fn fixed_lists(alloc: Global, fixed: &[Entry], without: &[&str]) -> Result<Membe
 }
 
 fn no_members(alloc: Global) -> Members
-    ensures { result ≡ none }
+    ensures { result ≡ tree.no_members }
 {
     Members {
         members: Vec::new(alloc),
@@ -221,7 +230,7 @@ fn with_texts(
 }
 
 /// The names, and usual ones.
-fn names(alloc: Global, most: usize, found: &[Text]) -> Result<Vec<Text>, AllocError>
+fn with_usual_names(alloc: Global, most: usize, found: &[Text]) -> Result<Vec<Text>, AllocError>
     ensures { IfOk result (λ ts. ts.items ≡ chosen_names most (found.now ++ usual_names)) }
 {
     let mut names = Vec::new(alloc);
@@ -240,15 +249,15 @@ fn first_lists(alloc: Global, most: usize, lists: &[Entry]) -> Result<Members, A
     with_lists(alloc, no_members(alloc), &lists[..most.min(lists.len())])
 }
 
-/// The paths that are always there, but for those that never occur.
-fn present(alloc: Global, found: &[Text], without: &[&str]) -> Result<Vec<Text>, AllocError>
-    ensures { IfOk result (λ ts. ts.items ≡ filter (λ t. not (is_among_of t (texts_at without.now))) found.now) }
+/// The paths, but for those that never occur.
+fn kept_paths(alloc: Global, paths: &[Text], without: &[&str]) -> Result<Vec<Text>, AllocError>
+    ensures { IfOk result (λ ts. ts.items ≡ filter (λ t. not (Texts.is_among t (texts_at without.now))) paths.now) }
 {
-    let mut present = Vec::new(alloc);
-    for path in found {
+    let mut kept = Vec::new(alloc);
+    for path in paths {
         if !is_among(path.as_str(), without) {
-            present.push(path.copy(alloc)?)?;
+            kept.push(path.copy(alloc)?)?;
         }
     }
-    Ok(present)
+    Ok(kept)
 }

@@ -4,7 +4,8 @@ ghost use Rattle.schema.specs.Nodes.View.{node_of, validations_of};
 ghost use Rattle.plan.specs.Pools.Pools.{standard};
 ghost use Rattle.suggest.specs.Internal.Finding.{none_or_one};
 ghost use Rattle.suggest.specs.Suggested.Scalars.{in_scalar, in_branches, in_scalars, in_fields};
-ghost use Rattle.suggest.specs.Suggested.Values.{around as around_of, around_bounds, short_length, short_lengths, all_integers, all_lengths};
+ghost use Rattle.suggest.specs.Suggested.Values;
+ghost use Rattle.suggest.specs.Suggested.Values.{bounds_with_neighbours, short_length, short_lengths, all_integers, all_lengths};
 
 use crate::putting::put_in_order;
 use plan::PoolLimits;
@@ -43,7 +44,7 @@ pub(crate) fn find(alloc: Global, root: &Node) -> Result<Found, AllocError>
 /// Adds what is found at a node and below it.
 #[cycle(nodes)]
 fn add_node(found: &mut Found, node: &Node) -> Result<(), AllocError>
-    ensures integers { OnOk result (found.new.integers.items ≡ found.old.integers.items ++ in_scalars around_bounds (node_of node.now)) }
+    ensures integers { OnOk result (found.new.integers.items ≡ found.old.integers.items ++ in_scalars bounds_with_neighbours (node_of node.now)) }
     ensures lengths { OnOk result (found.new.lengths.items ≡ found.old.lengths.items ++ in_scalars short_lengths (node_of node.now)) }
 {
     match &node.sort {
@@ -57,7 +58,7 @@ fn add_node(found: &mut Found, node: &Node) -> Result<(), AllocError>
 
 #[cycle(nodes)]
 fn add_fields(found: &mut Found, fields: &Fields) -> Result<(), AllocError>
-    ensures integers { OnOk result (found.new.integers.items ≡ found.old.integers.items ++ in_fields around_bounds fields.now) }
+    ensures integers { OnOk result (found.new.integers.items ≡ found.old.integers.items ++ in_fields bounds_with_neighbours fields.now) }
     ensures lengths { OnOk result (found.new.lengths.items ≡ found.old.lengths.items ++ in_fields short_lengths fields.now) }
 {
     for field in &fields.fields {
@@ -69,7 +70,7 @@ fn add_fields(found: &mut Found, fields: &Fields) -> Result<(), AllocError>
 /// Adds what is found in the constraints of a scalar and in the branches of its junctors.
 #[cycle(validations)]
 fn add_scalar(found: &mut Found, validations: &Validations) -> Result<(), AllocError>
-    ensures integers { OnOk result (found.new.integers.items ≡ found.old.integers.items ++ in_scalar around_bounds (validations_of validations.now)) }
+    ensures integers { OnOk result (found.new.integers.items ≡ found.old.integers.items ++ in_scalar bounds_with_neighbours (validations_of validations.now)) }
     ensures lengths { OnOk result (found.new.lengths.items ≡ found.old.lengths.items ++ in_scalar short_lengths (validations_of validations.now)) }
 {
     add_constraints(found, &validations.constraints)?;
@@ -81,7 +82,7 @@ fn add_scalar(found: &mut Found, validations: &Validations) -> Result<(), AllocE
 
 #[cycle(validations)]
 fn add_branches(found: &mut Found, branches: &Branches) -> Result<(), AllocError>
-    ensures integers { OnOk result (found.new.integers.items ≡ found.old.integers.items ++ in_branches around_bounds branches.now) }
+    ensures integers { OnOk result (found.new.integers.items ≡ found.old.integers.items ++ in_branches bounds_with_neighbours branches.now) }
     ensures lengths { OnOk result (found.new.lengths.items ≡ found.old.lengths.items ++ in_branches short_lengths branches.now) }
 {
     for branch in &branches.branches {
@@ -91,18 +92,18 @@ fn add_branches(found: &mut Found, branches: &Branches) -> Result<(), AllocError
 }
 
 fn add_constraints(found: &mut Found, constraints: &Constraints) -> Result<(), AllocError>
-    ensures integers { OnOk result (found.new.integers.items ≡ found.old.integers.items ++ around_bounds constraints.now) }
+    ensures integers { OnOk result (found.new.integers.items ≡ found.old.integers.items ++ bounds_with_neighbours constraints.now) }
     ensures lengths { OnOk result (found.new.lengths.items ≡ found.old.lengths.items ++ short_lengths constraints.now) }
 {
-    push_around(&mut found.integers, constraints.minimum)?;
-    push_around(&mut found.integers, constraints.maximum)?;
+    push_with_neighbours(&mut found.integers, constraints.minimum)?;
+    push_with_neighbours(&mut found.integers, constraints.maximum)?;
     push_length(&mut found.lengths, constraints.lengths.least)?;
     push_length(&mut found.lengths, constraints.lengths.most)
 }
 
 /// Adds a bound with its neighbours, as far as they have 64 bits.
-fn push_around(integers: &mut Vec<i64>, bound: Option<i64>) -> Result<(), AllocError>
-    ensures { OnOk result (integers.new.items ≡ integers.old.items ++ around_of bound) }
+fn push_with_neighbours(integers: &mut Vec<i64>, bound: Option<i64>) -> Result<(), AllocError>
+    ensures { OnOk result (integers.new.items ≡ integers.old.items ++ Values.with_neighbours bound) }
 {
     if let Some(bound) = bound {
         push_some(integers, bound.checked_sub(1))?;

@@ -1,11 +1,11 @@
 //! Texts of formats.
 ghost use Rattle.std.specs.Prelude.{◌≡◌};
 ghost use Rattle.suggest.specs.View.{texts_at};
-ghost use Rattle.suggest.specs.Suggested.Formats.{texts_of_format as texts_of};
+ghost use Rattle.suggest.specs.Suggested.Formats;
 
 /// Two texts of the format, none of one that is not known (OpenAPI 3.0, `format`).
 pub(crate) fn texts_of_format(format: &str) -> &'static [&'static str]
-    ensures { texts_at result.now ≡ texts_of format.now }
+    ensures { texts_at result.now ≡ Formats.texts_of_format format.now }
 {
     match format {
         "date-time" => &["1970-01-01T00:00:00Z", "2030-12-31T23:59:59Z"],

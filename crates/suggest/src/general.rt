@@ -4,7 +4,7 @@ ghost use Rattle.jtree.specs.Data.{integer, text};
 ghost use Rattle.jtree.specs.View.{data_of};
 ghost use Rattle.schema.specs.Nodes.View.{node_of};
 ghost use Rattle.suggest.specs.View.{trees_of};
-ghost use Rattle.suggest.specs.Internal.Parts.{general_of as general_from, general_with};
+ghost use Rattle.suggest.specs.Internal.Parts.{general_of, general_with};
 ghost use Rattle.suggest.specs.Suggested.Document.{letters, suggested_any};
 
 use crate::finding::find;
@@ -31,22 +31,22 @@ pub(crate) fn general_pools(
     limits: PoolLimits,
     beside: bool,
 ) -> Result<General, AllocError>
-    ensures { IfOk result (λ g. general_from g ≡ general_with beside limits (node_of root.now)) }
+    ensures { IfOk result (λ g. general_of g ≡ general_with beside limits (node_of root.now)) }
 {
     let found = find(alloc, root)?;
-    let integers = integers(alloc, &found.integers)?;
-    let strings = strings(alloc, &found.lengths)?;
+    let integers = integer_trees(alloc, &found.integers)?;
+    let strings = letter_strings(alloc, &found.lengths)?;
     Ok(General {
         integers,
         strings,
-        any: any(alloc)?,
+        any: open_values(alloc)?,
         limits,
         beside,
     })
 }
 
 /// Values of open nodes, in the tree order.
-fn any(alloc: Global) -> Result<Vec<Tree>, AllocError>
+fn open_values(alloc: Global) -> Result<Vec<Tree>, AllocError>
     ensures { IfOk result (λ ts. trees_of ts.items ≡ suggested_any) }
 {
     let mut trees = Vec::with_capacity(alloc, 2)?;
@@ -64,7 +64,7 @@ pub(crate) fn text(alloc: Global, letters: &str) -> Result<Tree, AllocError>
 }
 
 /// These integers.
-fn integers(alloc: Global, integers: &[i64]) -> Result<Vec<Tree>, AllocError>
+fn integer_trees(alloc: Global, integers: &[i64]) -> Result<Vec<Tree>, AllocError>
     ensures { IfOk result (λ ts. trees_of ts.items ≡ map (λ z. integer z) integers.now) }
 {
     let mut trees = Vec::with_capacity(alloc, integers.len())?;
@@ -74,8 +74,8 @@ fn integers(alloc: Global, integers: &[i64]) -> Result<Vec<Tree>, AllocError>
     Ok(trees)
 }
 
-/// Texts of these lengths.
-fn strings(alloc: Global, lengths: &[usize]) -> Result<Vec<Tree>, AllocError>
+/// Strings of these lengths.
+fn letter_strings(alloc: Global, lengths: &[usize]) -> Result<Vec<Tree>, AllocError>
     ensures { IfOk result (λ ts. trees_of ts.items ≡ map (λ n. text (letters n)) lengths.now) }
 {
     let mut trees = Vec::with_capacity(alloc, lengths.len())?;

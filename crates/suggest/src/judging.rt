@@ -3,20 +3,18 @@ ghost use Rattle.std.specs.Prelude.{◌≡◌, ◌≤◌, ◌↔◌, IfOk, IfErr
 ghost use Rattle.jtree.specs.Data.{depth, items_depth, members_depth};
 ghost use Rattle.jtree.specs.View.{data_of};
 ghost use Rattle.suggest.specs.View.{trees_of, tree_at, wanted_of};
-ghost use Rattle.suggest.specs.Suggested.Document.{CanBeRead, single as single_of};
+ghost use Rattle.suggest.specs.Suggested.Document;
+ghost use Rattle.suggest.specs.Suggested.Document.{CanBeRead};
 ghost use Rattle.suggest.specs.Suggested.Fault.{AreVaried, AreFixable};
 ghost use Rattle.suggest.specs.Internal.Faults.{IsVariedFault, IsWithoutFault};
 
 use crate::fault::SuggestFault;
 use crate::varying::{Reach, reached};
 use crate::wanted::Wanted;
-use jtree::{Items, MOST_BYTES, Members, Tree};
+use jtree::{Items, MOST_BYTES, MOST_DEPTH, Members, Tree};
 use plan::{PoolLimits, is_fixable_path, oversized_pool};
 use std::alloc::{AllocError, Global};
 use stored::Schema;
-
-/// The deepest nesting that is read.
-const MOST_DEPTH: u32 = 127;
 
 /// Answers why the object cannot be varied at one of the paths, the first where it cannot.
 pub(crate) fn check_varied(
@@ -44,7 +42,7 @@ pub(crate) fn check_varied(
 
 /// The one object, where there is one alone.
 pub(crate) fn single(objects: &[Tree]) -> Option<&Tree>
-    ensures { tree_at result ≡ single_of (trees_of objects.now) }
+    ensures { tree_at result ≡ Document.single (trees_of objects.now) }
 {
     match objects {
         [object] => Some(object),
@@ -86,7 +84,7 @@ pub(crate) fn can_be_read(
 
 /// Whether the tree nests no deeper.
 #[cycle(shallow)]
-fn is_shallow(tree: &Tree, most: u32) -> bool
+fn is_shallow(tree: &Tree, most: usize) -> bool
     ensures { IsTrue result ↔ (depth (data_of tree.now) ≤ most) }
 {
     match tree {
@@ -97,7 +95,7 @@ fn is_shallow(tree: &Tree, most: u32) -> bool
 }
 
 #[cycle(shallow)]
-fn are_shallow(items: &Items, most: u32) -> bool
+fn are_shallow(items: &Items, most: usize) -> bool
     ensures { IsTrue result ↔ (items_depth items.now ≤ most) }
 {
     for item in &items.items {
@@ -109,7 +107,7 @@ fn are_shallow(items: &Items, most: u32) -> bool
 }
 
 #[cycle(shallow)]
-fn are_values_shallow(members: &Members, most: u32) -> bool
+fn are_values_shallow(members: &Members, most: usize) -> bool
     ensures { IsTrue result ↔ (members_depth members.now ≤ most) }
 {
     for member in &members.members {

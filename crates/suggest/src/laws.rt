@@ -8,9 +8,9 @@ ghost use Rattle.explain.specs.Paths.FieldPath.{FieldPath, place_of};
 ghost use Rattle.suggest.specs.Suggested.Reached.{IsBounded, IsWithinReach, HasCandidateLike};
 ghost use Rattle.suggest.specs.Suggested.FromObjects.{WhatStandsThereIsACandidate};
 ghost use Rattle.suggest.specs.Suggested.LeftOut.{NoSampleHasALeftOutPath};
-ghost use Rattle.suggest.specs.Suggested.Around.{SamplesAreTheObjectOutside, TheObjectIsASample};
+ghost use Rattle.suggest.specs.Suggested.VariedSamples.{SamplesAreTheObjectOutside, TheObjectIsASample};
 
-/// Where a scalar without `enum` and junctors accepts some truth value, some integer, or some text of at most 64 characters, a
+/// Where a scalar without `enum` and junctors accepts some boolean, some integer, or some string of at most 64 characters, a
 /// value of that kind is a candidate for its node over the suggested pools. For integers and texts this holds where the suggested
 /// document was not cut after 64 of them.
 pub fn suggested_values_reach_scalars()

@@ -15,18 +15,18 @@
 
 mod chosen;
 mod document;
-mod entry;
 mod fault;
 mod finding;
 mod formats;
 mod general;
 mod judging;
 pub mod laws;
-mod listed;
+mod leaf_values;
 mod lists;
 mod members;
 mod putting;
-mod standing;
+mod suggestions;
+mod values_below;
 mod varying;
 mod wanted;
 mod without;

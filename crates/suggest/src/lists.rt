@@ -1,81 +1,96 @@
 //! The lists of values at the paths below a node, and the names of the members of maps.
 ghost use Rattle.std.specs.Prelude.{◌≡◌, ◌++◌, OnOk, None, option_map, option_and_then};
-ghost use Rattle.jtree.specs.Path.{under as under_of};
+ghost use Rattle.jtree.specs.Path;
 ghost use Rattle.jtree.specs.View.{data_of};
 ghost use Rattle.schema.specs.Nodes.View.{node_of};
 ghost use Rattle.suggest.specs.View.{trees_of, trees_at, tree_at};
-ghost use Rattle.suggest.specs.Internal.Parts.{general_of, entries_of};
-ghost use Rattle.suggest.specs.Suggested.Lists.{entry_of, schema_of_field, lists_at, lists_of_fields, names_at, names_of_fields};
+ghost use Rattle.suggest.specs.Internal.Parts.{entries_of, suggestions_of, lists_there, lists_of_fields_there};
+ghost use Rattle.suggest.specs.Suggested.Lists.{entry_of, schema_of_field};
+ghost use Rattle.suggest.specs.Suggested.Varied.{both};
 
-use crate::entry::{Entry, Listed};
 use crate::general::General;
-use crate::listed::{Hints, listed_values, under};
-use crate::standing::{items_of, push_names, values_of, values_under};
+use crate::leaf_values::{Hints, leaf_values, under};
+use crate::suggestions::{Entry, Suggestions};
+use crate::values_below::{items_of, push_names, values_of, values_under};
 use explain::{Step, path_below};
 use jtree::{Text, Tree};
 use schema::{Field, Fields, Node, Sort};
 use std::alloc::{AllocError, Global};
 
-/// Adds what is listed at the node with this path and below it, where these values stand there.
+/// A path of a schema, and what the schema says of the values there.
+#[derive(Clone, Copy, Drop)]
+pub(crate) struct Site<'a> {
+    /// The text of the path.
+    pub path: &'a str,
+    pub hints: Hints<'a>,
+}
+
+/// Adds the lists and the names at the node of a site and below it, where objects have these values there.
 #[cycle(lists)]
 pub(crate) fn add_lists(
     alloc: Global,
     general: &General,
+    site: &Site<'_>,
     node: &Node,
-    standing: &[&Tree],
-    hints: &Hints<'_>,
-    path: &str,
-    listed: &mut Listed,
+    values: &[&Tree],
+    suggestions: &mut Suggestions,
 ) -> Result<(), AllocError>
-    ensures lists { OnOk result (entries_of listed.new.lists.items ≡ entries_of listed.old.lists.items ++ lists_at (general_of general.now) (trees_at standing.now) (tree_at hints.now.default) (tree_at hints.now.schema) path.now (node_of node.now)) }
-    ensures names { OnOk result (listed.new.names.items ≡ listed.old.names.items ++ names_at (trees_at standing.now) (node_of node.now)) }
+    ensures { OnOk result (suggestions_of suggestions.new ≡ both (suggestions_of suggestions.old) (lists_there general.now site.now (node_of node.now) (trees_at values.now))) }
 {
     match &node.sort {
         Sort::Object(object) => {
             let fields = &object.fields;
-            add_lists_of_fields(alloc, general, fields, standing, hints.schema, path, listed)
+            add_lists_of_fields(alloc, general, site, fields, values, suggestions)
         }
         Sort::Map(map) => {
-            push_names(alloc, standing, &mut listed.names)?;
-            let values = values_of(alloc, standing)?;
-            let hints = hints_below(hints.schema, "additionalProperties");
-            let below = path_below(alloc, path, Step::Value)?;
+            push_names(alloc, values, &mut suggestions.names)?;
+            let values = values_of(alloc, values)?;
+            let path = path_below(alloc, site.path, Step::Value)?;
+            let below = Site {
+                path: &path,
+                hints: hints_below(site.hints.schema, "additionalProperties"),
+            };
             let value: &Node = &map.value.node;
-            add_lists(alloc, general, value, &values, &hints, &below, listed)
+            add_lists(alloc, general, &below, value, &values, suggestions)
         }
         Sort::List(list) => {
-            let values = items_of(alloc, standing)?;
-            let hints = hints_below(hints.schema, "items");
-            let below = path_below(alloc, path, Step::Item)?;
+            let values = items_of(alloc, values)?;
+            let path = path_below(alloc, site.path, Step::Item)?;
+            let below = Site {
+                path: &path,
+                hints: hints_below(site.hints.schema, "items"),
+            };
             let item: &Node = &list.item.node;
-            add_lists(alloc, general, item, &values, &hints, &below, listed)
+            add_lists(alloc, general, &below, item, &values, suggestions)
         }
         Sort::Scalar(_) | Sort::Open => {
-            let values = listed_values(alloc, general, node, standing, hints)?;
-            push_entry(alloc, path, values, &mut listed.lists)
+            let values = leaf_values(alloc, general, node, values, &site.hints)?;
+            push_entry(alloc, site.path, values, &mut suggestions.lists)
         }
     }
 }
 
+/// Adds the lists and the names at these fields of the node of a site, and below them.
 #[cycle(lists)]
 fn add_lists_of_fields(
     alloc: Global,
     general: &General,
+    site: &Site<'_>,
     fields: &Fields,
-    standing: &[&Tree],
-    schema: Option<&Tree>,
-    path: &str,
-    listed: &mut Listed,
+    values: &[&Tree],
+    suggestions: &mut Suggestions,
 ) -> Result<(), AllocError>
-    ensures lists { OnOk result (entries_of listed.new.lists.items ≡ entries_of listed.old.lists.items ++ lists_of_fields (general_of general.now) (trees_at standing.now) (tree_at schema.entry) path.now fields.now) }
-    ensures names { OnOk result (listed.new.names.items ≡ listed.old.names.items ++ names_of_fields (trees_at standing.now) fields.now) }
+    ensures { OnOk result (suggestions_of suggestions.new ≡ both (suggestions_of suggestions.old) (lists_of_fields_there general.now site.now fields.now (trees_at values.now))) }
 {
     for field in &fields.fields {
         let name = field.name.as_str();
-        let values = values_under(alloc, name, standing)?;
-        let hints = field_hints(field, schema);
-        let below = path_below(alloc, path, Step::Field(name))?;
-        add_lists(alloc, general, &field.node, &values, &hints, &below, listed)?;
+        let values = values_under(alloc, name, values)?;
+        let path = path_below(alloc, site.path, Step::Field(name))?;
+        let below = Site {
+            path: &path,
+            hints: field_hints(field, site.hints.schema),
+        };
+        add_lists(alloc, general, &below, &field.node, &values, suggestions)?;
     }
     Ok(())
 }
@@ -94,7 +109,7 @@ pub(crate) fn field_hints<'a>(field: &'a Field, schema: Option<&'a Tree>) -> Hin
 /// What the schema says of the values of items or of members.
 fn hints_below<'a>(schema: Option<&'a Tree>, keyword: &str) -> Hints<'a>
     ensures default { tree_at result.default ≡ None }
-    ensures schema { tree_at result.schema ≡ option_and_then (λ s. under_of s keyword.now) (tree_at schema.entry) }
+    ensures schema { tree_at result.schema ≡ option_and_then (λ s. Path.under s keyword.now) (tree_at schema.entry) }
 {
     Hints {
         default: None,

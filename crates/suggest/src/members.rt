@@ -1,15 +1,15 @@
 //! Members of documents, each put where its name belongs.
 ghost use Rattle.std.specs.Prelude.{◌≡◌, ◌≤◌, ◌<◌, IfOk, IfErr, length, map, slice_set};
 ghost use Rattle.std.specs.List.{fold, insert};
-ghost use Rattle.jtree.specs.Data.{text as text_of, list as list_of};
+ghost use Rattle.jtree.specs.Data;
 ghost use Rattle.jtree.specs.View.{data_of, members_of};
-ghost use Rattle.jtree.specs.declared.value.Member.{Member as MemberOf};
+ghost use Rattle.jtree.specs.declared.value.Member as MemberSpec;
 ghost use Rattle.suggest.specs.View.{trees_of};
 ghost use Rattle.suggest.specs.Internal.Parts.{entries_of};
 ghost use Rattle.suggest.specs.Suggested.Document.{items_of, with_member, with_entry};
 
 use crate::chosen::copy_of;
-use crate::entry::Entry;
+use crate::suggestions::Entry;
 use jtree::{Items, Member, Members, Text, Tree};
 use std::alloc::{AllocError, Global};
 use std::cmp::Ordering;
@@ -48,8 +48,8 @@ fn put(members: Vec<Member>, member: Member) -> Result<Vec<Member>, AllocError>
 
 /// Where the member of this name is, or, as `Err`, where it belongs.
 fn place_of(members: &[Member], name: &str) -> Result<usize, usize>
-    ensures found { IfOk result (λ at. (at < length members.now) × ((m : MemberOf) → m.name ≡ name.now → with_member m.name (data_of m.tree) (members_of members.now) ≡ members_of (slice_set members.now at m))) }
-    ensures missing { IfErr result (λ at. (at ≤ length members.now) × ((m : MemberOf) → m.name ≡ name.now → with_member m.name (data_of m.tree) (members_of members.now) ≡ members_of (insert members.now at m))) }
+    ensures found { IfOk result (λ at. (at < length members.now) × ((m : MemberSpec.Member) → m.name ≡ name.now → with_member m.name (data_of m.tree) (members_of members.now) ≡ members_of (slice_set members.now at m))) }
+    ensures missing { IfErr result (λ at. (at ≤ length members.now) × ((m : MemberSpec.Member) → m.name ≡ name.now → with_member m.name (data_of m.tree) (members_of members.now) ≡ members_of (insert members.now at m))) }
 {
     for (at, member) in members.iter().enumerate() {
         match name.cmp(member.name.as_str()) {
@@ -79,7 +79,7 @@ pub(crate) fn with_lists(
 
 /// A list of copies of these trees.
 pub(crate) fn list(alloc: Global, trees: &[Tree]) -> Result<Tree, AllocError>
-    ensures { IfOk result (λ t. data_of t ≡ list_of (items_of (trees_of trees.now))) }
+    ensures { IfOk result (λ t. data_of t ≡ Data.list (items_of (trees_of trees.now))) }
 {
     let mut items = Vec::with_capacity(alloc, trees.len())?;
     for tree in trees {
@@ -91,7 +91,7 @@ pub(crate) fn list(alloc: Global, trees: &[Tree]) -> Result<Tree, AllocError>
 
 /// A list of these texts.
 pub(crate) fn text_list(alloc: Global, texts: &[Text]) -> Result<Tree, AllocError>
-    ensures { IfOk result (λ t. data_of t ≡ list_of (items_of (map (λ t. text_of t) texts.now))) }
+    ensures { IfOk result (λ t. data_of t ≡ Data.list (items_of (map (λ t. Data.text t) texts.now))) }
 {
     let mut items = Vec::with_capacity(alloc, texts.len())?;
     for text in texts {

@@ -1,158 +1,142 @@
-//! What pools say so that samples are an object varied at some paths.
-ghost use Rattle.std.specs.Prelude.{◌≡◌, ◌++◌, IfOk, OnOk, codes};
+//! What is suggested so that samples are an object varied at some paths.
+ghost use Rattle.std.specs.Prelude.{◌≡◌, IfOk, OnOk, codes};
+ghost use Rattle.std.specs.Option.{option_to_list};
 ghost use Rattle.schema.specs.Nodes.View.{node_of};
-ghost use Rattle.schema.specs.Document.Texts.{is_among as is_among_of};
+ghost use Rattle.schema.specs.Document.Texts;
 ghost use Rattle.suggest.specs.View.{texts_at, tree_at};
-ghost use Rattle.suggest.specs.Internal.Parts.{general_of, entries_of};
-ghost use Rattle.suggest.specs.Suggested.Varied.{begins_with, goes_on as goes_on_of, leads_on as leads_on_of, free, kept, said_at, said_below, said_of_fields, there_in as there_in_of, reach as reach_of, reach_by_fields as reach_by_fields_of};
+ghost use Rattle.suggest.specs.Internal.Parts.{suggestions_of, lists_there, varied_at, varied_below, varied_fields};
+ghost use Rattle.suggest.specs.Suggested.Varied.{both, as_in_object, always_present, begins_with};
+ghost use Rattle.suggest.specs.Suggested.Varied;
 
 use crate::chosen::copy_of;
-use crate::entry::{Entry, Said};
 use crate::general::General;
-use crate::listed::{Hints, under};
-use crate::lists::{add_lists, field_hints};
+use crate::leaf_values::under;
+use crate::lists::{Site, add_lists, field_hints};
+use crate::suggestions::{Entry, Suggestions};
 use explain::{Step, path_below};
 use jtree::{Text, Tree};
 use schema::{Fields, Node, Sort};
 use std::alloc::{AllocError, Global};
 
-/// What is said of varied paths.
+/// The pools, and the texts of the varied paths.
 #[derive(Clone, Copy, Drop)]
-pub(crate) struct Around<'a> {
+pub(crate) struct Variation<'a> {
     pub general: &'a General,
-    /// The texts of the varied paths.
     pub varied: &'a [&'a str],
 }
 
-/// Adds what is said at the node with this path and below it, where this stands there in the object.
+/// Adds what is suggested at the node of a site and below it, where the object has this value there.
 #[cycle(varied)]
 fn add_at(
     alloc: Global,
-    around: &Around<'_>,
+    variation: &Variation<'_>,
+    site: &Site<'_>,
     node: &Node,
     object: Option<&Tree>,
-    hints: &Hints<'_>,
-    path: &str,
-    said: &mut Said,
+    suggestions: &mut Suggestions,
 ) -> Result<(), AllocError>
-    ensures lists { OnOk result (entries_of said.new.listed.lists.items ≡ entries_of said.old.listed.lists.items ++ (said_at (general_of around.now.general.now) (texts_at around.now.varied.now) (tree_at object.entry) (tree_at hints.now.default) (tree_at hints.now.schema) path.now (node_of node.now)).lists) }
-    ensures names { OnOk result (said.new.listed.names.items ≡ said.old.listed.names.items ++ (said_at (general_of around.now.general.now) (texts_at around.now.varied.now) (tree_at object.entry) (tree_at hints.now.default) (tree_at hints.now.schema) path.now (node_of node.now)).names) }
-    ensures fixed { OnOk result (entries_of said.new.fixed.items ≡ entries_of said.old.fixed.items ++ (said_at (general_of around.now.general.now) (texts_at around.now.varied.now) (tree_at object.entry) (tree_at hints.now.default) (tree_at hints.now.schema) path.now (node_of node.now)).fixed) }
-    ensures present { OnOk result (said.new.present.items ≡ said.old.present.items ++ (said_at (general_of around.now.general.now) (texts_at around.now.varied.now) (tree_at object.entry) (tree_at hints.now.default) (tree_at hints.now.schema) path.now (node_of node.now)).present) }
+    ensures { OnOk result (suggestions_of suggestions.new ≡ both (suggestions_of suggestions.old) (varied_at variation.now site.now (node_of node.now) (tree_at object.entry))) }
 {
-    if is_among(path, around.varied) {
-        return add_free(alloc, around.general, node, object, hints, path, said);
+    if is_among(site.path, variation.varied) {
+        return add_varied(alloc, variation.general, site, node, object, suggestions);
     }
-    if !leads_on(path, around.varied) {
-        return add_kept(alloc, path, object, said);
+    if !leads_on(site.path, variation.varied) {
+        return add_as_in_object(alloc, site.path, object, suggestions);
     }
-    said.present.push(Text::from_str(alloc, path)?)?;
-    add_below(alloc, around, node, object, hints.schema, path, said)
+    add_present(alloc, site.path, suggestions)?;
+    add_below(alloc, variation, site, node, object, suggestions)
 }
 
-/// Adds what is said below the node.
+/// Adds what is suggested below the node of a site.
 #[cycle(varied)]
 pub(crate) fn add_below(
     alloc: Global,
-    around: &Around<'_>,
+    variation: &Variation<'_>,
+    site: &Site<'_>,
     node: &Node,
     object: Option<&Tree>,
-    schema: Option<&Tree>,
-    path: &str,
-    said: &mut Said,
+    suggestions: &mut Suggestions,
 ) -> Result<(), AllocError>
-    ensures lists { OnOk result (entries_of said.new.listed.lists.items ≡ entries_of said.old.listed.lists.items ++ (said_below (general_of around.now.general.now) (texts_at around.now.varied.now) (tree_at object.entry) (tree_at schema.entry) path.now (node_of node.now)).lists) }
-    ensures names { OnOk result (said.new.listed.names.items ≡ said.old.listed.names.items ++ (said_below (general_of around.now.general.now) (texts_at around.now.varied.now) (tree_at object.entry) (tree_at schema.entry) path.now (node_of node.now)).names) }
-    ensures fixed { OnOk result (entries_of said.new.fixed.items ≡ entries_of said.old.fixed.items ++ (said_below (general_of around.now.general.now) (texts_at around.now.varied.now) (tree_at object.entry) (tree_at schema.entry) path.now (node_of node.now)).fixed) }
-    ensures present { OnOk result (said.new.present.items ≡ said.old.present.items ++ (said_below (general_of around.now.general.now) (texts_at around.now.varied.now) (tree_at object.entry) (tree_at schema.entry) path.now (node_of node.now)).present) }
+    ensures { OnOk result (suggestions_of suggestions.new ≡ both (suggestions_of suggestions.old) (varied_below variation.now site.now (node_of node.now) (tree_at object.entry))) }
 {
     match &node.sort {
-        Sort::Object(fields) => {
-            let fields = &fields.fields;
-            add_fields(alloc, around, fields, object, schema, path, said)
-        }
+        Sort::Object(node) => add_fields(alloc, variation, site, &node.fields, object, suggestions),
         _ => Ok(()),
     }
 }
 
+/// Adds what is suggested at these fields of the node of a site, and below them.
 #[cycle(varied)]
 fn add_fields(
     alloc: Global,
-    around: &Around<'_>,
+    variation: &Variation<'_>,
+    site: &Site<'_>,
     fields: &Fields,
     object: Option<&Tree>,
-    schema: Option<&Tree>,
-    path: &str,
-    said: &mut Said,
+    suggestions: &mut Suggestions,
 ) -> Result<(), AllocError>
-    ensures lists { OnOk result (entries_of said.new.listed.lists.items ≡ entries_of said.old.listed.lists.items ++ (said_of_fields (general_of around.now.general.now) (texts_at around.now.varied.now) (tree_at object.entry) (tree_at schema.entry) path.now fields.now).lists) }
-    ensures names { OnOk result (said.new.listed.names.items ≡ said.old.listed.names.items ++ (said_of_fields (general_of around.now.general.now) (texts_at around.now.varied.now) (tree_at object.entry) (tree_at schema.entry) path.now fields.now).names) }
-    ensures fixed { OnOk result (entries_of said.new.fixed.items ≡ entries_of said.old.fixed.items ++ (said_of_fields (general_of around.now.general.now) (texts_at around.now.varied.now) (tree_at object.entry) (tree_at schema.entry) path.now fields.now).fixed) }
-    ensures present { OnOk result (said.new.present.items ≡ said.old.present.items ++ (said_of_fields (general_of around.now.general.now) (texts_at around.now.varied.now) (tree_at object.entry) (tree_at schema.entry) path.now fields.now).present) }
+    ensures { OnOk result (suggestions_of suggestions.new ≡ both (suggestions_of suggestions.old) (varied_fields variation.now site.now fields.now (tree_at object.entry))) }
 {
     for field in &fields.fields {
         let name = field.name.as_str();
-        let value = under(object, name);
-        let hints = field_hints(field, schema);
-        let below = path_below(alloc, path, Step::Field(name))?;
-        add_at(alloc, around, &field.node, value, &hints, &below, said)?;
+        let path = path_below(alloc, site.path, Step::Field(name))?;
+        let below = Site {
+            path: &path,
+            hints: field_hints(field, site.hints.schema),
+        };
+        let object = under(object, name);
+        add_at(alloc, variation, &below, &field.node, object, suggestions)?;
     }
     Ok(())
 }
 
-/// Adds what is said of a node at which all is free.
-pub(crate) fn add_free(
+/// Adds what is suggested at a varied path.
+fn add_varied(
     alloc: Global,
     general: &General,
+    site: &Site<'_>,
     node: &Node,
     object: Option<&Tree>,
-    hints: &Hints<'_>,
-    path: &str,
-    said: &mut Said,
+    suggestions: &mut Suggestions,
 ) -> Result<(), AllocError>
-    ensures lists { OnOk result (entries_of said.new.listed.lists.items ≡ entries_of said.old.listed.lists.items ++ (free (general_of general.now) (tree_at object.entry) (tree_at hints.now.default) (tree_at hints.now.schema) path.now (node_of node.now)).lists) }
-    ensures names { OnOk result (said.new.listed.names.items ≡ said.old.listed.names.items ++ (free (general_of general.now) (tree_at object.entry) (tree_at hints.now.default) (tree_at hints.now.schema) path.now (node_of node.now)).names) }
-    ensures fixed { OnOk result (said.new.fixed.items ≡ said.old.fixed.items) }
-    ensures present { OnOk result (said.new.present.items ≡ said.old.present.items) }
+    ensures { OnOk result (suggestions_of suggestions.new ≡ both (suggestions_of suggestions.old) (lists_there general.now site.now (node_of node.now) (option_to_list (tree_at object.entry)))) }
 {
     match object {
-        Some(value) => add_lists(
-            alloc,
-            general,
-            node,
-            &[value],
-            hints,
-            path,
-            &mut said.listed,
-        ),
-        None => add_lists(alloc, general, node, &[], hints, path, &mut said.listed),
+        Some(value) => add_lists(alloc, general, site, node, &[value], suggestions),
+        None => add_lists(alloc, general, site, node, &[], suggestions),
     }
 }
 
 /// Adds that what has this path is as it is in the object.
-fn add_kept(
+fn add_as_in_object(
     alloc: Global,
     path: &str,
     object: Option<&Tree>,
-    said: &mut Said,
+    suggestions: &mut Suggestions,
 ) -> Result<(), AllocError>
-    ensures lists { OnOk result (said.new.listed ≡ said.old.listed) }
-    ensures fixed { OnOk result (entries_of said.new.fixed.items ≡ entries_of said.old.fixed.items ++ (kept path.now (tree_at object.entry)).fixed) }
-    ensures present { OnOk result (said.new.present.items ≡ said.old.present.items ++ (kept path.now (tree_at object.entry)).present) }
+    ensures { OnOk result (suggestions_of suggestions.new ≡ both (suggestions_of suggestions.old) (as_in_object path.now (tree_at object.entry))) }
 {
     let mut values = Vec::new(alloc);
     if let Some(value) = object {
-        said.present.push(Text::from_str(alloc, path)?)?;
+        add_present(alloc, path, suggestions)?;
         values.push(copy_of(alloc, value)?)?;
     }
     let path = Text::from_str(alloc, path)?;
-    said.fixed.push(Entry { path, values })?;
+    suggestions.fixed.push(Entry { path, values })?;
+    Ok(())
+}
+
+/// Adds that there is always something at this path.
+fn add_present(alloc: Global, path: &str, suggestions: &mut Suggestions) -> Result<(), AllocError>
+    ensures { OnOk result (suggestions_of suggestions.new ≡ both (suggestions_of suggestions.old) (always_present path.now)) }
+{
+    suggestions.present.push(Text::from_str(alloc, path)?)?;
     Ok(())
 }
 
 /// Whether a text is one of these.
 pub(crate) fn is_among(text: &str, texts: &[&str]) -> bool
-    ensures { result ≡ is_among_of text.now (texts_at texts.now) }
+    ensures { result ≡ Texts.is_among text.now (texts_at texts.now) }
 {
     for other in texts {
         if text == *other {
@@ -164,7 +148,7 @@ pub(crate) fn is_among(text: &str, texts: &[&str]) -> bool
 
 /// Whether the path of one of the texts goes on from this one.
 fn leads_on(path: &str, texts: &[&str]) -> bool
-    ensures { result ≡ leads_on_of path.now (texts_at texts.now) }
+    ensures { result ≡ Varied.leads_on path.now (texts_at texts.now) }
 {
     for text in texts {
         if goes_on(path, text) {
@@ -176,7 +160,7 @@ fn leads_on(path: &str, texts: &[&str]) -> bool
 
 /// Whether the path of the text goes on from this one.
 fn goes_on(path: &str, text: &str) -> bool
-    ensures { result ≡ goes_on_of path.now text.now }
+    ensures { result ≡ Varied.goes_on path.now text.now }
 {
     match text.as_bytes().strip_prefix(path.as_bytes()) {
         Some(rest) => begins_with_slash(rest),
@@ -213,7 +197,7 @@ pub(crate) fn reached(
     path: &str,
     node: &Node,
 ) -> Result<Reach, AllocError>
-    ensures { IfOk result (λ r. r ≡ reach_of text.now (tree_at object.entry) path.now (node_of node.now)) }
+    ensures { IfOk result (λ r. r ≡ Varied.reach text.now (tree_at object.entry) path.now (node_of node.now)) }
 {
     match &node.sort {
         Sort::Object(fields) => reach_by_fields(alloc, text, object, path, &fields.fields),
@@ -229,7 +213,7 @@ fn reach_by_fields(
     path: &str,
     fields: &Fields,
 ) -> Result<Reach, AllocError>
-    ensures { IfOk result (λ r. r ≡ reach_by_fields_of text.now (tree_at object.entry) path.now fields.now) }
+    ensures { IfOk result (λ r. r ≡ Varied.reach_by_fields text.now (tree_at object.entry) path.now fields.now) }
 {
     for field in &fields.fields {
         let name = field.name.as_str();
@@ -246,7 +230,7 @@ fn reach_by_fields(
 
 /// Whether the object has an object to which the field belongs.
 fn there_in(object: Option<&Tree>) -> Reach
-    ensures { result ≡ there_in_of (tree_at object.entry) }
+    ensures { result ≡ Varied.there_in (tree_at object.entry) }
 {
     match object {
         Some(Tree::Object(_)) => Reach::There,

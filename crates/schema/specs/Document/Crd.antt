@@ -21,7 +21,7 @@ pub record IsHead (d : Data) (group kind : List ℕ) (versions : Items) : Type 0
   pub kind_given : kind ≢ []
   pub versions_are : under2 d (codes "spec") (codes "versions") ≡ Some (list versions)
 
--- each version is an object with a text `name`, and no name occurs twice
+-- each version is an object with a string `name`, and no name occurs twice
 pub record AreVersions (versions : Items) : Type 0 where
   pub named : (i : ℕ) (v : Data) → item_at i versions ≡ Some v → (s : List ℕ) × IsNamed v s
   pub distinct : (i j : ℕ) (v w : Data) (s : List ℕ) → item_at i versions ≡ Some v → item_at j versions ≡ Some w → IsNamed v s → IsNamed w s → i ≡ j

@@ -11,26 +11,26 @@ use Rattle.schema.specs.Document.Texts.{is_among}
 
 pub data Form : Type 0 where
   any_tree : Form
-  text : Form
-  truth_value : Form
+  string : Form
+  boolean : Form
   -- an object, each of whose members is an object
   object_of_objects : Form
-  truth_value_or_object : Form
+  boolean_or_object : Form
   object : Form
   -- a list of at least one object, with nothing else in it
   some_objects : Form
-  -- a list of texts
-  texts : Form
+  -- a list of strings
+  strings : Form
   list : Form
   integer : Form
   -- an integer, 0 or more
   count : Form
 
-abbrev pub text_keywords : List (List ℕ)
-text_keywords = codes "type" ∷ codes "description" ∷ codes "title" ∷ codes "format" ∷ codes "x-kubernetes-list-type" ∷ codes "x-kubernetes-map-type" ∷ []
+abbrev pub string_keywords : List (List ℕ)
+string_keywords = codes "type" ∷ codes "description" ∷ codes "title" ∷ codes "format" ∷ codes "x-kubernetes-list-type" ∷ codes "x-kubernetes-map-type" ∷ []
 
-abbrev pub truth_value_keywords : List (List ℕ)
-truth_value_keywords = codes "nullable" ∷ codes "uniqueItems" ∷ codes "exclusiveMinimum" ∷ codes "exclusiveMaximum"
+abbrev pub boolean_keywords : List (List ℕ)
+boolean_keywords = codes "nullable" ∷ codes "uniqueItems" ∷ codes "exclusiveMinimum" ∷ codes "exclusiveMaximum"
     ∷ codes "x-kubernetes-int-or-string" ∷ codes "x-kubernetes-preserve-unknown-fields" ∷ []
 
 abbrev pub object_keywords : List (List ℕ)
@@ -39,8 +39,8 @@ object_keywords = codes "items" ∷ codes "not" ∷ []
 abbrev pub some_objects_keywords : List (List ℕ)
 some_objects_keywords = codes "allOf" ∷ codes "anyOf" ∷ codes "oneOf" ∷ []
 
-abbrev pub texts_keywords : List (List ℕ)
-texts_keywords = codes "required" ∷ codes "x-kubernetes-list-map-keys" ∷ []
+abbrev pub strings_keywords : List (List ℕ)
+strings_keywords = codes "required" ∷ codes "x-kubernetes-list-map-keys" ∷ []
 
 abbrev pub integer_keywords : List (List ℕ)
 integer_keywords = codes "minimum" ∷ codes "maximum" ∷ []
@@ -51,13 +51,13 @@ count_keywords = codes "minLength" ∷ codes "maxLength" ∷ codes "minItems" �
 -- the form of a keyword
 abbrev pub form_of : List ℕ → Form
 form_of k =
-    if is_among k text_keywords then text else
-    if is_among k truth_value_keywords then truth_value else
+    if is_among k string_keywords then string else
+    if is_among k boolean_keywords then boolean else
     if bytes_eq k (codes "properties") then object_of_objects else
-    if bytes_eq k (codes "additionalProperties") then truth_value_or_object else
+    if bytes_eq k (codes "additionalProperties") then boolean_or_object else
     if is_among k object_keywords then object else
     if is_among k some_objects_keywords then some_objects else
-    if is_among k texts_keywords then texts else
+    if is_among k strings_keywords then strings else
     if bytes_eq k (codes "enum") then list else
     if is_among k integer_keywords then integer else
     if is_among k count_keywords then count else any_tree
@@ -65,10 +65,10 @@ form_of k =
 -- the form of what a step leads to, from a value that has to have a form: an object is a schema, with its keywords
 abbrev pub form_below : Form → Step → Form
 form_below object (name k) = form_of k
-form_below truth_value_or_object (name k) = form_of k
+form_below boolean_or_object (name k) = form_of k
 form_below object_of_objects (name k) = object
 form_below some_objects (index i) = object
-form_below texts (index i) = text
+form_below strings (index i) = string
 form_below f s = any_tree
 
 -- The form at a path depends on the path alone. Inside a value of a wrong kind any tree will do, so that value is the break.
@@ -87,13 +87,13 @@ is_count _ = false
 -- the value itself has the form, whatever its parts are
 abbrev pub has_form : Form → Data → Bool
 has_form any_tree d = true
-has_form text d = is_text d
-has_form truth_value d = is_boolean d
+has_form string d = is_text d
+has_form boolean d = is_boolean d
 has_form object_of_objects d = is_object d
-has_form truth_value_or_object d = is_boolean d || is_object d
+has_form boolean_or_object d = is_boolean d || is_object d
 has_form object d = is_object d
 has_form some_objects d = is_some_list d
-has_form texts d = is_list d
+has_form strings d = is_list d
 has_form list d = is_list d
 has_form integer d = is_integer d
 has_form count d = is_count d

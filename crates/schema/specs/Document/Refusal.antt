@@ -5,7 +5,7 @@ use Rattle.jtree.specs.Path.{Path, part_at, under, under2, under3}
 use Rattle.jtree.specs.Pointer.{pointer}
 use Rattle.jtree.specs.View.{data_of}
 use Rattle.schema.specs.Document.Crd.{HasHeader, AreVersions, IsCrd, IsVersion, IsSchemaOf}
-use Rattle.schema.specs.Document.Forms.{Form, any_tree, text as a_text, truth_value, object_of_objects, truth_value_or_object, object, some_objects, texts, list as a_list, integer, count, form_at, HasForms, IsFormFault}
+use Rattle.schema.specs.Document.Forms.{Form, any_tree, string, boolean, object_of_objects, boolean_or_object, object, some_objects, strings, list as a_list, integer, count, form_at, HasForms, IsFormFault}
 use Rattle.schema.specs.Document.Limits.{IsLimitFault, PassesBy}
 use Rattle.schema.specs.Document.ReadFault.{HasSchema}
 use Rattle.schema.specs.declared.fault.SFault.{SFault}
@@ -22,11 +22,11 @@ use Rattle.schema.specs.declared.refusal.Refusal.TheVariants.{NotACrd, NoSuchVer
 
 -- ---- the definition
 
--- a text that is not empty
+-- a string that is not empty
 abbrev pub IsGiven : Option Data → List ℕ → Type 0
 IsGiven o s = (o ≡ Some (text s)) × (s ≢ [])
 
--- the texts at `spec.group` and `spec.names.kind`
+-- the strings at `spec.group` and `spec.names.kind`
 abbrev pub IsGroup : Data → List ℕ → Type 0
 IsGroup d s = IsGiven (under2 d (codes "spec") (codes "group")) s
 
@@ -62,13 +62,13 @@ pub record AreOthers (d : Data) (version : List ℕ) (versions : Items) : Type 0
 
 abbrev pub form_view : CodeForm → Form
 form_view code.AnyTree = any_tree
-form_view code.Text = a_text
-form_view code.TruthValue = truth_value
+form_view code.String = string
+form_view code.Boolean = boolean
 form_view code.ObjectOfObjects = object_of_objects
-form_view code.TruthValueOrObject = truth_value_or_object
+form_view code.BooleanOrObject = boolean_or_object
 form_view code.Object = object
 form_view code.SomeObjects = some_objects
-form_view code.Texts = texts
+form_view code.Strings = strings
 form_view code.List = a_list
 form_view code.Integer = integer
 form_view code.Count = count

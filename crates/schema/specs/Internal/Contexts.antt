@@ -5,7 +5,7 @@ use Rattle.jtree.specs.Path.{under, part_at}
 use Rattle.schema.specs.Document.Places.{Step, all_of, any_of, Place, step_path, schema_by, schema_at, is_junctor, is_inside, core}
 use Rattle.schema.specs.Internal.Events.{Junctor, all, any, one, Part, a_schema, properties, branches, no_schema}
 use Rattle.schema.specs.Rules.Broken.{IsPatternBranch}
-use Rattle.schema.specs.declared.listing.Context.{Context}
+use Rattle.schema.specs.declared.context.Context.{Context}
 
 -- steps into an `anyOf`, and into the first entry of an `allOf`
 abbrev pub is_any : Step → Bool

@@ -27,12 +27,12 @@ sort_kind (map N type bounds) = kinds.map
 sort_kind (list N type keys bounds) = kinds.list
 sort_kind open_ = kinds.open_
 
--- a list is atomic where nothing else is said (`x-kubernetes-list-type`); another text counts as absent, and V10 leaves none
+-- a list is atomic where nothing else is said (`x-kubernetes-list-type`); another string counts as absent, and V10 leaves none
 abbrev pub list_type_named : Option (List ℕ) → ListType
 list_type_named None = list_type.Atomic
 list_type_named (Some t) = if bytes_eq t (codes "set") then list_type.Set else if bytes_eq t (codes "map") then list_type.Map else list_type.Atomic
 
--- an object or a map is granular where nothing else is said (`x-kubernetes-map-type`); V13 leaves no other text
+-- an object or a map is granular where nothing else is said (`x-kubernetes-map-type`); V13 leaves no other string
 abbrev pub map_type_named : Option (List ℕ) → MapType
 map_type_named None = map_type.Granular
 map_type_named (Some t) = if bytes_eq t (codes "atomic") then map_type.Atomic else map_type.Granular

@@ -39,7 +39,7 @@ abbrev pub items_in : Option Data → Items
 items_in (Some (list ds)) = ds
 items_in _ = no_items
 
--- the texts of a list
+-- the strings of a list
 abbrev pub texts_of : Items → List (List ℕ)
 texts_of no_items = []
 texts_of (item (text s) ds) = s ∷ texts_of ds
@@ -77,7 +77,7 @@ abbrev pub is_text_among : List (List ℕ) → Option Data → Bool
 is_text_among values (Some (text t)) = is_among t values
 is_text_among values _ = false
 
--- the keyword is there, and is one of these texts
+-- the keyword is there, and is one of these strings
 abbrev pub has_text_among : List (List ℕ) → Data → List ℕ → Bool
 has_text_among values s k = is_text_among values (under s k)
 

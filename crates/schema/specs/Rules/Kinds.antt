@@ -31,7 +31,7 @@ abbrev pub object_kind : Option Data → Kind
 object_kind None = object
 object_kind (Some d) = if is_object d then map else object
 
--- by the text of `type`
+-- by the string of `type`
 abbrev pub named_kind : Data → List ℕ → Option Kind
 named_kind s t =
     if bytes_eq t [] then untyped_kind s else

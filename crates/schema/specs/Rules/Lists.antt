@@ -16,11 +16,11 @@ map_types = codes "granular" ∷ codes "atomic" ∷ []
 abbrev pub is_of_list_type : List ℕ → Data → Bool
 is_of_list_type t s = has_text_among (t ∷ []) s (codes "x-kubernetes-list-type")
 
--- a list type is at a place that is no list, or is another text
+-- a list type is at a place that is no list, or is another string
 abbrev pub has_bad_list_type : Data → Bool
 has_bad_list_type s = has s (codes "x-kubernetes-list-type") && (not (is_list_kind (kind_of s)) || has_other_text list_types s (codes "x-kubernetes-list-type"))
 
--- a map type is at a place that is neither an object nor a map, or is another text
+-- a map type is at a place that is neither an object nor a map, or is another string
 abbrev pub has_bad_map_type : Data → Bool
 has_bad_map_type s = has s (codes "x-kubernetes-map-type") && (not (is_object_kind (kind_of s)) || has_other_text map_types s (codes "x-kubernetes-map-type"))
 

@@ -149,12 +149,12 @@ has_foreign_keyword s = has_keyword (is_foreign (kind_of s)) s
 abbrev pub lacks_items : Data → Bool
 lacks_items s = is_list_kind (kind_of s) && not (is_some (schema_by s items))
 
--- the text names no field: a field is a property, but at the root a name of the envelope is one exactly where the envelope counts
+-- the string names no field: a field is a property, but at the root a name of the envelope is one exactly where the envelope counts
 abbrev pub is_no_field : Bool → Bool → Members → Data → Bool
 is_no_field root envelope properties (text k) = not (if root && is_envelope_name k then envelope else is_some (member_at k properties))
 is_no_field root envelope properties _ = false
 
--- `required` lists such a text
+-- `required` lists such a string
 abbrev pub lists_no_field : Bool → Bool → Members → Data → Bool
 lists_no_field root envelope properties s = any_item (is_no_field root envelope properties) (items_under s (codes "required"))
 

@@ -70,7 +70,7 @@ is_key_reason NullableKey t k = passes (λ s. flag s (codes "nullable")) (schema
 is_key_reason OptionalKey t k = not (is_among k (texts_under t (codes "required"))) && passes (λ s. not (has s (codes "default"))) (schema_by t (property k))
 is_key_reason _ t k = false
 
--- some of the texts passes a test
+-- some of the strings passes a test
 abbrev pub any_text : (List ℕ → Bool) → List (List ℕ) → Bool
 any_text test [] = false
 any_text test (t ∷ ts) = test t || any_text test ts

@@ -4,7 +4,8 @@ ghost use Rattle.jtree.specs.Data.{Data, object};
 ghost use Rattle.schema.specs.Internal.PlaceView.{place_of};
 ghost use Rattle.schema.specs.Internal.Subschemas.{IsSubschema};
 ghost use Rattle.schema.specs.Internal.ReasonParts.{AreFacts};
-ghost use Rattle.schema.specs.Rules.Reasons.{Explains, is_junctor_reason as is_junctor_reason_of, is_names_reason as is_names_reason_of};
+ghost use Rattle.schema.specs.Rules.Reasons;
+ghost use Rattle.schema.specs.Rules.Reasons.{Explains};
 ghost use Rattle.schema.specs.declared.violation.Rule.TheVariants.{V16};
 
 use crate::keywords::{is_branch_keyword, is_junctor_keyword, is_presence_keyword};
@@ -30,7 +31,7 @@ pub(crate) fn breaks_junctors_by(
 }
 
 fn is_names_reason(keyword: &str, reason: Reason) -> bool
-    ensures { result ≡ is_names_reason_of reason keyword.now }
+    ensures { result ≡ Reasons.is_names_reason reason keyword.now }
 {
     match reason {
         Reason::TooManyNames => is_junctor_keyword(keyword),
@@ -45,7 +46,7 @@ fn is_junctor_reason(
     reason: Reason,
 ) -> bool
     requires { AreFacts facts.now subschema.now }
-    ensures { result ≡ is_junctor_reason_of (place_of subschema.now.place.items) (option_map (λ m. object m.now) subschema.now.outer) reason keyword.now (object subschema.now.schema.now) }
+    ensures { result ≡ Reasons.is_junctor_reason (place_of subschema.now.place.items) (option_map (λ m. object m.now) subschema.now.outer) reason keyword.now (object subschema.now.schema.now) }
 {
     let place = subschema.place.as_slice();
     let schema = subschema.schema;

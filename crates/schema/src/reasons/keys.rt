@@ -3,10 +3,13 @@ ghost use Rattle.std.specs.Prelude.{◌≡◌, ◌&&◌, not, codes, option_map}
 ghost use Rattle.std.specs.Str.{bytes_eq};
 ghost use Rattle.jtree.specs.Data.{object};
 ghost use Rattle.jtree.specs.View.{items_of};
-ghost use Rattle.schema.specs.Document.Places.{schema_by, items as items_step};
-ghost use Rattle.schema.specs.Rules.Keywords.{flag, has as has_of, texts_of, texts_under};
+ghost use Rattle.schema.specs.Document.Places;
+ghost use Rattle.schema.specs.Document.Places.{schema_by};
+ghost use Rattle.schema.specs.Rules.Keywords;
+ghost use Rattle.schema.specs.Rules.Keywords.{flag, texts_of, texts_under};
 ghost use Rattle.schema.specs.Rules.Kinds.{kind_of, is_scalar_kind};
-ghost use Rattle.schema.specs.Rules.Reasons.{list_keyword as list_keyword_of, breaks_keys_by as breaks_keys_by_of, is_map_list_reason as is_map_list_reason_of, is_other_list_reason as is_other_list_reason_of, breaks_set_by as breaks_set_by_of, is_items_reason as is_items_reason_of, is_item_reason as is_item_reason_of, is_key_reason as is_key_reason_of, any_text, has_repeated as has_repeated_of, passes, map_keys};
+ghost use Rattle.schema.specs.Rules.Reasons;
+ghost use Rattle.schema.specs.Rules.Reasons.{any_text, passes, map_keys};
 
 use crate::keywords::{has, has_true, is_empty, is_listed, lists_text, object_under};
 use crate::kinds::{is_list, is_object, is_scalar};
@@ -16,21 +19,21 @@ use jtree::{Members, Tree};
 
 /// V11: keys of what is no map list, or a map list whose items have not its keys.
 pub(crate) fn is_keys_reason(schema: &Members, keyword: &str, reason: Reason) -> bool
-    ensures { result ≡ (bytes_eq keyword.now (list_keyword_of reason) && breaks_keys_by_of reason (object schema.now)) }
+    ensures { result ≡ (bytes_eq keyword.now (Reasons.list_keyword reason) && Reasons.breaks_keys_by reason (object schema.now)) }
 {
     keyword == list_keyword(reason) && breaks_keys_by(schema, reason)
 }
 
 /// V12: the items of a set are absent, no scalars, or nullable.
 pub(crate) fn is_set_reason(schema: &Members, keyword: &str, reason: Reason) -> bool
-    ensures { result ≡ (bytes_eq keyword.now (list_keyword_of reason) && breaks_set_by_of reason (object schema.now)) }
+    ensures { result ≡ (bytes_eq keyword.now (Reasons.list_keyword reason) && Reasons.breaks_set_by reason (object schema.now)) }
 {
     keyword == list_keyword(reason) && breaks_set_by(schema, reason)
 }
 
 /// The keyword that a reason is about.
 fn list_keyword(reason: Reason) -> &'static str
-    ensures { result.now ≡ list_keyword_of reason }
+    ensures { result.now ≡ Reasons.list_keyword reason }
 {
     match reason {
         Reason::NoKeys | Reason::NoItems => "x-kubernetes-list-type",
@@ -40,7 +43,7 @@ fn list_keyword(reason: Reason) -> &'static str
 }
 
 fn breaks_keys_by(schema: &Members, reason: Reason) -> bool
-    ensures { result ≡ breaks_keys_by_of reason (object schema.now) }
+    ensures { result ≡ Reasons.breaks_keys_by reason (object schema.now) }
 {
     if is_of_list_type(schema, "map") {
         is_list(schema) && is_map_list_reason(schema, reason)
@@ -50,7 +53,7 @@ fn breaks_keys_by(schema: &Members, reason: Reason) -> bool
 }
 
 fn is_other_list_reason(reason: Reason) -> bool
-    ensures { result ≡ is_other_list_reason_of reason }
+    ensures { result ≡ Reasons.is_other_list_reason reason }
 {
     match reason {
         Reason::KeysOfOtherList => true,
@@ -59,7 +62,7 @@ fn is_other_list_reason(reason: Reason) -> bool
 }
 
 fn is_map_list_reason(schema: &Members, reason: Reason) -> bool
-    ensures { result ≡ is_map_list_reason_of reason (object schema.now) }
+    ensures { result ≡ Reasons.is_map_list_reason reason (object schema.now) }
 {
     match reason {
         Reason::NoKeys => is_empty(keys_of(schema)),
@@ -71,13 +74,13 @@ fn is_map_list_reason(schema: &Members, reason: Reason) -> bool
 }
 
 fn breaks_set_by(schema: &Members, reason: Reason) -> bool
-    ensures { result ≡ breaks_set_by_of reason (object schema.now) }
+    ensures { result ≡ Reasons.breaks_set_by reason (object schema.now) }
 {
     is_list(schema) && (is_of_list_type(schema, "set") && is_items_reason(schema, reason))
 }
 
 fn is_items_reason(schema: &Members, reason: Reason) -> bool
-    ensures { result ≡ is_items_reason_of reason (object schema.now) }
+    ensures { result ≡ Reasons.is_items_reason reason (object schema.now) }
 {
     match reason {
         Reason::NoItems => object_under(schema, "items").is_none(),
@@ -88,7 +91,7 @@ fn is_items_reason(schema: &Members, reason: Reason) -> bool
 
 /// Whether the items are there, and are not as they have to be.
 fn has_items(schema: &Members, reason: Reason) -> bool
-    ensures { result ≡ passes (is_item_reason_of reason) (schema_by (object schema.now) items_step) }
+    ensures { result ≡ passes (Reasons.is_item_reason reason) (schema_by (object schema.now) Places.items) }
 {
     match object_under(schema, "items") {
         Some(items) => is_item_reason(items, reason),
@@ -97,7 +100,7 @@ fn has_items(schema: &Members, reason: Reason) -> bool
 }
 
 fn is_item_reason(items: &Members, reason: Reason) -> bool
-    ensures { result ≡ is_item_reason_of reason (object items.now) }
+    ensures { result ≡ Reasons.is_item_reason reason (object items.now) }
 {
     match reason {
         Reason::ItemsNotObjects => !is_object(items),
@@ -109,7 +112,7 @@ fn is_item_reason(items: &Members, reason: Reason) -> bool
 
 /// Whether a key is listed twice.
 fn has_repeated(keys: &[Tree]) -> bool
-    ensures { result ≡ has_repeated_of (texts_of (items_of keys.now)) }
+    ensures { result ≡ Reasons.has_repeated (texts_of (items_of keys.now)) }
 {
     match keys {
         [Tree::Text(key), rest @ ..] => is_listed(rest, key.as_str()) || has_repeated(rest),
@@ -120,7 +123,7 @@ fn has_repeated(keys: &[Tree]) -> bool
 
 /// Whether the items are there, and some key is not as it has to be.
 fn any_key(schema: &Members, reason: Reason) -> bool
-    ensures { result ≡ passes (λ t. any_text (is_key_reason_of reason t) (texts_under (object schema.now) map_keys)) (schema_by (object schema.now) items_step) }
+    ensures { result ≡ passes (λ t. any_text (Reasons.is_key_reason reason t) (texts_under (object schema.now) map_keys)) (schema_by (object schema.now) Places.items) }
 {
     match object_under(schema, "items") {
         Some(items) => any_listed(items, keys_of(schema), reason),
@@ -129,7 +132,7 @@ fn any_key(schema: &Members, reason: Reason) -> bool
 }
 
 fn any_listed(items: &Members, keys: &[Tree], reason: Reason) -> bool
-    ensures { result ≡ any_text (is_key_reason_of reason (object items.now)) (texts_of (items_of keys.now)) }
+    ensures { result ≡ any_text (Reasons.is_key_reason reason (object items.now)) (texts_of (items_of keys.now)) }
 {
     for key in keys {
         if let Tree::Text(key) = key {
@@ -142,7 +145,7 @@ fn any_listed(items: &Members, keys: &[Tree], reason: Reason) -> bool
 }
 
 fn is_key_reason(items: &Members, key: &str, reason: Reason) -> bool
-    ensures { result ≡ is_key_reason_of reason (object items.now) key.now }
+    ensures { result ≡ Reasons.is_key_reason reason (object items.now) key.now }
 {
     let property = property_of(items, key);
     match reason {
@@ -173,7 +176,7 @@ fn is_nullable(schema: Option<&Members>) -> bool
 }
 
 fn lacks_default(schema: Option<&Members>) -> bool
-    ensures { result ≡ passes (λ s. not (has_of s (codes "default"))) (option_map (λ m. object m.now) schema.entry) }
+    ensures { result ≡ passes (λ s. not (Keywords.has s (codes "default"))) (option_map (λ m. object m.now) schema.entry) }
 {
     match schema {
         Some(schema) => !has(schema, "default"),

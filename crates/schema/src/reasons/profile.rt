@@ -3,7 +3,7 @@ ghost use Rattle.std.specs.Prelude.{◌≡◌, option_map};
 ghost use Rattle.jtree.specs.Data.{object};
 ghost use Rattle.schema.specs.Internal.KindView.{kind_view};
 ghost use Rattle.schema.specs.Rules.Kinds.{kind_of};
-ghost use Rattle.schema.specs.Rules.Reasons.{is_profile_reason as is_profile_reason_of, makes_no_object as makes_no_object_of, makes_other_root as makes_other_root_of, is_no_root_keyword as is_no_root_keyword_of, is_no_preserving as is_no_preserving_of, is_about_kind as is_about_kind_of};
+ghost use Rattle.schema.specs.Rules.Reasons;
 
 use crate::keywords::{has_other_text, has_true, is_foreign, is_not_at_root};
 use crate::kinds::{Kind, is_list_kind, is_object_kind, is_open_kind, is_scalar_kind};
@@ -23,7 +23,7 @@ pub(crate) fn is_profile_reason(
     reason: Reason,
 ) -> bool
     requires { option_map kind_view kind ≡ kind_of (object schema.now) }
-    ensures { result ≡ is_profile_reason_of root reason keyword.now (object schema.now) }
+    ensures { result ≡ Reasons.is_profile_reason root reason keyword.now (object schema.now) }
 {
     match reason {
         Reason::RootNotObject => root && makes_other_root(schema, keyword),
@@ -43,7 +43,7 @@ pub(crate) fn is_profile_reason(
 
 /// Whether the keyword makes the root something other than an object.
 fn makes_other_root(schema: &Members, keyword: &str) -> bool
-    ensures { result ≡ makes_other_root_of keyword.now (object schema.now) }
+    ensures { result ≡ Reasons.makes_other_root keyword.now (object schema.now) }
 {
     makes_no_object(schema, keyword)
         || (keyword == "x-kubernetes-preserve-unknown-fields" && is_untyped_open(schema))
@@ -51,7 +51,7 @@ fn makes_other_root(schema: &Members, keyword: &str) -> bool
 
 /// Whether the keyword gives another type than object, or says that the place is int-or-string.
 fn makes_no_object(schema: &Members, keyword: &str) -> bool
-    ensures { result ≡ makes_no_object_of keyword.now (object schema.now) }
+    ensures { result ≡ Reasons.makes_no_object keyword.now (object schema.now) }
 {
     (keyword == "type" && has_other_text(schema, "type", &["", "object"]))
         || (keyword == "x-kubernetes-int-or-string"
@@ -60,21 +60,21 @@ fn makes_no_object(schema: &Members, keyword: &str) -> bool
 
 /// Whether the root may not have the keyword, or is nullable by it.
 fn is_no_root_keyword(schema: &Members, keyword: &str) -> bool
-    ensures { result ≡ is_no_root_keyword_of keyword.now (object schema.now) }
+    ensures { result ≡ Reasons.is_no_root_keyword keyword.now (object schema.now) }
 {
     (keyword == "nullable" && has_true(schema, "nullable")) || is_not_at_root(keyword)
 }
 
 /// Whether the keyword does not go with keeping unknown fields.
 fn is_no_preserving(schema: &Members, keyword: &str) -> bool
-    ensures { result ≡ is_no_preserving_of keyword.now (object schema.now) }
+    ensures { result ≡ Reasons.is_no_preserving keyword.now (object schema.now) }
 {
     makes_no_object(schema, keyword) || keyword == "additionalProperties"
 }
 
 /// Whether the reason is about places of this kind.
 fn is_about_kind(reason: Reason, kind: Option<Kind>) -> bool
-    ensures { result ≡ is_about_kind_of reason (option_map kind_view kind) }
+    ensures { result ≡ Reasons.is_about_kind reason (option_map kind_view kind) }
 {
     match reason {
         Reason::NotOfScalars => is_scalar_kind(kind),

@@ -3,13 +3,15 @@ ghost use Rattle.std.specs.Prelude.{◌≡◌, ◌↔◌, [], true, false, map, 
 ghost use Rattle.jtree.specs.Data.{object, item, no_items};
 ghost use Rattle.jtree.specs.View.{data_of, items_of};
 ghost use Rattle.schema.specs.Document.Places.{core};
-ghost use Rattle.schema.specs.Internal.Named.{name_part as name_part_of, part_names, item_names, member_names, other_of, has_others};
+ghost use Rattle.schema.specs.Internal.Named;
+ghost use Rattle.schema.specs.Internal.Named.{part_names, item_names, member_names, other_of, has_others};
 ghost use Rattle.schema.specs.Internal.NamedView.{name_part_view};
 ghost use Rattle.schema.specs.Internal.PlaceView.{place_of};
-ghost use Rattle.schema.specs.Rules.Junctors.{BreaksJunctors, takes_no_junctor as takes_no_junctor_at, has_misplaced_junctor as has_misplaced_junctor_at, asks_presence as asks_presence_at, is_bad_presence as is_bad_presence_at, is_bad_value as is_bad_value_at, requires_no_field as requires_no_field_of, fields_of as fields_of_object, declares_fields as declares_fields_of, HasTooManyNames, NamesTooMany};
+ghost use Rattle.schema.specs.Rules.Junctors as JunctorsSpec;
+ghost use Rattle.schema.specs.Rules.Junctors.{BreaksJunctors, HasTooManyNames, NamesTooMany};
 ghost use Rattle.schema.specs.Rules.Keywords.{members_in, texts_of};
-ghost use Rattle.schema.specs.Rules.Kinds.{kind_of as kind_of_schema};
-ghost use Rattle.schema.specs.Rules.Profile.{is_root as is_root_of};
+ghost use Rattle.schema.specs.Rules.Kinds;
+ghost use Rattle.schema.specs.Rules.Profile;
 
 use crate::keywords::{Keywords, has_keyword, is_one_of};
 use crate::kinds::{declares_fields, is_scalar};
@@ -31,21 +33,21 @@ pub(crate) fn breaks_junctors(place: &[Step<'_>], outer: Option<&Members>, schem
 
 /// Whether an outside place has a junctor and is neither a scalar nor an object with declared fields.
 fn has_misplaced_junctor(place: &[Step<'_>], schema: &Members) -> bool
-    ensures { result ≡ has_misplaced_junctor_at (place_of place.now) (object schema.now) }
+    ensures { result ≡ JunctorsSpec.has_misplaced_junctor (place_of place.now) (object schema.now) }
 {
     takes_no_junctor(place, schema) && has_keyword(schema, Keywords::Junctors)
 }
 
 /// Whether an outside place is neither a scalar nor an object with declared fields.
 pub(crate) fn takes_no_junctor(place: &[Step<'_>], schema: &Members) -> bool
-    ensures { result ≡ takes_no_junctor_at (place_of place.now) (object schema.now) }
+    ensures { result ≡ JunctorsSpec.takes_no_junctor (place_of place.now) (object schema.now) }
 {
     !is_inside(place) && (!is_scalar(schema) && !declares_fields(schema))
 }
 
 /// Whether a branch that asks which fields are present has another keyword than it may have, or requires what is no field.
 fn is_bad_presence(place: &[Step<'_>], outer: Option<&Members>, schema: &Members) -> bool
-    ensures { result ≡ is_bad_presence_at (place_of place.now) (option_map (λ m. object m.now) outer.entry) (object schema.now) }
+    ensures { result ≡ JunctorsSpec.is_bad_presence (place_of place.now) (option_map (λ m. object m.now) outer.entry) (object schema.now) }
 {
     asks_presence(place, outer)
         && (has_keyword(schema, Keywords::BesidePresence)
@@ -54,7 +56,7 @@ fn is_bad_presence(place: &[Step<'_>], outer: Option<&Members>, schema: &Members
 
 /// Whether a branch that asks of the value has another keyword or another value of `enum` than it may have.
 fn is_bad_value(place: &[Step<'_>], outer: Option<&Members>, schema: &Members) -> bool
-    ensures { result ≡ is_bad_value_at (place_of place.now) (option_map (λ m. object m.now) outer.entry) (object schema.now) }
+    ensures { result ≡ JunctorsSpec.is_bad_value (place_of place.now) (option_map (λ m. object m.now) outer.entry) (object schema.now) }
 {
     (is_inside(place) && !asks_presence(place, outer))
         && (has_keyword(schema, Keywords::BesideBranch)
@@ -64,13 +66,13 @@ fn is_bad_value(place: &[Step<'_>], outer: Option<&Members>, schema: &Members) -
 /// Whether a place is a branch that asks which fields are present, by the schema at its place without the steps into
 /// branches.
 pub(crate) fn asks_presence(place: &[Step<'_>], outer: Option<&Members>) -> bool
-    ensures { result ≡ asks_presence_at (place_of place.now) (option_map (λ m. object m.now) outer.entry) }
+    ensures { result ≡ JunctorsSpec.asks_presence (place_of place.now) (option_map (λ m. object m.now) outer.entry) }
 {
     is_inside(place) && is_with_fields(outer)
 }
 
 fn is_with_fields(schema: Option<&Members>) -> bool
-    ensures { result ≡ declares_fields_of (option_and_then kind_of_schema (option_map (λ m. object m.now) schema.entry)) }
+    ensures { result ≡ JunctorsSpec.declares_fields (option_and_then Kinds.kind_of (option_map (λ m. object m.now) schema.entry)) }
 {
     match schema {
         Some(schema) => declares_fields(schema),
@@ -84,7 +86,7 @@ pub(crate) fn requires_no_field(
     outer: Option<&Members>,
     schema: &Members,
 ) -> bool
-    ensures { result ≡ requires_no_field_of (place_of place.now) (option_map (λ m. object m.now) outer.entry) (object schema.now) }
+    ensures { result ≡ JunctorsSpec.requires_no_field (place_of place.now) (option_map (λ m. object m.now) outer.entry) (object schema.now) }
 {
     let fields = FieldNames {
         at_root: is_in_root(place),
@@ -96,7 +98,7 @@ pub(crate) fn requires_no_field(
 
 /// Whether all steps of the place are into branches.
 fn is_in_root(place: &[Step<'_>]) -> bool
-    ensures { result ≡ is_root_of (core (place_of place.now)) }
+    ensures { result ≡ Profile.is_root (core (place_of place.now)) }
 {
     for step in place {
         if !is_junctor(*step) {
@@ -108,7 +110,7 @@ fn is_in_root(place: &[Step<'_>]) -> bool
 
 /// The properties of the object outside.
 fn fields_of(outer: Option<&Members>) -> Option<&Members>
-    ensures { members_in (option_map (λ m. object m.now) result) ≡ fields_of_object (option_map (λ m. object m.now) outer.entry) }
+    ensures { members_in (option_map (λ m. object m.now) result) ≡ JunctorsSpec.fields_of (option_map (λ m. object m.now) outer.entry) }
 {
     properties_of(outer?)
 }
@@ -156,7 +158,7 @@ enum NamePart {
 }
 
 fn name_part(in_branch: bool, keyword: &str) -> NamePart
-    ensures { name_part_view result ≡ name_part_of in_branch keyword.now }
+    ensures { name_part_view result ≡ Named.name_part in_branch keyword.now }
 {
     match keyword {
         "required" => {

@@ -4,7 +4,8 @@ ghost use Rattle.jtree.specs.Data.{object};
 ghost use Rattle.jtree.specs.View.{data_of, items_of};
 ghost use Rattle.schema.specs.Document.Places.{property, schema_by};
 ghost use Rattle.schema.specs.Rules.Keywords.{texts_of, items_under};
-ghost use Rattle.schema.specs.Rules.Lists.{list_types, map_types, is_of_list_type as is_of_list_type_named, has_bad_list_type, has_bad_map_type, has_bad_set_items, has_bad_keys, is_plain_scalar as is_plain_scalar_at, has_default as has_default_at, is_key as is_key_of, are_keys as are_keys_of, have_keys as have_keys_of};
+ghost use Rattle.schema.specs.Rules.Lists;
+ghost use Rattle.schema.specs.Rules.Lists.{list_types, map_types, has_bad_list_type, has_bad_map_type, has_bad_set_items, has_bad_keys};
 
 use crate::keywords::{
     has, has_other_text, has_text_among, has_true, is_empty, is_listed, lists_text, object_under,
@@ -51,14 +52,14 @@ pub(crate) fn bad_map_type(schema: &Members) -> bool
 }
 
 pub(crate) fn is_of_list_type(schema: &Members, name: &str) -> bool
-    ensures { result ≡ is_of_list_type_named name.now (object schema.now) }
+    ensures { result ≡ Lists.is_of_list_type name.now (object schema.now) }
 {
     has_text_among(schema, "x-kubernetes-list-type", &[name])
 }
 
 /// Whether a place is a scalar that takes no null.
 fn is_plain_scalar(schema: Option<&Members>) -> bool
-    ensures { result ≡ is_plain_scalar_at (option_map (λ m. object m.now) schema.entry) }
+    ensures { result ≡ Lists.is_plain_scalar (option_map (λ m. object m.now) schema.entry) }
 {
     match schema {
         Some(schema) => is_scalar(schema) && !has_true(schema, "nullable"),
@@ -78,7 +79,7 @@ pub(crate) fn keys_of(schema: &Members) -> &[Tree]
 
 /// Whether the items are objects that take no null and have these keys, at least one.
 fn have_keys(items: Option<&Members>, keys: &[Tree]) -> bool
-    ensures { result ≡ have_keys_of (option_map (λ m. object m.now) items.entry) (items_of keys.now) }
+    ensures { result ≡ Lists.have_keys (option_map (λ m. object m.now) items.entry) (items_of keys.now) }
 {
     match items {
         Some(items) => {
@@ -93,7 +94,7 @@ fn have_keys(items: Option<&Members>, keys: &[Tree]) -> bool
 
 /// Whether each of these is a key of the items, and none occurs twice. There are at most four.
 fn are_keys(items: &Members, keys: &[Tree]) -> bool
-    ensures { result ≡ are_keys_of (object items.now) (texts_of (items_of keys.now)) }
+    ensures { result ≡ Lists.are_keys (object items.now) (texts_of (items_of keys.now)) }
 {
     match keys {
         [Tree::Text(key), rest @ ..] => {
@@ -107,7 +108,7 @@ fn are_keys(items: &Members, keys: &[Tree]) -> bool
 
 /// Whether a name is that of a scalar property that takes no null, and that each item has.
 fn is_key(items: &Members, name: &str) -> bool
-    ensures { result ≡ is_key_of (object items.now) name.now }
+    ensures { result ≡ Lists.is_key (object items.now) name.now }
 {
     let property = property_of(items, name);
     is_plain_scalar(property) && (lists_text(items, "required", name) || has_default(property))
@@ -121,7 +122,7 @@ pub(crate) fn property_of<'a>(schema: &'a Members, name: &str) -> Option<&'a Mem
 }
 
 fn has_default(schema: Option<&Members>) -> bool
-    ensures { result ≡ has_default_at (option_map (λ m. object m.now) schema.entry) }
+    ensures { result ≡ Lists.has_default (option_map (λ m. object m.now) schema.entry) }
 {
     match schema {
         Some(schema) => has(schema, "default"),

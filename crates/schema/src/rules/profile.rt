@@ -4,8 +4,8 @@ ghost use Rattle.jtree.specs.Data.{object};
 ghost use Rattle.jtree.specs.View.{data_of, items_of};
 ghost use Rattle.schema.specs.Internal.KindView.{is_accepted};
 ghost use Rattle.schema.specs.Rules.Keywords.{members_in, members_under, any_item};
-ghost use Rattle.schema.specs.Rules.Kinds.{kind_of as kind_of_schema, preserves as preserves_of};
-ghost use Rattle.schema.specs.Rules.Profile.{is_outside_profile as is_outside_profile_of, is_no_object as is_no_object_of, is_untyped_open as is_untyped_open_of, is_other_root as is_other_root_of, has_no_root_keyword as has_no_root_keyword_of, has_unknown_type as has_unknown_type_of, is_bad_preserving as is_bad_preserving_of, has_foreign_keyword as has_foreign_keyword_of, lacks_items as lacks_items_of, requires_undeclared as requires_undeclared_of, has_bad_choices as has_bad_choices_of, has_no_choice as has_no_choice_of, has_other_choice as has_other_choice_of, has_empty_enum as has_empty_enum_of, lists_other as lists_other_than};
+ghost use Rattle.schema.specs.Rules.Kinds;
+ghost use Rattle.schema.specs.Rules.Profile;
 
 use crate::keywords::{
     Keywords, has, has_keyword, has_other_text, has_true, is_empty, object_under,
@@ -17,7 +17,7 @@ use jtree::{Members, Tree};
 
 /// V17: a place that is in no branch is outside the profile.
 pub(crate) fn is_outside_profile(root: bool, schema: &Members) -> bool
-    ensures { result ≡ is_outside_profile_of root (object schema.now) }
+    ensures { result ≡ Profile.is_outside_profile root (object schema.now) }
 {
     is_other_root(root, schema)
         || has_no_root_keyword(root, schema)
@@ -32,14 +32,14 @@ pub(crate) fn is_outside_profile(root: bool, schema: &Members) -> bool
 
 /// Whether the root is something other than an object.
 fn is_other_root(root: bool, schema: &Members) -> bool
-    ensures { result ≡ is_other_root_of root (object schema.now) }
+    ensures { result ≡ Profile.is_other_root root (object schema.now) }
 {
     root && (is_no_object(schema) || is_untyped_open(schema))
 }
 
 /// Whether another type than object is given, or the place is int-or-string.
 fn is_no_object(schema: &Members) -> bool
-    ensures { result ≡ is_no_object_of (object schema.now) }
+    ensures { result ≡ Profile.is_no_object (object schema.now) }
 {
     has_other_text(schema, "type", &["", "object"])
         || has_true(schema, "x-kubernetes-int-or-string")
@@ -47,28 +47,28 @@ fn is_no_object(schema: &Members) -> bool
 
 /// Whether unknown fields are kept, and no type is given.
 pub(crate) fn is_untyped_open(schema: &Members) -> bool
-    ensures { result ≡ is_untyped_open_of (object schema.now) }
+    ensures { result ≡ Profile.is_untyped_open (object schema.now) }
 {
     preserves(schema) && is_untyped(schema)
 }
 
 /// Whether unknown fields are kept.
 pub(crate) fn preserves(schema: &Members) -> bool
-    ensures { result ≡ preserves_of (object schema.now) }
+    ensures { result ≡ Kinds.preserves (object schema.now) }
 {
     has_true(schema, "x-kubernetes-preserve-unknown-fields")
 }
 
 /// Whether the root takes null, or has a keyword that it may not have.
 fn has_no_root_keyword(root: bool, schema: &Members) -> bool
-    ensures { result ≡ has_no_root_keyword_of root (object schema.now) }
+    ensures { result ≡ Profile.has_no_root_keyword root (object schema.now) }
 {
     root && (has_true(schema, "nullable") || has_keyword(schema, Keywords::NotAtRoot))
 }
 
 /// Whether the type is none of the five.
 pub(crate) fn has_unknown_type(schema: &Members) -> bool
-    ensures { result ≡ has_unknown_type_of (object schema.now) }
+    ensures { result ≡ Profile.has_unknown_type (object schema.now) }
 {
     let types = ["", "integer", "string", "boolean", "array", "object"];
     has_other_text(schema, "type", &types)
@@ -76,28 +76,28 @@ pub(crate) fn has_unknown_type(schema: &Members) -> bool
 
 /// Whether unknown fields are kept where `type` or another keyword does not go with that.
 fn is_bad_preserving(schema: &Members) -> bool
-    ensures { result ≡ is_bad_preserving_of (object schema.now) }
+    ensures { result ≡ Profile.is_bad_preserving (object schema.now) }
 {
     preserves(schema) && (is_no_object(schema) || has(schema, "additionalProperties"))
 }
 
 /// Whether a place has a keyword that places of its kind may not have.
 fn has_foreign_keyword(schema: &Members) -> bool
-    ensures { result ≡ has_foreign_keyword_of (object schema.now) }
+    ensures { result ≡ Profile.has_foreign_keyword (object schema.now) }
 {
     has_keyword(schema, Keywords::Foreign(kind_of_members(schema)))
 }
 
 /// Whether a list has no `items`.
 pub(crate) fn lacks_items(schema: &Members) -> bool
-    ensures { result ≡ lacks_items_of (object schema.now) }
+    ensures { result ≡ Profile.lacks_items (object schema.now) }
 {
     is_list(schema) && object_under(schema, "items").is_none()
 }
 
 /// Whether a required name is no property; at the root the names of the envelope are let through.
 pub(crate) fn requires_undeclared(root: bool, schema: &Members) -> bool
-    ensures { result ≡ requires_undeclared_of root (object schema.now) }
+    ensures { result ≡ Profile.requires_undeclared root (object schema.now) }
 {
     let fields = FieldNames {
         at_root: root,
@@ -119,14 +119,14 @@ pub(crate) fn properties_of(schema: &Members) -> Option<&Members>
 
 /// Whether the `enum` of a scalar is empty, or lists a value that its kind does not accept.
 fn has_bad_choices(schema: &Members) -> bool
-    ensures { result ≡ has_bad_choices_of (object schema.now) }
+    ensures { result ≡ Profile.has_bad_choices (object schema.now) }
 {
     has_no_choice(schema) || has_other_choice(schema)
 }
 
 /// Whether the place is a scalar whose `enum` lists no value.
 pub(crate) fn has_no_choice(schema: &Members) -> bool
-    ensures { result ≡ has_no_choice_of (kind_of_schema (object schema.now)) (object schema.now) }
+    ensures { result ≡ Profile.has_no_choice (Kinds.kind_of (object schema.now)) (object schema.now) }
 {
     match kind_of_members(schema) {
         Some(Kind::Scalar(_)) => has_empty_enum(schema),
@@ -136,7 +136,7 @@ pub(crate) fn has_no_choice(schema: &Members) -> bool
 
 /// Whether the place is a scalar whose `enum` lists a value that its kind does not accept.
 pub(crate) fn has_other_choice(schema: &Members) -> bool
-    ensures { result ≡ has_other_choice_of (kind_of_schema (object schema.now)) (object schema.now) }
+    ensures { result ≡ Profile.has_other_choice (Kinds.kind_of (object schema.now)) (object schema.now) }
 {
     match kind_of_members(schema) {
         Some(Kind::Scalar(kind)) => lists_other(schema, Some(kind)),
@@ -146,7 +146,7 @@ pub(crate) fn has_other_choice(schema: &Members) -> bool
 
 /// Whether `enum` lists no value.
 pub(crate) fn has_empty_enum(schema: &Members) -> bool
-    ensures { result ≡ has_empty_enum_of (object schema.now) }
+    ensures { result ≡ Profile.has_empty_enum (object schema.now) }
 {
     match schema.get("enum") {
         Some(Tree::List(values)) => is_empty(values.items.as_slice()),
@@ -156,7 +156,7 @@ pub(crate) fn has_empty_enum(schema: &Members) -> bool
 
 /// Whether `enum` lists a value that is not accepted: of the kind, and without one any scalar.
 pub(crate) fn lists_other(schema: &Members, kind: Option<ScalarKind>) -> bool
-    ensures { result ≡ lists_other_than (is_accepted kind) (object schema.now) }
+    ensures { result ≡ Profile.lists_other (is_accepted kind) (object schema.now) }
 {
     match schema.get("enum") {
         Some(Tree::List(values)) => are_others(kind, values.items.as_slice()),

@@ -1,5 +1,5 @@
--- What is asked of a value: of a scalar, and of an object by its junctors (OpenAPI 3.0, Schema Object). Bounds say nothing of texts and truth values, and lengths nothing of
--- integers and truth values. An exclusive flag without its bound says nothing.
+-- What is asked of a value: of a scalar, and of an object by its junctors (OpenAPI 3.0, Schema Object). Bounds say nothing of strings and
+-- booleans, and lengths nothing of integers and booleans. An exclusive flag without its bound says nothing.
 use Rattle.std.specs.Prelude.{ℕ, ℤ, List, [], ◌∷◌, length, Bool, true, false, Option, Some, None, if◌then◌else◌, not, ◌&&◌, ◌||◌, ◌+◌, nat_lt, nat_eq, int_lt, int_le, chars}
 use Rattle.std.specs.Option.{is_some}
 use Rattle.std.specs.Ordering.{is_eq}

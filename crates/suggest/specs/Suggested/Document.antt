@@ -14,10 +14,10 @@ use Rattle.plan.specs.Pools.Document.{pools_of}
 use Rattle.plan.specs.Pools.Pools.{standard, AreSmall}
 use Rattle.plan.specs.declared.pool_limits.PoolLimits.{PoolLimits}
 use Rattle.suggest.specs.Suggested.Chosen.{chosen_names}
-use Rattle.suggest.specs.Suggested.Listed.{General}
-use Rattle.suggest.specs.Suggested.Lists.{Entry, lists_at, names_at}
+use Rattle.suggest.specs.Suggested.LeafValues.{General}
+use Rattle.suggest.specs.Suggested.Lists.{Entry}
 use Rattle.suggest.specs.Suggested.Values.{all_integers, all_lengths}
-use Rattle.suggest.specs.Suggested.Varied.{Said, said_below}
+use Rattle.suggest.specs.Suggested.Varied.{Suggestions, lists_alone, suggestions_below}
 use Rattle.suggest.specs.Suggested.Wanted.{Wanted}
 use Rattle.suggest.specs.Suggested.Without.{without_paths}
 
@@ -46,9 +46,9 @@ usual_names = codes "a" ∷ codes "b" ∷ []
 abbrev pub general_of : PoolLimits → Node → General
 general_of limits root = record { integers = suggested_integers root; strings = suggested_strings root; any = suggested_any; limits = limits; beside = false }
 
--- around an object suggestions come besides what stands there
-abbrev pub beside_standing : General → General
-beside_standing G = record G { beside = true }
+-- where paths are varied, suggestions come besides what the object has
+abbrev pub for_variation : General → General
+for_variation G = record G { beside = true }
 
 -- ---- lists under names
 
@@ -68,20 +68,17 @@ with_entry ms e = with_member e.path (list (items_of e.values)) ms
 abbrev pub members_from : List Entry → Members
 members_from es = fold with_entry no_members es
 
--- ---- what is said
-
--- without a varied path all is free, the whole object too
-abbrev pub all_free : General → Wanted → Data → Node → Said
-all_free G w raw root = record { lists = lists_at G w.objects None (Some raw) [] root; names = names_at w.objects root; fixed = []; present = [] }
+-- ---- what is suggested at paths
 
 -- the one object, where there is one alone
 abbrev pub single : List Data → Option Data
 single (v ∷ []) = Some v
 single _ = None
 
-abbrev pub said_by : List (List ℕ) → General → Wanted → Data → Node → Said
-said_by [] G w raw root = all_free G w raw root
-said_by ts G w raw root = said_below (beside_standing G) ts (single w.objects) (Some raw) [] root
+-- without a varied path nothing is fixed
+abbrev pub suggestions_by : List (List ℕ) → General → Wanted → Data → Node → Suggestions
+suggestions_by [] G w raw root = lists_alone G w.objects None (Some raw) [] root
+suggestions_by ts G w raw root = suggestions_below (for_variation G) ts (single w.objects) (Some raw) [] root
 
 -- a path that never occurs
 abbrev pub without_entry : List ℕ → Entry
@@ -109,13 +106,13 @@ document_with any fixed integers names paths present strings = object (
     texts_member (codes "present") present (
     member (codes "strings") (list (items_of strings)) no_members)))))))
 
-abbrev pub document_of : PoolLimits → Node → List (List ℕ) → Said → Data
-document_of limits root without said = document_with suggested_any (members_from (said.fixed ++ map without_entry without)) (suggested_integers root)
-    (chosen_names limits.names (said.names ++ usual_names)) (members_from (take limits.paths said.lists)) (filter (λ t. not (is_among t without)) said.present) (suggested_strings root)
+abbrev pub document_of : PoolLimits → Node → List (List ℕ) → Suggestions → Data
+document_of limits root without suggestions = document_with suggested_any (members_from (suggestions.fixed ++ map without_entry without)) (suggested_integers root)
+    (chosen_names limits.names (suggestions.names ++ usual_names)) (members_from (take limits.paths suggestions.lists)) (filter (λ t. not (is_among t without)) suggestions.present) (suggested_strings root)
 
 -- of the objects without the paths that never occur
 abbrev pub suggested_document : PoolLimits → Data → Node → Wanted → Data
-suggested_document limits raw root w = document_of limits root w.without (said_by w.varied (general_of limits root) (without_paths root w) raw root)
+suggested_document limits raw root w = document_of limits root w.without (suggestions_by w.varied (general_of limits root) (without_paths root w) raw root)
 
 -- nothing but the schema is asked about
 abbrev pub nothing_wanted : Wanted

@@ -6,8 +6,8 @@ use Rattle.jtree.specs.Path.{under, under2}
 use Rattle.schema.specs.Nodes.Node.{Node, node, object, map, list, Fields, no_fields, field}
 use Rattle.explain.specs.Paths.FieldPath as step
 use Rattle.plan.specs.Samples.Site.{below}
-use Rattle.suggest.specs.Suggested.Standing.{field_values, item_values, member_values, member_names}
-use Rattle.suggest.specs.Suggested.Listed.{General, listed_values}
+use Rattle.suggest.specs.Suggested.ValuesBelow.{field_values, item_values, member_values, member_names}
+use Rattle.suggest.specs.Suggested.LeafValues.{General, leaf_values}
 
 -- the text of a path, and values
 pub record Entry : Type 0 where
@@ -34,7 +34,7 @@ abbrev mutual
   lists_at G vs default schema path (node nullable description (object fs preserves type bounds cs)) = lists_of_fields G vs schema path fs
   lists_at G vs default schema path (node nullable description (map N type bounds)) = lists_at G (member_values vs) None (schema_of_values schema) (below path step.value) N
   lists_at G vs default schema path (node nullable description (list N type keys bounds)) = lists_at G (item_values vs) None (schema_of_items schema) (below path step.item) N
-  lists_at G vs default schema path N = entry_of path (listed_values G vs default schema N)
+  lists_at G vs default schema path N = entry_of path (leaf_values G vs default schema N)
 
   pub lists_of_fields : General → List Data → Option Data → List ℕ → Fields → List Entry
   lists_of_fields G vs schema path no_fields = []

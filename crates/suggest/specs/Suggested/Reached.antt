@@ -1,4 +1,4 @@
--- Which scalars the suggested values reach: each without `enum` and junctors that accepts a truth value, an integer or a text that is
+-- Which scalars the suggested values reach: each without `enum` and junctors that accepts a boolean, an integer or a string that is
 -- not too long has a candidate of that kind (this project's own). Nothing is said of junctors, whose branches together can ask for a
 -- value that is next to none of their bounds.
 use Rattle.std.specs.Prelude.{◌≡◌, ◌≤◌, None, length, chars}
@@ -23,7 +23,7 @@ abbrev pub IsBounded : Node → Type 0
 IsBounded (node nullable description (scalar kind cs)) = HasBoundsAlone cs
 IsBounded _ = ⊥
 
--- a truth value, an integer where no integers were cut, or a text of at most 64 characters where no texts were
+-- a boolean, an integer where no integers were cut, or a string of at most 64 characters where no texts were
 abbrev pub IsWithinReach : Node → Data → Type 0
 IsWithinReach root (boolean b) = Unit {0}
 IsWithinReach root (integer z) = length (all_integers root) ≤ standard.entries

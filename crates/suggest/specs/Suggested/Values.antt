@@ -12,13 +12,13 @@ fits_64_bits (pos n) = nat_lt n (2 ^ 63)
 fits_64_bits (negsuc n) = nat_lt n (2 ^ 63)
 
 -- a bound with its neighbours, as far as they have 64 bits
-abbrev pub around : Option ℤ → List ℤ
-around None = []
-around (Some z) = filter fits_64_bits ((z -ℤ pos 1) ∷ z ∷ (z +ℤ pos 1) ∷ [])
+abbrev pub with_neighbours : Option ℤ → List ℤ
+with_neighbours None = []
+with_neighbours (Some z) = filter fits_64_bits ((z -ℤ pos 1) ∷ z ∷ (z +ℤ pos 1) ∷ [])
 
 -- `minimum` and `maximum`, exclusive ones too
-abbrev pub around_bounds : Constraints → List ℤ
-around_bounds t = around t.minimum ++ around t.maximum
+abbrev pub bounds_with_neighbours : Constraints → List ℤ
+bounds_with_neighbours t = with_neighbours t.minimum ++ with_neighbours t.maximum
 
 -- the number of characters of the longest text
 abbrev pub longest : ℕ
@@ -33,7 +33,7 @@ abbrev pub short_lengths : Constraints → List ℕ
 short_lengths t = short_length t.lengths.least ++ short_length t.lengths.most
 
 abbrev pub all_integers : Node → List ℤ
-all_integers root = ascending int_cmp (pos 0 ∷ pos 1 ∷ in_scalars around_bounds root)
+all_integers root = ascending int_cmp (pos 0 ∷ pos 1 ∷ in_scalars bounds_with_neighbours root)
 
 abbrev pub all_lengths : Node → List ℕ
 all_lengths root = ascending nat_cmp (1 ∷ in_scalars short_lengths root)

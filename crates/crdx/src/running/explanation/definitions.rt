@@ -57,13 +57,13 @@ fn part_text(part: Part) -> &'static str {
 fn form_text(form: Form) -> &'static str {
     match form {
         Form::AnyTree => "any value",
-        Form::Text => "a text",
-        Form::TruthValue => "true or false",
+        Form::String => "a text",
+        Form::Boolean => "true or false",
         Form::ObjectOfObjects => "an object of objects",
-        Form::TruthValueOrObject => "true, false or an object",
+        Form::BooleanOrObject => "true, false or an object",
         Form::Object => "an object",
         Form::SomeObjects => "a list of at least one object, with nothing else in it",
-        Form::Texts => "a list of texts",
+        Form::Strings => "a list of texts",
         Form::List => "a list",
         Form::Integer => "an integer",
         Form::Count => "an integer of at least 0",

@@ -5,8 +5,8 @@ use Rattle.jtree.specs.View.{data_of}
 use Rattle.plan.specs.Pools.Document.{HasForm, pools_of}
 use Rattle.plan.specs.Pools.PlanFault.{HasGoodPaths}
 use Rattle.suggest.specs.View.{trees_of, wanted_of}
-use Rattle.suggest.specs.Internal.Parts.{general_with, said_from, document_from}
-use Rattle.suggest.specs.Suggested.Document.{CanBeRead, general_of, said_by, suggested_document}
+use Rattle.suggest.specs.Internal.Parts.{general_with, suggestions_from, document_from}
+use Rattle.suggest.specs.Suggested.Document.{CanBeRead, general_of, suggestions_by, suggested_document}
 use Rattle.suggest.specs.Suggested.Fault.{AreVaried}
 use Rattle.suggest.specs.Suggested.Without.{taken_out, without_paths}
 use Rattle.suggest.proofs.DocumentLemmas.{said_around}
@@ -32,7 +32,7 @@ is_suggested c =
     let left = without_paths c.args.schema.now w in
     let raw = data_of c.args.raw.now in
     let general = c.in_ok-general.ensures ∙ ap (general_with (not c.is_empty-beside.result) c.args.limits) c.root-root.ensures.node in
-    let said = c.in_ok-said.ensures ∙ ((λ j. said_from w.varied (general j) (are_left (goal.at.In_ok-document c).After-deref j) raw (c.root-root.ensures.node j))
+    let said = c.in_ok-suggestions.ensures ∙ ((λ j. suggestions_from w.varied (general j) (are_left (goal.at.In_ok-document c).After-deref j) raw (c.root-root.ensures.node j))
     ∙ said_around c.args.wanted.now.varied.now (not c.is_empty-beside.result) c.args.limits raw c.args.schema.now left (ap not c.is_empty-beside.ensures)) in
     c.in_ok-document.ensures ∙ λ j. document_from (general j) w.without (said j)
 
@@ -56,7 +56,7 @@ returns-clause-form c =
     let w = wanted_of c.args.wanted.now in
     let root = c.args.schema.now in
     subst HasForm (sym (is_suggested (goal.at.returns-clause-form c).In_ok-document))
-    (suggested_form c.args.limits root w.without (said_by w.varied (general_of c.args.limits root) (without_paths root w) (data_of c.args.raw.now) root))
+    (suggested_form c.args.limits root w.without (suggestions_by w.varied (general_of c.args.limits root) (without_paths root w) (data_of c.args.raw.now) root))
 
 pub returns-clause-paths : goal.returns-clause-paths
 returns-clause-paths c =

@@ -1,4 +1,4 @@
-use Rattle.suggest.proofs.AroundLemmas.{same_outside}
+use Rattle.suggest.proofs.VariedSampleLemmas.{same_outside}
 use Rattle.suggest.proofs.laws.samples_are_the_object_outside.Goals as goal
 
 pub returns : goal.returns

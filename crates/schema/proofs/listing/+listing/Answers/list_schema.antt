@@ -12,17 +12,17 @@ use Rattle.schema.proofs.ListingLemmas.{one_more}
 use Rattle.schema.proofs.ContextLemmas.{context_subschema}
 use Rattle.schema.proofs.listing.+listing.Goals as goal
 
-pub returns-in_err-check_place-clause-err : goal.list_schema-returns-in_err-check_place-clause-err
-returns-in_err-check_place-clause-err t c =
-    let P = place_of c.args.place.now in
+pub returns-in_err-check_place : goal.list_schema-returns-in_err-check_place
+returns-in_err-check_place t c =
+    let P = place_of c.args.position.now.place.now in
     let ms = c.args.members.now in
     let same : c.len.result ≡ length c.args.subschemas.now.items = omega arith in
     let p = err_from_is_err_and c.from_residual.result c.from_residual.ensures.1 in
-    rw (p.1, p.2) (subst (λ n. IsLimitRefusal (limit_break c.args.limits n (schema_events P ms)) c.in_err-check_place.field-0.0) same (c.in_err-check_place.ensures.err (object ms) (member_events P true ms)))
+    rw (p.1, p.2) record { grown = tt; refused = subst (λ n. IsLimitRefusal (limit_break c.args.position.now.limits n (schema_events P ms)) c.in_err-check_place.field-0.0) same (c.in_err-check_place.ensures.err (object ms) (member_events P true ms)); right = tt }
 
 pub returns : goal.list_schema-returns
 returns t c =
-    let P = place_of c.args.place.now in
+    let P = place_of c.args.position.now.place.now in
     let ms = c.args.members.now in
     let events = member_events P true ms in
     let old = c.args.subschemas.now.items in
@@ -32,13 +32,15 @@ returns t c =
     let items = c.in_ok-push.ensures.items in
     let same : c.len.result ≡ length old = omega arith in
     let count : suc c.len.result ≡ length c.push.new.self.items = sym (ap length items ∙ length-append old _ ∙ add-one (length old) ∙ ap suc (sym same)) in
-    let along : limit_break c.args.limits (length c.push.new.self.items) events ≡ limit_break c.args.limits (length old) (schema_events P ms) =
-    ap (λ n. limit_break c.args.limits n events) (sym count) ∙ sym (c.in_ok-check_place.ensures.ok (object ms) events) ∙ ap (λ n. limit_break c.args.limits n (schema_events P ms)) same in
+    let along : limit_break c.args.position.now.limits (length c.push.new.self.items) events ≡ limit_break c.args.position.now.limits (length old) (schema_events P ms) =
+    ap (λ n. limit_break c.args.position.now.limits n events) (sym count) ∙ sym (c.in_ok-check_place.ensures.ok (object ms) events) ∙ ap (λ n. limit_break c.args.position.now.limits n (schema_events P ms)) same in
     record {
-      subschemas = on_ok_weaker r (λ grown. grown ∙ one_more old _ _ events items ∙ ap (λ p. map subschema_of old ++ (entered p (object ms) ∷ subschemas_of events)) place) e.subschemas;
-      ok = on_ok_weaker r (λ none. sym along ∙ none) e.ok;
-      err = subst (λ o. IfErr r (IsLimitRefusal o)) along e.err;
-      contexts = on_ok_weaker r
-          (λ each raw h all. each raw h (subst (All (IsSubschema raw)) (sym items) (All-append (IsSubschema raw) old _ all (All-cons (IsSubschema raw) _ [] (context_subschema raw P c.args.context _ place refl refl h) (All-nil (IsSubschema raw))))))
-          e.contexts;
+      grown = on_ok_weaker r (λ g. record {
+        subschemas = g.subschemas ∙ one_more old _ _ events items ∙ ap (λ p. map subschema_of old ++ (entered p (object ms) ∷ subschemas_of events)) place;
+        limit = sym along ∙ g.limit;
+      }) e.grown;
+      refused = subst (λ o. IfErr r (IsLimitRefusal o)) along e.refused;
+      right = on_ok_weaker r
+          (λ each raw h all. each raw h (subst (All (IsSubschema raw)) (sym items) (All-append (IsSubschema raw) old _ all (All-cons (IsSubschema raw) _ [] (context_subschema raw P c.args.position.now.context _ place refl refl h) (All-nil (IsSubschema raw))))))
+          e.right;
     }

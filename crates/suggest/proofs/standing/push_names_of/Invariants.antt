@@ -1,7 +1,0 @@
-use Rattle.std.proofs.Common.{◌≡◌, ◌++◌, drop}
-use Rattle.jtree.specs.View.{members_of}
-use Rattle.suggest.specs.Suggested.Standing.{names_of}
-use Rattle.suggest.proofs.standing.push_names_of.Given as goal
-
-abbrev pub invariant-loop-member : goal.invariant-loop-member
-invariant-loop-member l = l.names.items ++ names_of (members_of (drop l.member-index l.member-items)) ≡ l.initial.names.items ++ names_of (members_of l.member-items)
