@@ -49,7 +49,7 @@ IsTuple P _ _ = ⊥
 -- the numbers of their candidates
 abbrev pub AreCounts : Pools → List Slot → List ℕ → Type 0
 AreCounts P [] [] = Unit {0}
-AreCounts P (s ∷ ss) (n ∷ ns) = HasCount P s.site n × AreCounts P ss ns
+AreCounts P (s ∷ ss) (n ∷ ns) = HasCount (IsPart P s.site) n × AreCounts P ss ns
 AreCounts P _ _ = ⊥
 
 abbrev pub product : List ℕ → ℕ
