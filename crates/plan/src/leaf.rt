@@ -77,9 +77,9 @@ fn places_in(
     }
 }
 
-/// The candidates of a leaf, in the tree order, each once: the values of at most `limit` nodes that a scalar or an open node with this
-/// path can have, or, where the pools fix its values, those of them that are stored there. A value with more nodes is not compared with
-/// the node. `AllocError` where an allocation fails.
+/// The candidates of a leaf, in the tree order, each once: the values that a scalar or an open node with this path can have, or, where
+/// the pools fix its values, those of them that are stored there; in both cases with at most `limit` nodes. A value with more is not
+/// compared with the node. `AllocError` where an allocation fails.
 pub fn candidates(
     alloc: Global,
     pools: &Pools,
