@@ -69,34 +69,34 @@ none_of : (Holds : Data → Type 0) (ts : List Tree) → map (λ t. data_of t) t
 none_of Holds [] is k d lt = absurd (omega (arith, lt))
 none_of Holds (t ∷ ts) is k d lt = absurd (cc)
 
-may_be : ItemsLaw → (root : Node) → IsSchema root → (P : Pools) (nullable : Bool) (description : Option (List ℕ)) (kind : ScalarKind) (cs : Validations) (p : FieldPath) (ds : List Data)
-    → node_at root (place_of p) ≡ Some (node nullable description (scalar kind cs)) → AreCandidates P (plain P (path_text p) (node nullable description (scalar kind cs))) ds
+may_be : ItemsLaw → (root : Node) → IsSchema root → (P : Pools) (nullable : Bool) (description : Option (List ℕ)) (kind : ScalarKind) (cs : Validations) (limit : ℕ) (p : FieldPath) (ds : List Data)
+    → node_at root (place_of p) ≡ Some (node nullable description (scalar kind cs)) → AreCandidates P limit (plain P (path_text p) (node nullable description (scalar kind cs))) ds
     → (v : Data) → Contains ds v → MayBeWanted root P (Some v) p
-may_be law root schema P nullable description kind cs p ds at are v has = (
+may_be law root schema P nullable description kind cs limit p ds at are v has = (
   no_map_item law root schema nullable description kind cs p at,
   λ N there.
       let same : node nullable description (scalar kind cs) ≡ N = cc in
-      subst (λ M. IsPart P (plain P (path_text p) M) v) same ((are.each v).0 has),
+      subst (λ M. IsPart P (plain P (path_text p) M) v) same ((are.each v).0 has).0,
   λ N there. let same : node nullable description (scalar kind cs) ≡ N = cc in sym (ap sort_at same),
 )
 
-pub values_wanted : ItemsLaw → (root : Node) → IsSchema root → (values : Bool) (P : Pools) (p : FieldPath) (N : Node) → node_at root (place_of p) ≡ Some N → (ts : List Tree)
-    → AreValuesAt values P (path_text p) N (map (λ t. data_of t) ts) → All (λ t. MayBeWanted root P (Some (data_of t)) p) ts
-values_wanted law root schema true P p (node nullable description (scalar kind cs)) at ts are =
-    each_tree (λ v. MayBeWanted root P (Some v) p) ts (may_be law root schema P nullable description kind cs p (map (λ t. data_of t) ts) at are)
-values_wanted law root schema true P p (node nullable description open_) at ts are = none_of (λ v. MayBeWanted root P (Some v) p) ts are
-values_wanted law root schema true P p (node nullable description (object fs preserves type bounds cs)) at ts are = none_of (λ v. MayBeWanted root P (Some v) p) ts are
-values_wanted law root schema true P p (node nullable description (nodes.map M type bounds)) at ts are = none_of (λ v. MayBeWanted root P (Some v) p) ts are
-values_wanted law root schema true P p (node nullable description (list M type keys bounds)) at ts are = none_of (λ v. MayBeWanted root P (Some v) p) ts are
-values_wanted law root schema false P p N at ts are = none_of (λ v. MayBeWanted root P (Some v) p) ts are
+pub values_wanted : ItemsLaw → (root : Node) → IsSchema root → (values : Bool) (P : Pools) (limit : ℕ) (p : FieldPath) (N : Node) → node_at root (place_of p) ≡ Some N → (ts : List Tree)
+    → AreValuesAt values P limit (path_text p) N (map (λ t. data_of t) ts) → All (λ t. MayBeWanted root P (Some (data_of t)) p) ts
+values_wanted law root schema true P limit p (node nullable description (scalar kind cs)) at ts are =
+    each_tree (λ v. MayBeWanted root P (Some v) p) ts (may_be law root schema P nullable description kind cs limit p (map (λ t. data_of t) ts) at are)
+values_wanted law root schema true P limit p (node nullable description open_) at ts are = none_of (λ v. MayBeWanted root P (Some v) p) ts are
+values_wanted law root schema true P limit p (node nullable description (object fs preserves type bounds cs)) at ts are = none_of (λ v. MayBeWanted root P (Some v) p) ts are
+values_wanted law root schema true P limit p (node nullable description (nodes.map M type bounds)) at ts are = none_of (λ v. MayBeWanted root P (Some v) p) ts are
+values_wanted law root schema true P limit p (node nullable description (list M type keys bounds)) at ts are = none_of (λ v. MayBeWanted root P (Some v) p) ts are
+values_wanted law root schema false P limit p N at ts are = none_of (λ v. MayBeWanted root P (Some v) p) ts are
 
 -- of any path with the text of that one
-pub values_wanted_of : OneText → ItemsLaw → (root : Node) → IsSchema root → (values : Bool) (P : Pools) (text : List ℕ) (p : FieldPath) (N : Node) → path_text p ≡ text
-    → node_at root (place_of p) ≡ Some N → (ts : List Tree) → AreValuesAt values P text N (map (λ t. data_of t) ts) → (x : FieldPath) → path_text x ≡ text
+pub values_wanted_of : OneText → ItemsLaw → (root : Node) → IsSchema root → (values : Bool) (P : Pools) (limit : ℕ) (text : List ℕ) (p : FieldPath) (N : Node) → path_text p ≡ text
+    → node_at root (place_of p) ≡ Some N → (ts : List Tree) → AreValuesAt values P limit text N (map (λ t. data_of t) ts) → (x : FieldPath) → path_text x ≡ text
     → All (λ t. MayBeWanted root P (Some (data_of t)) x) ts
-values_wanted_of one law root schema values P text p N is at ts are x e =
+values_wanted_of one law root schema values P limit text p N is at ts are x e =
     subst (λ y. All (λ t. MayBeWanted root P (Some (data_of t)) y) ts) (one p x (is ∙ sym e))
-    (values_wanted law root schema values P p N at ts (subst (λ t. AreValuesAt values P t N (map (λ t. data_of t) ts)) (sym is) are))
+    (values_wanted law root schema values P limit p N at ts (subst (λ t. AreValuesAt values P limit t N (map (λ t. data_of t) ts)) (sym is) are))
 
 -- the text of a declared path leads to a field
 pub not_declared : OneText → (root : Node) (text : List ℕ) (e : XFault) → IsTextOf (IsDeclared root) text → IsPathFault (IsDeclared root) text e → ⊥

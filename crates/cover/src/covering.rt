@@ -65,7 +65,14 @@ pub fn cover<Z: SizeSet>(alloc: Global, plan: Plan<Z>, values: bool) -> Result<C
     };
     for field in listing.fields() {
         let path = field.path.as_str();
-        let found = values_of(alloc, values, plan.schema(), plan.pools(), path)?;
+        let found = values_of(
+            alloc,
+            values,
+            plan.schema(),
+            plan.pools(),
+            plan.limit(),
+            path,
+        )?;
         plan = add_wanted(alloc, plan, path, None, &mut covered)?;
         plan = add_values(alloc, plan, path, &found, &mut covered)?;
     }

@@ -22,17 +22,18 @@ pub(crate) fn values_of(
     values: bool,
     schema: &Schema,
     pools: &Pools,
+    limit: u32,
     path: &str,
 ) -> Result<Vec<Tree>, AllocError>
     requires { IsTextOf (IsDeclared schema.now) path.now }
-    ensures values { IfOk result (λ vs. AreValuesOf values schema.now pools.now path.now (map (λ v. data_of v) vs.items)) }
+    ensures values { IfOk result (λ vs. AreValuesOf values (record { root = schema.now; pools = pools.now; limit = limit }) path.now (map (λ v. data_of v) vs.items)) }
     ensures wanted { IfOk result (λ vs. (p : FieldPath) → path_text p ≡ path.now → All (λ v. MayBeWanted schema.now pools.now (Some (data_of v)) p) vs.items) }
 {
     explain::laws::paths_have_one_text();
     schema::laws::items_are_distinct();
     schema.root();
     match resolve(schema, path) {
-        Ok(node) => values_at(alloc, values, pools, path, node),
+        Ok(node) => values_at(alloc, values, pools, limit, path, node),
         Err(_) => Ok(Vec::new(alloc)),
     }
 }
@@ -42,13 +43,14 @@ fn values_at(
     alloc: Global,
     values: bool,
     pools: &Pools,
+    limit: u32,
     path: &str,
     node: &Node,
 ) -> Result<Vec<Tree>, AllocError>
-    ensures { IfOk result (λ vs. AreValuesAt values pools.now path.now (node_of node.now) (map (λ v. data_of v) vs.items)) }
+    ensures { IfOk result (λ vs. AreValuesAt values pools.now limit path.now (node_of node.now) (map (λ v. data_of v) vs.items)) }
 {
     match &node.sort {
-        Sort::Scalar(_) if values => candidates(alloc, pools, path, node),
+        Sort::Scalar(_) if values => candidates(alloc, pools, limit, path, node),
         _ => Ok(Vec::new(alloc)),
     }
 }

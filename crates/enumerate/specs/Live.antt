@@ -37,7 +37,7 @@ pub record IsAdvanced (old new : Enumeration) (more : Bool) : Type 0 where
 
 -- at most as many steps as a sample may take, in a plan of this width
 abbrev pub IsWithinDelay : Question → ℕ → ℕ → Type 0
-IsWithinDelay q before after = (width : ℕ) → IsWidth q.pools q.root width → after ≤ before + delay q.limit width
+IsWithinDelay q before after = (width : ℕ) → IsWidth q width → after ≤ before + delay q.limit width
 
 -- the place past which the samples after these items are: the last item, or the place before the items where there is none
 abbrev pub place_after : Option Data → List Data → Option Data
@@ -51,7 +51,7 @@ pub record LendsPage (q : Question) (after : Option Data) (count : ℕ) (end : B
   pub taken : has_taken items
   pub page : IsPage q after count items end
   pub next : IsNextSample q (place_after after items) at
-  pub steps : (width : ℕ) → IsWidth q.pools q.root width → steps_now ≤ steps_before + length items * delay q.limit width
+  pub steps : (width : ℕ) → IsWidth q width → steps_now ≤ steps_before + length items * delay q.limit width
 
 -- The first samples of a page past a place were lent and taken.
 pub record LendsPart (q : Question) (after : Option Data) (count : ℕ) (has_taken : List Data → Type 0) : Type 0 where

@@ -12,7 +12,7 @@ ghost use Rattle.enumerate.specs.Internal.Answers.{FindsFirst, FindsNext};
 ghost use Rattle.enumerate.specs.Internal.Candidates.{used_rows, stack_of, IsFree, IsUnusedPart, IsFreeKey, IsChoice};
 ghost use Rattle.enumerate.specs.Internal.Following.{Continue, AreChoices, ContinueNext};
 ghost use Rattle.enumerate.specs.Internal.Moves.{IsNextTree};
-ghost use Rattle.enumerate.specs.Internal.Nodes.{IsNodeOfSort, site, IsPartOf, Costs};
+ghost use Rattle.enumerate.specs.Internal.Nodes.{IsNodeOfSort, site, IsPartOf, IsCandidateOf, Costs};
 ghost use Rattle.plan.specs.declared.sort.Sort.TheVariants as sort;
 
 use crate::siblings::{KeyRows, Rows, Used, is_free};
@@ -93,6 +93,7 @@ impl<'p, Z: SizeSet> Walk<'p, Z> {
         meter: &mut Meter,
     ) -> Result<Tree, AllocError>
         requires node { IsNodeOfSort self.now.plan.now node sort.Leaf }
+        requires limit { size ≤ self.now.plan.now.limit }
         requires free { (v : Data) × IsUnusedPart self.now.plan.now node size (trees_of items.now) v }
         ensures { FindsFirst result (IsUnusedPart self.now.plan.now node size (trees_of items.now)) scratch.new.following.items (Costs self.now.plan.now meter.old meter.new 1) }
     {
@@ -110,6 +111,7 @@ impl<'p, Z: SizeSet> Walk<'p, Z> {
         meter: &mut Meter,
     ) -> Result<Tree, AllocError>
         requires node { IsNodeOfSort self.now.plan.now slot.now.node sort.Leaf }
+        requires limit { size ≤ self.now.plan.now.limit }
         requires free { (v : Data) × IsFreeKey self.now.plan.now slot.now.node size slot.now.name.now (used_rows used.now) slot.now.later v }
         ensures { FindsFirst result (IsFreeKey self.now.plan.now slot.now.node size slot.now.name.now (used_rows used.now) slot.now.later) scratch.new.following.items (Costs self.now.plan.now meter.old meter.new 1) }
     {
@@ -133,6 +135,7 @@ impl<'p, Z: SizeSet> Walk<'p, Z> {
         meter: &mut Meter,
     ) -> Result<Tree, AllocError>
         requires node { IsNodeOfSort self.now.plan.now node sort.Leaf }
+        requires limit { size ≤ self.now.plan.now.limit }
         requires free { (v : Data) × IsChoice self.now.plan.now node size None used.now v }
         ensures ok { IfOk result (λ v. IsLeast tree_cmp (IsChoice self.now.plan.now node size None used.now) (data_of v)) }
         ensures following { IfOk result (λ v. Continue (λ u. IsPartOf self.now.plan.now node size u × IsFree used.now u) (data_of v) (stack_of scratch.new.following.items)) }
@@ -157,7 +160,7 @@ impl<'p, Z: SizeSet> Walk<'p, Z> {
         meter: &mut Meter,
     ) -> Result<NextTree, AllocError>
         requires node { IsNodeOfSort self.now.plan.now node sort.Leaf }
-        requires limit { node_count (data_of tree) < 4294967296 }
+        requires limit { node_count (data_of tree) ≤ self.now.plan.now.limit }
         ensures { FindsNext result (IsUnusedPart self.now.plan.now node (node_count (data_of tree)) (trees_of items.now)) (data_of tree) scratch.new.following.items (Costs self.now.plan.now meter.old meter.new 1) }
     {
         self.next_free(node, tree, &Used::Items(items), scratch, meter)
@@ -173,7 +176,7 @@ impl<'p, Z: SizeSet> Walk<'p, Z> {
         meter: &mut Meter,
     ) -> Result<NextTree, AllocError>
         requires node { IsNodeOfSort self.now.plan.now slot.now.node sort.Leaf }
-        requires limit { node_count (data_of tree) < 4294967296 }
+        requires limit { node_count (data_of tree) ≤ self.now.plan.now.limit }
         ensures { FindsNext result (IsFreeKey self.now.plan.now slot.now.node (node_count (data_of tree)) slot.now.name.now (used_rows used.now) slot.now.later) (data_of tree) scratch.new.following.items (Costs self.now.plan.now meter.old meter.new 1) }
     {
         let used_key = Used::Key(KeyRows {
@@ -195,11 +198,12 @@ impl<'p, Z: SizeSet> Walk<'p, Z> {
         meter: &mut Meter,
     ) -> Result<NextTree, AllocError>
         requires node { IsNodeOfSort self.now.plan.now node sort.Leaf }
-        requires limit { node_count (data_of tree) < 4294967296 }
+        requires limit { node_count (data_of tree) ≤ self.now.plan.now.limit }
         ensures ok { IfOk result (λ next. IsNextTree (λ v. IsPartOf self.now.plan.now node (node_count (data_of tree)) v × IsFree used.now v) (data_of tree) next) }
         ensures following { IfOk result (λ next. ContinueNext (λ v. IsPartOf self.now.plan.now node (node_count (data_of tree)) v × IsFree used.now v) next (stack_of scratch.new.following.items)) }
         ensures steps { Costs self.now.plan.now meter.old meter.new 1 }
     {
+        self.reveal_limit();
         let size = tree.nodes() as u32;
         self.find_choices(node, size, Some(&tree), used, scratch, meter)?;
         let mut tree = tree;
@@ -222,7 +226,8 @@ impl<'p, Z: SizeSet> Walk<'p, Z> {
         scratch: &mut Scratch<'p>,
         meter: &mut Meter,
     ) -> Result<(), AllocError>
-        requires { IsNodeOfSort self.now.plan.now node sort.Leaf }
+        requires node { IsNodeOfSort self.now.plan.now node sort.Leaf }
+        requires limit { size ≤ self.now.plan.now.limit }
         ensures ok { OnOk result (AreChoices (IsChoice self.now.plan.now node size (resume_point after.entry) used.now) (stack_of scratch.new.following.items)) }
         ensures steps { Costs self.now.plan.now meter.old meter.new 1 }
     {
@@ -257,7 +262,8 @@ impl<'p, Z: SizeSet> Walk<'p, Z> {
         scratch: &mut Scratch<'p>,
         meter: &mut Meter,
     ) -> Result<(), AllocError>
-        requires { IsNodeOfSort self.now.plan.now node sort.Leaf }
+        requires node { IsNodeOfSort self.now.plan.now node sort.Leaf }
+        requires limit { size ≤ self.now.plan.now.limit }
         ensures ok { OnOk result (AreChoices (IsChoice self.now.plan.now node size (resume_point after.entry) used.now) (stack_of scratch.new.following.items)) }
         ensures steps { Costs self.now.plan.now meter.old meter.new 1 }
     {
@@ -276,7 +282,7 @@ impl<'p, Z: SizeSet> Walk<'p, Z> {
     /// Whether some candidate of a leaf comes after the tree.
     pub(crate) fn has_later(&self, node: PlanNode, tree: &Tree, meter: &mut Meter) -> bool
         requires { IsNodeOfSort self.now.plan.now node sort.Leaf }
-        ensures none { result ≡ false → (u : Data) → IsPart self.now.plan.now.pools (site self.now.plan.now node) u → IsPast (Some (data_of tree.now)) u → ⊥ }
+        ensures none { result ≡ false → (u : Data) → IsCandidateOf self.now.plan.now node u → IsPast (Some (data_of tree.now)) u → ⊥ }
         ensures steps { meter.new ≤ meter.old + 1 }
     {
         let count = self.plan.count(node);
@@ -291,7 +297,8 @@ impl<'p, Z: SizeSet> Walk<'p, Z> {
 
     /// Whether the tree is a candidate of the leaf. It looks at each candidate at most once.
     pub(crate) fn is_candidate(&self, node: PlanNode, tree: &Tree, meter: &mut Meter) -> bool
-        requires { IsNodeOfSort self.now.plan.now node sort.Leaf }
+        requires node { IsNodeOfSort self.now.plan.now node sort.Leaf }
+        requires limit { node_count (data_of tree.now) ≤ self.now.plan.now.limit }
         ensures is { IsTrue result ↔ IsPart self.now.plan.now.pools (site self.now.plan.now node) (data_of tree.now) }
         ensures steps { Costs self.now.plan.now meter.old meter.new 1 }
     {

@@ -34,7 +34,7 @@ pub fn page<Z: SizeSet>(
     ensures sample { OnOk result (IfSome (resume_point after.entry) (λ a. IsSampleOf plan.now a)) }
     ensures not_a_sample { result ≡ Err NotASample → IsSomeAnd (resume_point after.entry) (λ a. IsSampleOf plan.now a → ⊥) }
     ensures never_ended { IfErr result (λ e. e ≡ Ended → ⊥) }
-    ensures steps { IfOk result (λ page. (width : ℕ) → IsWidth plan.now.pools plan.now.root width
+    ensures steps { IfOk result (λ page. (width : ℕ) → IsWidth plan.now width
         → meter.new ≤ meter.old + (length page.items.items + 1) * delay plan.now.limit width) }
 {
     let Some(mut live) = Live::past(alloc, plan, after, meter)? else {

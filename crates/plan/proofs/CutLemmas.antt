@@ -13,7 +13,7 @@ use Rattle.plan.specs.Pools.Pools.{Pools, is_present}
 use Rattle.explain.specs.Paths.FieldPath as step
 use Rattle.plan.specs.Samples.Sites.{Site, below, item_site, item_site_at, item_keys, fixed_item, slots}
 use Rattle.plan.specs.Samples.Candidates.{sort_at, sort_of, distinct_of, HasCount}
-use Rattle.plan.specs.Samples.Presence.{named}
+use Rattle.plan.specs.Samples.Part.{IsPart}
 use Rattle.plan.specs.Samples.Sizes.{HasMore, raised, bounds_of, IsUpTo}
 use Rattle.plan.specs.Sets.{IsSum}
 use Rattle.std.specs.declared.vec.Vec.{Vec}
@@ -25,26 +25,20 @@ use Rattle.plan.specs.declared.sort.Distinct.{Distinct}
 use Rattle.plan.specs.declared.arena.PlanNode.{PlanNode}
 use Rattle.plan.specs.declared.arena.Content.TheVariants as content
 use Rattle.plan.specs.Samples.RuleOfParts.{alike_by, alike_at, admits_null}
-use Rattle.plan.specs.Internal.Lists.{HasMoreFree, HasMoreApart, AreMore, cut, most_or}
+use Rattle.plan.specs.Internal.Lists.{IsCutTo, HasMoreFree, HasMoreApart, AreMore, cut, most_or}
 use Rattle.plan.specs.Internal.PartLaws.{PartLaws}
-use Rattle.plan.specs.Samples.Keys.{HasTuples}
-use Rattle.plan.specs.Internal.Tuples.{AreKeysLeaves, IsCutTo}
+use Rattle.plan.specs.Samples.Keys.{AreKeySlots, HasTuples}
 use Rattle.plan.specs.declared.sort.Sort.TheVariants.{Row}
 use Rattle.plan.specs.Internal.Laws.{StoredLaw}
 use Rattle.plan.proofs.ListLemmas.{count_nodes}
 use Rattle.plan.proofs.SiteLemmas.{whole_up_to, list_sizes}
 use Rattle.plan.proofs.MoreLemmas.{more_parts}
 use Rattle.plan.proofs.KeyedLemmas.{more_free, more_apart}
-use Rattle.plan.proofs.FixedLemmas.{leaf_any, item_unfixed}
-use Rattle.plan.proofs.SetLemmas.{plain_leaf, set_keyed}
-use Rattle.plan.proofs.MapListLemmas.{map_keyed, key_slot}
+use Rattle.plan.proofs.FixedLemmas.{item_unfixed}
+use Rattle.plan.proofs.SetLemmas.{set_keyed}
+use Rattle.plan.proofs.MapListLemmas.{map_keyed, own_keys}
 
--- the keys of the items of a map list are leaves of a row
-pub keys_leaves : (P : Pools) (path : List ℕ) (M : Node) (keys : List (List ℕ)) → IsNode M → HasKeys M keys → AreKeysLeaves (slots P (record { node = M; keys = keys; path = path; fixed = None }))
-keys_leaves P path (node n t (object fs preserves type b cs)) keys o h = λ s a key.
-    leaf_any s.site.fixed _ (plain_leaf s.site.node (key_slot P fs path keys (named cs) o h.2 s a key).2)
-keys_leaves P path M keys o h = absurd h
-
+-- the items of a map list are rows
 pub keys_row : (M : Node) (keys : List (List ℕ)) → HasKeys M keys → sort_at M ≡ Row
 keys_row (node n t (object fs preserves type b cs)) keys h = refl
 keys_row M keys h = absurd h
@@ -78,7 +72,7 @@ pub item_is : (P : Pools) (s M : Site) (n : Bool) (d : Option (List ℕ)) (K : N
 item_is P s M n d K type keys b is item = same_Some _ M (sym (ap (item_site_at P s.path) is) ∙ (item_unfixed P s M item).1)
 
 pub set_cut : StoredLaw → PartLaws → (P : Pools) (limit : ℕ) (s M : Site) (n : Bool) (d : Option (List ℕ)) (K : Node) (keys : List (List ℕ)) (b : Bounds) (count : ℕ) → s.node ≡ node n d (list K Set keys b) → item_site P s ≡ Some M
-    → IsPlainScalar M.node → HasCount P M count → IsCutTo P limit s M (cut count (bounds_of P s))
+    → IsPlainScalar M.node → HasCount (IsPart P M) count → IsCutTo P limit s M (cut count (bounds_of P s))
 set_cut stored laws P limit s M n d K keys b count is item plain has =
     let k = set_keyed stored P M count plain has in
     cut_by laws P limit s M (cut count (bounds_of P s)) item (rw (is, (item_unfixed P s M item).0, ← k.1) (λ t m. more_apart k.0 limit (raised (is_present (below s.path step.item) P) b) t m))
@@ -100,13 +94,13 @@ map_cut stored laws P limit s M n d K keys b count room is item o h has =
 pub set_items : (P : Pools) (s M : Site) (n : Bool) (d : Option (List ℕ)) (K : Node) (keys : List (List ℕ)) (b : Bounds) → s.node ≡ node n d (list K Set keys b) → item_site P s ≡ Some M → HasSoundItems s.node → IsPlainScalar M.node
 set_items P s M n d K keys b is item sound = subst IsPlainScalar (ap (λ x. Site.node x) (item_is P s M n d K Set keys b is item)) (subst HasSoundItems is sound)
 
-pub map_items : (P : Pools) (s M : Site) (n : Bool) (d : Option (List ℕ)) (K : Node) (keys : List (List ℕ)) (b : Bounds) → s.node ≡ node n d (list K Map keys b) → item_site P s ≡ Some M → IsNode s.node → HasSoundItems s.node
-    → IsNode M.node × HasKeys M.node M.keys × (sort_of M ≡ Row) × ((Q : Pools) → AreKeysLeaves (slots Q M))
-map_items P s M n d K keys b is item o sound =
+pub map_items : StoredLaw → (P : Pools) (s M : Site) (n : Bool) (d : Option (List ℕ)) (K : Node) (keys : List (List ℕ)) (b : Bounds) → s.node ≡ node n d (list K Map keys b) → item_site P s ≡ Some M → IsNode s.node → HasSoundItems s.node
+    → IsNode M.node × HasKeys M.node M.keys × (sort_of M ≡ Row) × AreKeySlots P (slots P M)
+map_items stored P s M n d K keys b is item o sound =
     let e = item_is P s M n d K Map keys b is item in
     let here : IsNode K = subst IsNode is o in
     let has : HasKeys K keys = subst HasSoundItems is sound in
-    (subst (λ x. IsNode (Site.node x)) e here, subst (λ x. HasKeys (Site.node x) (Site.keys x)) e has, subst (λ x. sort_of x ≡ Row) e (keys_row K keys has), λ Q. subst (λ x. AreKeysLeaves (slots Q x)) e (keys_leaves Q (below s.path step.item) K keys here has))
+    (subst (λ x. IsNode (Site.node x)) e here, subst (λ x. HasKeys (Site.node x) (Site.keys x)) e has, subst (λ x. sort_of x ≡ Row) e (keys_row K keys has), subst (λ x. AreKeySlots P (slots P x)) e (own_keys stored P (below s.path step.item) K keys here has))
 
 -- ---- the entry of a list
 

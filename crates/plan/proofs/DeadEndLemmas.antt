@@ -5,9 +5,9 @@ use Rattle.std.proofs.lemmas.List.{take-append-drop}
 use Rattle.std.proofs.lemmas.Option.{same_Some}
 use Rattle.jtree.specs.Data.{Data, Items, no_items, item}
 use Rattle.jtree.specs.Nodes.{node_count, items_count}
-use Rattle.jtree.specs.Internal.Rising.{Among}
+use Rattle.jtree.specs.Internal.Rising.{Among, contains}
 use Rattle.schema.specs.Nodes.Node.{Node, node, list, IsNode}
-use Rattle.schema.specs.Nodes.Items.{HasKeys, AreDistinct, HasSoundItems}
+use Rattle.schema.specs.Nodes.Items.{AreDistinct, HasSoundItems}
 use Rattle.schema.specs.declared.node.ListType.{ListType}
 use Rattle.schema.specs.declared.node.ListType.TheVariants.{Atomic, Set, Map}
 use Rattle.stored.specs.Objects.Fault as fault
@@ -15,8 +15,10 @@ use Rattle.stored.specs.Objects.Fault.{are_alike}
 use Rattle.stored.specs.Objects.StoredByParts.{are_apart}
 use Rattle.plan.specs.Pools.Pools.{Pools}
 use Rattle.explain.specs.Paths.FieldPath as step
+use Rattle.plan.specs.Samples.Keys.{AreKeySlots}
+use Rattle.plan.specs.Samples.Part.{IsPart}
 use Rattle.plan.specs.Samples.Sites.{Site, below, item_site, item_site_at, item_keys, fixed_item, where_fixed, Slot, slots}
-use Rattle.plan.specs.Samples.Candidates.{sort_at, sort_of, AreCandidates}
+use Rattle.plan.specs.Samples.Candidates.{sort_at, sort_of, AreCandidates, HasCount}
 use Rattle.plan.specs.Samples.Sizes.{AreFillings, Before, nothing, filled, state_after, ending_of, MayEnd, HasRest, HasMore, items_from, bounds_of}
 use Rattle.plan.specs.Samples.RuleOfParts.{AreParts, alike_by, alike_at, IsListPart, RuleOfParts}
 use Rattle.plan.specs.Samples.NoDeadEnd.{RowCompletes, items_then, ListCompletes, is_key, AreCounts, NoDeadEnd}
@@ -24,16 +26,16 @@ use Rattle.plan.specs.Internal.PartLaws.{IsItemsPart, PartLaws}
 use Rattle.plan.specs.Internal.Keyed.{Keyed}
 use Rattle.plan.specs.declared.sort.Sort.TheVariants.{Leaf, Row, List as ListSort}
 use Rattle.plan.proofs.ApartLemmas.{among_filter}
-use Rattle.plan.proofs.CutLemmas.{keys_leaves, keys_row}
+use Rattle.plan.proofs.CutLemmas.{keys_row}
 use Rattle.plan.proofs.KeyedLemmas.{then_are, CompletesApart, completes_free, completes_apart}
 use Rattle.plan.proofs.ListLemmas.{from_count, count_nodes}
-use Rattle.plan.proofs.MapListLemmas.{map_keyed}
+use Rattle.plan.proofs.MapListLemmas.{map_keyed, own_keys}
 use Rattle.plan.proofs.MoreLemmas.{more_parts}
 use Rattle.plan.specs.Internal.Laws.{StoredLaw}
 use Rattle.plan.proofs.RowLemmas.{fill_none, drop_all}
 use Rattle.plan.proofs.FixedLemmas.{leaf_any}
-use Rattle.plan.proofs.SetLemmas.{plain_leaf, set_keyed}
-use Rattle.plan.proofs.TupleLemmas.{free_tuples}
+use Rattle.plan.proofs.SetLemmas.{plain_leaf, scalar_one, set_keyed}
+use Rattle.plan.proofs.TupleLemmas.{count_parts, free_tuples}
 
 -- ---- what the parts are
 
@@ -73,8 +75,8 @@ list_ends laws P s M is limit v l =
     )
 
 -- the site has candidates if it is a leaf
-abbrev pub HasCandidates : Pools → Site → Type 0
-HasCandidates P s = sort_of s ≡ Leaf → (vs : List Data) × AreCandidates P s vs
+abbrev pub HasCandidates : Pools → ℕ → Site → Type 0
+HasCandidates P limit s = sort_of s ≡ Leaf → (vs : List Data) × AreCandidates P limit s vs
 
 -- a list has items of one site
 list_item : (P : Pools) (fixed : Option (List Data)) (path : List ℕ) (N : Node) → where_fixed fixed Leaf (sort_at N) ≡ ListSort → (M : Site) × (where_fixed fixed None (item_site_at P path N) ≡ Some M)
@@ -82,9 +84,9 @@ list_item P None path (node n t (list N type keys b)) e = (_, refl)
 list_item P None path N e = cc
 list_item P (Some ds) path N e = cc
 
-pub rule_of_parts : PartLaws → (P : Pools) (limit : ℕ) (s : Site) → IsNode s.node → HasCandidates P s → RuleOfParts P limit s
+pub rule_of_parts : PartLaws → (P : Pools) (limit : ℕ) (s : Site) → IsNode s.node → HasCandidates P limit s → RuleOfParts P limit s
 rule_of_parts laws P limit s o h = record {
-  leaf = λ v is. let c = h is in ((λ p. (c.0, (c.1, (c.1.each v).1 p))), λ x. (x.1.0.each v).0 x.1.1);
+  leaf = λ v is l. let c = h is in ((λ p. (c.0, (c.1, (c.1.each v).1 (p, l)))), λ x. ((x.1.0.each v).0 x.1.1).0);
   row = λ v is. or_so (laws.row P s v o is) (
     (λ q. record { fillings = q.fillings; is = q.is; are = q.are; ends = (row_ends P s (state_after (slots P s) q.fillings nothing)).0 q.ends }),
     λ q. record { fillings = q.fillings; is = q.is; are = q.are; ends = (row_ends P s (state_after (slots P s) q.fillings nothing)).1 q.ends },
@@ -123,42 +125,52 @@ row_completes laws P s o is front place m h r =
 
 -- ---- lists
 
-pub counts : (P : Pools) (ss : List Slot) → ((s : Slot) → Among ss s → (vs : List Data) × AreCandidates P s.site vs) → (ns : List ℕ) × AreCounts P ss ns
+-- a leaf has a number of parts, where each is one node
+pub parts_count : (P : Pools) (limit : ℕ) (s : Site) → 1 ≤ limit → ((v : Data) → IsPart P s v → node_count v ≡ 1) → (vs : List Data) × AreCandidates P limit s vs → (n : ℕ) × HasCount (IsPart P s) n
+parts_count P limit s some one c = (length c.0, count_parts P limit s (length c.0) some one (record { values = c.0; are = c.1; count_is = refl }))
+
+pub counts : (P : Pools) (ss : List Slot) → ((s : Slot) → Among ss s → (n : ℕ) × HasCount (IsPart P s.site) n) → (ns : List ℕ) × AreCounts P ss ns
 counts P [] h = ([], tt)
 counts P (s ∷ ss) h =
     let c = h s (inl refl) in
     let r = counts P ss (λ t a. h t (inr a)) in
-    (length c.0 ∷ r.0, (record { candidates = c.0; are = c.1; count_is = refl }, r.1))
+    (c.0 ∷ r.0, (c.1, r.1))
 
 -- the site and the slots of a row have candidates where they are leaves
-pub record HaveCandidates (P : Pools) (s : Site) : Type 0 where
-  pub own : HasCandidates P s
-  pub below : sort_of s ≡ Row → (t : Slot) → Among (slots P s) t → HasCandidates P t.site
+pub record HaveCandidates (P : Pools) (limit : ℕ) (s : Site) : Type 0 where
+  pub own : HasCandidates P limit s
+  pub below : sort_of s ≡ Row → (t : Slot) → Among (slots P s) t → HasCandidates P limit t.site
 
-key_counts : (P : Pools) (path : List ℕ) (N : Node) (keys : List (List ℕ)) → IsNode N → HasKeys N keys → HaveCandidates P (record { node = N; keys = keys; path = path; fixed = None }) → (ns : List ℕ) × AreCounts P (filter is_key (slots P (record { node = N; keys = keys; path = path; fixed = None }))) ns
-key_counts P path N keys o h c =
-    let ss = slots P (record { node = N; keys = keys; path = path; fixed = None }) in
-    counts P (filter is_key ss) (λ s a. let f = among_filter is_key ss s a in c.below (keys_row N keys h) s f.0 (keys_leaves P path N keys o h s f.0 f.1))
+-- where each key is a leaf whose parts are one node each
+pub key_counts : (P : Pools) (limit : ℕ) (s : Site) → 1 ≤ limit → ((t : Slot) → Among (slots P s) t → sort_of s ≡ Row) → AreKeySlots P (slots P s) → HaveCandidates P limit s → (ns : List ℕ) × AreCounts P (filter is_key (slots P s)) ns
+key_counts P limit s some row keys have =
+    let ss = slots P s in
+    counts P (filter is_key ss) (λ t a.
+    let f = among_filter is_key ss t a in
+    let k = keys t (contains ss t f.0) f.1 in
+    parts_count P limit t.site some k.one (have.below (row t f.0) t f.0 k.leaf))
 
 -- no two items are alike, or each has a key
-apart_or_keyed : StoredLaw → PartLaws → (P : Pools) (path : List ℕ) (type : ListType) (keys : List (List ℕ)) (N : Node) → IsNode N → AreDistinct type keys N → HaveCandidates P (record { node = N; keys = item_keys type keys; path = path; fixed = fixed_item P type path })
+apart_or_keyed : StoredLaw → PartLaws → (P : Pools) (limit : ℕ) (path : List ℕ) (type : ListType) (keys : List (List ℕ)) (N : Node) → 1 ≤ limit → IsNode N → AreDistinct type keys N → HaveCandidates P limit (record { node = N; keys = item_keys type keys; path = path; fixed = fixed_item P type path })
     → ((v w : Data) → are_alike type keys v w ≡ false) ⊎ Keyed P (record { node = N; keys = item_keys type keys; path = path; fixed = fixed_item P type path }) (are_alike type keys)
-apart_or_keyed stored laws P path Atomic keys N o h c = inl (λ v w. refl)
-apart_or_keyed stored laws P path Set keys N o h c = let vs = c.own (leaf_any (fixed_item P Set path) _ (plain_leaf N h)) in inr (set_keyed stored P _ (length vs.0) h (record { candidates = vs.0; are = vs.1; count_is = refl })).0
-apart_or_keyed stored laws P path Map keys N o h c = let ns = key_counts P path N keys o h c in inr (map_keyed stored laws P None path N keys ns.0 refl o h ns.1).0
+apart_or_keyed stored laws P limit path Atomic keys N some o h c = inl (λ v w. refl)
+apart_or_keyed stored laws P limit path Set keys N some o h c =
+    let n = parts_count P limit _ some (scalar_one stored P _ h) (c.own (leaf_any (fixed_item P Set path) _ (plain_leaf N h))) in
+    inr (set_keyed stored P _ n.0 h n.1).0
+apart_or_keyed stored laws P limit path Map keys N some o h c = let ns = key_counts P limit _ some (λ t a. keys_row N keys h) (own_keys stored P path N keys o h) c in inr (map_keyed stored laws P None path N keys ns.0 refl o h ns.1).0
 
-items_apart_or_keyed : StoredLaw → PartLaws → (P : Pools) (fixed : Option (List Data)) (path : List ℕ) (N : Node) (keys : List (List ℕ)) (M : Site) → item_site P (record { node = N; keys = keys; path = path; fixed = fixed }) ≡ Some M → IsNode N → HasSoundItems N → HaveCandidates P M
+items_apart_or_keyed : StoredLaw → PartLaws → (P : Pools) (limit : ℕ) (fixed : Option (List Data)) (path : List ℕ) (N : Node) (keys : List (List ℕ)) (M : Site) → 1 ≤ limit → item_site P (record { node = N; keys = keys; path = path; fixed = fixed }) ≡ Some M → IsNode N → HasSoundItems N → HaveCandidates P limit M
     → ((v w : Data) → where_fixed fixed (λ v w. false) (alike_by N) v w ≡ false) ⊎ Keyed P M (where_fixed fixed (λ v w. false) (alike_by N))
-items_apart_or_keyed stored laws P None path (node n t (list K type ks b)) keys M is o h c = subst (λ (s : Site). HaveCandidates P s → ((v w : Data) → are_alike type ks v w ≡ false) ⊎ Keyed P s (are_alike type ks)) (same_Some _ M is) (apart_or_keyed stored laws P (below path step.item) type ks K o h) c
-items_apart_or_keyed stored laws P None path N keys M is o h c = absurd (cc)
-items_apart_or_keyed stored laws P (Some ds) path N keys M is o h c = absurd (cc)
+items_apart_or_keyed stored laws P limit None path (node n t (list K type ks b)) keys M some is o h c = subst (λ (s : Site). HaveCandidates P limit s → ((v w : Data) → are_alike type ks v w ≡ false) ⊎ Keyed P s (are_alike type ks)) (same_Some _ M is) (apart_or_keyed stored laws P limit (below path step.item) type ks K some o h) c
+items_apart_or_keyed stored laws P limit None path N keys M some is o h c = absurd (cc)
+items_apart_or_keyed stored laws P limit (Some ds) path N keys M some is o h c = absurd (cc)
 
-list_completes : StoredLaw → PartLaws → (P : Pools) (limit : ℕ) (s M : Site) → item_site P s ≡ Some M → IsNode s.node → HasSoundItems s.node → HaveCandidates P M → (front : Items) (m : ℕ) → AreParts P M front → are_apart (alike_at s) front ≡ true
+list_completes : StoredLaw → PartLaws → (P : Pools) (limit : ℕ) (s M : Site) → 1 ≤ limit → item_site P s ≡ Some M → IsNode s.node → HasSoundItems s.node → HaveCandidates P limit M → (front : Items) (m : ℕ) → AreParts P M front → are_apart (alike_at s) front ≡ true
     → HasMore P limit s (fault.items_count front) m → ListCompletes P s front m
-list_completes stored laws P limit s M is o h c front m are apart more =
+list_completes stored laws P limit s M some is o h c front m are apart more =
     let b = bounds_of P s in
     let a = (more_parts laws P s M is limit (fault.items_count front) m).0 more in
-    let r : CompletesApart P M (alike_at s) b front m = elim (items_apart_or_keyed stored laws P s.fixed s.path s.node s.keys M is o h c) [
+    let r : CompletesApart P M (alike_at s) b front m = elim (items_apart_or_keyed stored laws P limit s.fixed s.path s.node s.keys M some is o h c) [
       | inl never ↦ completes_free P limit M (alike_at s) b front m never a
       | inr K ↦ completes_apart K limit b front m are apart a
     ] in
@@ -168,9 +180,9 @@ list_completes stored laws P limit s M is o h c front m are apart more =
       nodes_are = r.1.3;
     }
 
-pub no_dead_end : StoredLaw → PartLaws → (P : Pools) (limit : ℕ) (s : Site) → IsNode s.node → HasSoundItems s.node → ((M : Site) → item_site P s ≡ Some M → HaveCandidates P M) → NoDeadEnd P limit s
-no_dead_end stored laws P limit s o h c = record {
+pub no_dead_end : StoredLaw → PartLaws → (P : Pools) (limit : ℕ) (s : Site) → 1 ≤ limit → IsNode s.node → HasSoundItems s.node → ((M : Site) → item_site P s ≡ Some M → HaveCandidates P limit M) → NoDeadEnd P limit s
+no_dead_end stored laws P limit s some o h c = record {
   rows = λ front place m is are within rest. row_completes laws P s o is front place m are rest;
-  lists = λ M front m is are apart more. list_completes stored laws P limit s M is o h (c M is) front m are apart more;
+  lists = λ M front m is are apart more. list_completes stored laws P limit s M some is o h (c M is) front m are apart more;
   keys = λ first later used chosen ns is chosen_is used_are apart counts_are. free_tuples P first later used chosen ns chosen_is used_are apart counts_are;
 }

@@ -6,7 +6,7 @@ use Rattle.std.specs.declared.alloc.Global.{Global}
 use Rattle.jtree.specs.Data.{Data, Items, Members}
 use Rattle.jtree.specs.Data as tree
 use Rattle.jtree.specs.Path.{Path, member_at}
-use Rattle.jtree.specs.Internal.Rising.{Among}
+use Rattle.jtree.specs.Internal.Rising.{Among, contained}
 use Rattle.schema.specs.declared.node.ScalarKind.{ScalarKind}
 use Rattle.schema.specs.declared.node.ListType.{ListType}
 use Rattle.schema.specs.declared.node.ListType.TheVariants.{Atomic, Set, Map}
@@ -26,11 +26,11 @@ use Rattle.plan.specs.Samples.Names.{in_order}
 use Rattle.plan.specs.Samples.Presence.{named}
 use Rattle.plan.specs.Samples.Site.{fixed_below}
 use Rattle.plan.specs.Samples.Sites.{Site, below, where_fixed, fixed_item, item_site, item_site_at, Slot, slots, slots_at, field_slots, value_slot, site_at}
-use Rattle.plan.specs.Samples.Candidates.{AreCandidates}
+use Rattle.plan.specs.Samples.Candidates.{AreCandidates, IsCandidate}
 use Rattle.plan.specs.Samples.Sizes.{IsUpTo, HasSize, AreFillings, CanFill, HasMore, Before, Ending, ending_at, ending_of}
 use Rattle.plan.specs.Samples.RuleOfParts.{admits_null}
 use Rattle.plan.specs.Samples.NoDeadEnd.{is_key, AreCounts}
-use Rattle.plan.specs.Samples.Keys.{HasTuples}
+use Rattle.plan.specs.Samples.Keys.{AreKeySlots, HasTuples}
 use Rattle.plan.specs.Internal.Tables.{AreTables}
 use Rattle.plan.specs.Internal.Arena.{AreSlots, AreLater, IsRight, HasContent}
 use Rattle.plan.specs.Internal.Values.{AreValues}
@@ -43,6 +43,7 @@ use Rattle.plan.specs.declared.arena.Entry.{Entry}
 use Rattle.std.proofs.lemmas.Option.{same_Some}
 use Rattle.plan.proofs.ApartLemmas.{among_filter}
 use Rattle.plan.proofs.FixedLemmas.{item_unfixed}
+use Rattle.plan.proofs.TupleLemmas.{all_same}
 
 -- ---- the other way round
 
@@ -159,8 +160,8 @@ same_back P Q s h v = ((h v).1, (h v).0)
 size_over : (P Q : Pools) (s : Site) (n : ℕ) → HaveSameParts P Q s → HasSize P s n → HasSize Q s n
 size_over P Q s n h size = record { part = size.part; is = (h size.part).0 size.is; nodes_are = size.nodes_are }
 
-candidates_over : (P Q : Pools) (s : Site) (vs : List Data) → HaveSameParts P Q s → AreCandidates P s vs → AreCandidates Q s vs
-candidates_over P Q s vs h are = record { each = λ v. ((λ c. (h v).0 ((are.each v).0 c)), λ p. (are.each v).1 ((h v).1 p)); ascending = are.ascending }
+candidates_over : (P Q : Pools) (limit : ℕ) (s : Site) (vs : List Data) → HaveSameParts P Q s → AreCandidates P limit s vs → AreCandidates Q limit s vs
+candidates_over P Q limit s vs h are = all_same (IsCandidate P limit s) (IsCandidate Q limit s) vs (λ v. ((λ c. ((h v).0 c.0, c.1)), λ c. ((h v).1 c.0, c.1))) are
 
 more_over : (P Q : Pools) (limit : ℕ) (s : Site) (t m : ℕ) → HaveSameParts P Q s → HasMore P limit s t m → HasMore Q limit s t m
 more_over P Q limit s t m h x = record { items = x.items; part = (h (tree.list x.items)).0 x.part; fits = x.fits; many = x.many; nodes_are = x.nodes_are }
@@ -188,7 +189,7 @@ counts_over P Q [] [] h c = tt
 counts_over P Q [] (n ∷ ns) h c = absurd c
 counts_over P Q (s ∷ ss) [] h c = absurd c
 counts_over P Q (s ∷ ss) (n ∷ ns) h c =
-    (record { candidates = c.0.candidates; are = candidates_over P Q s.site c.0.candidates (h s (inl refl)) c.0.are; count_is = c.0.count_is }, counts_over P Q ss ns (λ t a. h t (inr a)) c.1)
+    (record { values = c.0.values; are = all_same (IsPart P s.site) (IsPart Q s.site) c.0.values (h s (inl refl)) c.0.are; count_is = c.0.count_is }, counts_over P Q ss ns (λ t a. h t (inr a)) c.1)
 
 tuples_over : (P Q : Pools) (ss : List Slot) (n : ℕ) → SlotsAreSame P Q ss → HasTuples P ss n → HasTuples Q ss n
 tuples_over P Q ss n h x = (x.0, (counts_over P Q (filter is_key ss) x.0 (λ t a. h t (among_filter is_key ss t a).0) x.1.0, x.1.1))
@@ -198,8 +199,17 @@ among_drop zero xs v a = a
 among_drop (suc k) [] v a = a
 among_drop (suc k) (x ∷ xs) v a = inr (among_drop k xs v a)
 
+keys_over : (P Q : Pools) (ss : List Slot) → SlotsAreSame P Q ss → AreKeySlots P ss → AreKeySlots Q ss
+keys_over P Q ss h keys s c key =
+    let k = keys s c key in
+    let same = h s (contained ss s c) in
+    record { must = k.must; leaf = k.leaf; one = λ v p. k.one v ((same v).1 p); no_null = λ p. k.no_null ((same tree.null).1 p) }
+
 later_over : (P Q : Pools) (ss : List Slot) (ns : List ℕ) → SlotsAreSame P Q ss → AreLater P ss ns → AreLater Q ss ns
-later_over P Q ss ns h later k n l leaves = tuples_over P Q (drop (k + 1) ss) (get_or ns k n) (λ t a. h t (among_drop (k + 1) ss t a)) (later k n l leaves)
+later_over P Q ss ns h later k n l keys =
+    let rest = drop (k + 1) ss in
+    let same : SlotsAreSame P Q rest = λ t a. h t (among_drop (k + 1) ss t a) in
+    tuples_over P Q rest (get_or ns k n) same (later k n l (keys_over Q P rest (slots_back P Q rest same) keys))
 
 tables_over : {Z : Type 0} (holds : Z → ℕ → Type 0) (limit : ℕ) (e : Ending) (P Q : Pools) (ss : List Slot) (tables : List (Vec (Vec Z Global) Global)) → SlotsAreSame P Q ss → AreTables holds limit e P ss tables → AreTables holds limit e Q ss tables
 tables_over holds limit e P Q ss tables h are k d l seen level m t z n =
@@ -306,7 +316,7 @@ slots_over P Q names sites others i (e ∷ es) (s ∷ ss) alike same h =
 
 module _ {Z : Type 0} (holds : Z → ℕ → Type 0) (limit : ℕ) (P Q : Pools) (v : Values) (sites others : List Site) (lists : ListTheSame P Q) (alike : AreAlike P Q sites others) where
   content_over : (i : ℕ) (c : Content Z) → site_at others i ≡ site_at sites i → AreSameBelow P Q (site_at sites i).path → HasContent holds limit P v sites i c → HasContent holds limit Q v others i c
-  content_over i (content.Leaf l) here h c = record { sort = rw here c.sort; candidates = rw here (candidates_over P Q (site_at sites i) _ (same_parts P Q (site_at sites i) lists h) c.candidates) }
+  content_over i (content.Leaf l) here h c = record { sort = rw here c.sort; candidates = rw here (candidates_over P Q limit (site_at sites i) _ (same_parts P Q (site_at sites i) lists h) c.candidates) }
   content_over i (content.Row r) here h c =
       let s = site_at sites i in
       let down : (t : Slot) → Among (slots P s) t → (u : FieldStep) × (below s.path u ≡ t.site.path) = slot_step P s.fixed s.path s.node s.keys in

@@ -1,7 +1,8 @@
 -- Scalars of which nothing is asked but their kind: those of one kind have the same candidates.
-use Rattle.std.proofs.Common.{◌≡◌, ◌↔◌, ℕ, List, Option, None, false, refl, sym, subst}
+use Rattle.std.proofs.Common.{◌≡◌, ◌≤◌, ◌↔◌, ℕ, List, Option, None, false, refl, sym, subst, arith}
 use Rattle.jtree.specs.Data.{Data}
 use Rattle.jtree.specs.Data as tree
+use Rattle.jtree.specs.Nodes.{node_count}
 use Rattle.schema.specs.Nodes.Node.{Node, node, scalar, Validations}
 use Rattle.schema.specs.declared.node.ScalarKind.{ScalarKind}
 use Rattle.stored.specs.Objects.Becomes.{IsStored}
@@ -24,11 +25,12 @@ bare_alike law kind d v =
       λ s. (law (of_kind kind) v).1 (subst (λ X. X) (sym same) ((law (node false d (scalar kind no_validations)) v).0 s)),
     )
 
-pub stored_alike : (N M : Node) (ds vs : List Data) → ((v : Data) → IsStored N v ↔ IsStored M v) → AreStored N ds vs → AreStored M ds vs
-stored_alike N M ds vs alike s = record {
+-- one whose values are one node each has the same candidates within any limit
+pub stored_alike : (limit : ℕ) (N M : Node) (ds vs : List Data) → 1 ≤ limit → ((v : Data) → IsStored N v ↔ IsStored M v) → ((v : Data) → IsStored M v → node_count v ≡ 1) → AreStored 1 N ds vs → AreStored limit M ds vs
+stored_alike limit N M ds vs some alike one s = record {
   each = λ v. (
-    (λ c. let h = (s.each v).0 c in (h.0, (h.1.0, (alike v).0 h.1.1))),
-    λ h. (s.each v).1 (h.0, (h.1.0, (alike v).1 h.1.1)),
+    (λ c. let h = (s.each v).0 c in (h.0, (h.1.0, (alike v).0 h.1.1, omega (arith, h.1.2)))),
+    λ h. (s.each v).1 (h.0, (h.1.0, (alike v).1 h.1.1, omega (arith, one v h.1.1))),
   );
   ascending = s.ascending;
 }

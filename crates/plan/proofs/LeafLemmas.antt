@@ -1,5 +1,5 @@
 -- The candidates of leaves: those of their bases that are stored.
-use Rattle.std.proofs.Common.{Result, Ok, Err, IfOk, ◌≡◌, ◌⊎◌, ◌↔◌, ◌≤◌, ◌<◌, ◌+◌, ℕ, List, [], ◌∷◌, ◌++◌, Bool, true, false, Option, Some, None, ◌&&◌, ◌||◌, Contains, Decides, take, length, get_or, refl, ap, sym, ◌∙◌, subst, inl, inr}
+use Rattle.std.proofs.Common.{Result, Ok, Err, IfOk, ◌≡◌, ◌⊎◌, ◌↔◌, ◌≤◌, ◌<◌, ◌+◌, ℕ, List, [], ◌∷◌, ◌++◌, Bool, true, false, Option, Some, None, ◌&&◌, ◌||◌, Contains, Decides, take, length, get_or, refl, ap, sym, ◌∙◌, subst, inl, inr, arith}
 use Rattle.std.specs.Cmp.{Equal-is}
 use Rattle.std.specs.Ordering.{is_eq}
 use Rattle.std.specs.declared.cmp.Ordering.TheVariants.{Less}
@@ -8,7 +8,7 @@ use Rattle.std.proofs.lemmas.Bool.Decides.{Decides-by_or}
 use Rattle.std.proofs.lemmas.Cmp.{tied_itself}
 use Rattle.std.proofs.lemmas.List.{get_or_read, map_more, map_push}
 use Rattle.std.proofs.lemmas.List.Elements.{Contains-append_left, Contains-push, Contains-push_cases, Decides-contains}
-use Rattle.jtree.specs.Data.{Data, Items, no_items, item, IsTree}
+use Rattle.jtree.specs.Data.{Data, Items, no_items, item}
 use Rattle.jtree.specs.Data as tree
 use Rattle.jtree.specs.Nodes.{node_count}
 use Rattle.jtree.specs.Order.{tree_cmp}
@@ -27,7 +27,7 @@ use Rattle.plan.specs.Samples.Over.{listed, is_in, is_over_here}
 use Rattle.plan.specs.Samples.Candidates.{sort_at, sort_of, AreCandidates}
 use Rattle.plan.specs.Samples.Sizes.{HasSize, IsUpTo}
 use Rattle.plan.specs.Internal.PartLaws.{PartLaws}
-use Rattle.plan.specs.Internal.Values.{trees_of, choices_at, at_places, IsBase, AreStored}
+use Rattle.plan.specs.Internal.Values.{trees_of, choices_at, at_places, IsBase, AreKept, AreStored}
 use Rattle.plan.specs.declared.sort.Sort.TheVariants.{Leaf}
 use Rattle.plan.proofs.FixedLemmas.{leaf_any}
 
@@ -47,13 +47,13 @@ before_last (d ∷ ds) v h =
       ],
     )
 
--- one tree more, which is stored
-pub stored_more : (N : Node) (ds vs : List Data) (v : Data) → AreStored N ds vs → IsTree v → IsStored N v → AreStored N (ds ++ v ∷ []) (vs ++ v ∷ [])
-stored_more N ds vs v s t here = record {
+-- one tree more, for which A holds
+pub kept_more : (A : Data → Type 0) (ds vs : List Data) (v : Data) → AreKept A ds vs → A v → AreKept A (ds ++ v ∷ []) (vs ++ v ∷ [])
+kept_more A ds vs v s here = record {
   each = λ w. (
-    (λ c. elim (Contains-push_cases vs v w c) as (λ _. Contains (ds ++ v ∷ []) w × (IsTree w × IsStored N w)) [
+    (λ c. elim (Contains-push_cases vs v w c) as (λ _. Contains (ds ++ v ∷ []) w × A w) [
       | inl old ↦ let h = (s.each w).0 old in (Contains-append_left ds (v ∷ []) w h.0, h.1)
-      | inr same ↦ subst (λ u. Contains (ds ++ v ∷ []) u × (IsTree u × IsStored N u)) same (Contains-push ds v, (t, here))
+      | inr same ↦ subst (λ u. Contains (ds ++ v ∷ []) u × A u) same (Contains-push ds v, here)
     ]),
     λ h. elim (Contains-push_cases ds v w h.0) as (λ _. Contains (vs ++ v ∷ []) w) [
       | inl old ↦ Contains-append_left vs (v ∷ []) w ((s.each w).1 (old, h.1))
@@ -69,31 +69,31 @@ stored_more N ds vs v s t here = record {
       all_pairs Before (vs ++ v ∷ []) (rising_join Before vs (v ∷ []) (rising Before vs (s.ascending (all_pairs Before ds r.0))) ((λ w a. absurd a), tt) last);
 }
 
--- one tree more, which is not
-pub stored_less : (N : Node) (ds vs : List Data) (v : Data) → AreStored N ds vs → (IsStored N v → ⊥) → AreStored N (ds ++ v ∷ []) vs
-stored_less N ds vs v s not = record {
+-- one tree more, for which it does not
+pub kept_less : (A : Data → Type 0) (ds vs : List Data) (v : Data) → AreKept A ds vs → (A v → ⊥) → AreKept A (ds ++ v ∷ []) vs
+kept_less A ds vs v s not = record {
   each = λ w. (
     (λ c. let h = (s.each w).0 c in (Contains-append_left ds (v ∷ []) w h.0, h.1)),
     λ h. elim (Contains-push_cases ds v w h.0) as (λ _. Contains vs w) [
       | inl old ↦ (s.each w).1 (old, h.1)
-      | inr same ↦ absurd (not (subst (IsStored N) (sym same) h.1.1))
+      | inr same ↦ absurd (not (subst A (sym same) h.1))
     ],
   );
   ascending = λ up. s.ascending (all_pairs Before ds (before_last ds v (rising Before (ds ++ v ∷ []) up)).0);
 }
 
 -- one place more
-pub place_more : (N : Node) (past : Tree) (ts : List Tree) (places : List ℕ) (i : ℕ) (t : Tree) → i < length ts → t ≡ get_or ts i t
-    → AreStored N (trees_of (take i ts)) (at_places past ts places) → IsTree (data_of t) → IsStored N (data_of t) → AreStored N (trees_of (take (i + 1) ts)) (at_places past ts (places ++ i ∷ []))
-place_more N past ts places i t within is s tree here =
+pub place_more : (A : Data → Type 0) (past : Tree) (ts : List Tree) (places : List ℕ) (i : ℕ) (t : Tree) → i < length ts → t ≡ get_or ts i t
+    → AreKept A (trees_of (take i ts)) (at_places past ts places) → A (data_of t) → AreKept A (trees_of (take (i + 1) ts)) (at_places past ts (places ++ i ∷ []))
+place_more A past ts places i t within is s here =
     rw (map_more (λ u. data_of u) ts i past within, map_push (λ k. data_of (get_or ts k past)) places i, ← get_or_read ts i t within is past)
-    (stored_more N (trees_of (take i ts)) (at_places past ts places) (data_of t) s tree here)
+    (kept_more A (trees_of (take i ts)) (at_places past ts places) (data_of t) s here)
 
-pub place_less : (N : Node) (past : Tree) (ts : List Tree) (places : List ℕ) (i : ℕ) (t : Tree) → i < length ts → t ≡ get_or ts i t
-    → AreStored N (trees_of (take i ts)) (at_places past ts places) → (IsStored N (data_of t) → ⊥) → AreStored N (trees_of (take (i + 1) ts)) (at_places past ts places)
-place_less N past ts places i t within is s not =
+pub place_less : (A : Data → Type 0) (past : Tree) (ts : List Tree) (places : List ℕ) (i : ℕ) (t : Tree) → i < length ts → t ≡ get_or ts i t
+    → AreKept A (trees_of (take i ts)) (at_places past ts places) → (A (data_of t) → ⊥) → AreKept A (trees_of (take (i + 1) ts)) (at_places past ts places)
+place_less A past ts places i t within is s not =
     rw (map_more (λ u. data_of u) ts i past within, ← get_or_read ts i t within is past)
-    (stored_less N (trees_of (take i ts)) (at_places past ts places) (data_of t) s not)
+    (kept_less A (trees_of (take i ts)) (at_places past ts places) (data_of t) s not)
 
 -- ---- what is listed
 
@@ -141,28 +141,29 @@ over_leaf P path (node n d (list N type keys b)) v leaf s = absurd (cc)
 
 -- ---- candidates
 
-candidates_listed : PartLaws → (P : Pools) (site : Site) (ts : List Tree) (vs : List Data) → site.fixed ≡ None → sort_at site.node ≡ Leaf → IsBase (tree.null ∷ listed P site.path site.node) ts → AreStored site.node (trees_of ts) vs → AreCandidates P site vs
-candidates_listed laws P site ts vs free leaf b s = record {
+candidates_listed : PartLaws → (P : Pools) (limit : ℕ) (site : Site) (ts : List Tree) (vs : List Data) → site.fixed ≡ None → sort_at site.node ≡ Leaf → IsBase (tree.null ∷ listed P site.path site.node) ts → AreStored limit site.node (trees_of ts) vs → AreCandidates P limit site vs
+candidates_listed laws P limit site ts vs free leaf b s = record {
   each = λ v. (
-    (λ c. let h = (s.each v).0 c in (laws.leaf P site v free (leaf_any site.fixed _ leaf)).1 (h.1.0, h.1.1, (over_leaf P site.path site.node v leaf h.1.1).1 ((b.each v).0 h.0))),
-    λ p. let h = (laws.leaf P site v free (leaf_any site.fixed _ leaf)).0 p in (s.each v).1 ((b.each v).1 ((over_leaf P site.path site.node v leaf h.1).0 h.2), (h.0, h.1)),
+    (λ c. let h = (s.each v).0 c in ((laws.leaf P site v free (leaf_any site.fixed _ leaf)).1 (h.1.0, h.1.1, (over_leaf P site.path site.node v leaf h.1.1).1 ((b.each v).0 h.0)), h.1.2)),
+    λ p. let h = (laws.leaf P site v free (leaf_any site.fixed _ leaf)).0 p.0 in (s.each v).1 ((b.each v).1 ((over_leaf P site.path site.node v leaf h.1).0 h.2), (h.0, h.1, p.1)),
   );
   ascending = s.ascending b.ascending;
 }
 
 -- where the values are fixed
-candidates_fixed : PartLaws → (P : Pools) (site : Site) (ds : List Data) (ts : List Tree) (vs : List Data) → site.fixed ≡ Some ds → IsBase ds ts → AreStored site.node (trees_of ts) vs → AreCandidates P site vs
-candidates_fixed laws P site ds ts vs fixed b s = record {
+candidates_fixed : PartLaws → (P : Pools) (limit : ℕ) (site : Site) (ds : List Data) (ts : List Tree) (vs : List Data) → site.fixed ≡ Some ds → IsBase ds ts → AreStored limit site.node (trees_of ts) vs → AreCandidates P limit site vs
+candidates_fixed laws P limit site ds ts vs fixed b s = record {
   each = λ v. (
-    (λ c. let h = (s.each v).0 c in (laws.fixed P site v ds fixed).1 (h.1.0, h.1.1, (is_in_decides v ds).1 ((b.each v).0 h.0))),
-    λ p. let h = (laws.fixed P site v ds fixed).0 p in (s.each v).1 ((b.each v).1 ((is_in_decides v ds).0 h.2), (h.0, h.1)),
+    (λ c. let h = (s.each v).0 c in ((laws.fixed P site v ds fixed).1 (h.1.0, h.1.1, (is_in_decides v ds).1 ((b.each v).0 h.0)), h.1.2)),
+    λ p. let h = (laws.fixed P site v ds fixed).0 p.0 in (s.each v).1 ((b.each v).1 ((is_in_decides v ds).0 h.2), (h.0, h.1, p.1)),
   );
   ascending = s.ascending b.ascending;
 }
 
-pub candidates_from : PartLaws → (P : Pools) (site : Site) (fixed : Option (List Data)) (ts : List Tree) (vs : List Data) → site.fixed ≡ fixed → sort_of site ≡ Leaf → IsBase (choices_at P fixed site.path site.node) ts → AreStored site.node (trees_of ts) vs → AreCandidates P site vs
-candidates_from laws P site (Some ds) ts vs is leaf b s = candidates_fixed laws P site ds ts vs is b s
-candidates_from laws P site None ts vs is leaf b s = candidates_listed laws P site ts vs is (rw is at leaf) b s
+pub candidates_from : PartLaws → (P : Pools) (limit : ℕ) (site : Site) (fixed : Option (List Data)) (ts : List Tree) (vs : List Data) → site.fixed ≡ fixed → sort_of site ≡ Leaf → IsBase (choices_at P fixed site.path site.node) ts → AreStored limit site.node (trees_of ts) vs
+    → AreCandidates P limit site vs
+candidates_from laws P limit site (Some ds) ts vs is leaf b s = candidates_fixed laws P limit site ds ts vs is b s
+candidates_from laws P limit site None ts vs is leaf b s = candidates_listed laws P limit site ts vs is (rw is at leaf) b s
 
 -- ---- sizes
 
@@ -182,9 +183,9 @@ sizes_more limit A B vs v a b n = (
   ]),
 )
 
--- the sizes of all candidates are those of all parts
-pub sizes_all : (P : Pools) (s : Site) (limit : ℕ) (A : ℕ → Type 0) (vs : List Data) → AreCandidates P s vs → IsUpTo limit A (HasNodes vs) → IsUpTo limit A (HasSize P s)
+-- the sizes of all candidates are those of all parts up to the limit
+pub sizes_all : (P : Pools) (s : Site) (limit : ℕ) (A : ℕ → Type 0) (vs : List Data) → AreCandidates P limit s vs → IsUpTo limit A (HasNodes vs) → IsUpTo limit A (HasSize P s)
 sizes_all P s limit A vs c a n = (
-  (λ h. let r = (a n).0 h in (r.0, record { part = r.1.0; is = (c.each r.1.0).0 r.1.1.0; nodes_are = r.1.1.1 })),
-  λ h. (a n).1 (h.0, (h.1.part, ((c.each h.1.part).1 h.1.is, h.1.nodes_are))),
+  (λ h. let r = (a n).0 h in (r.0, record { part = r.1.0; is = ((c.each r.1.0).0 r.1.1.0).0; nodes_are = r.1.1.1 })),
+  λ h. (a n).1 (h.0, (h.1.part, ((c.each h.1.part).1 (h.1.is, omega (arith, h.0, h.1.nodes_are)), h.1.nodes_are))),
 )

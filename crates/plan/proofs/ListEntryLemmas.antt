@@ -7,12 +7,13 @@ use Rattle.std.proofs.Math.Nat.{mul_comm, mul-le-mul_left, mul-le-mul_right}
 use Rattle.plan.specs.Pools.Pools.{Pools}
 use Rattle.plan.specs.Samples.Sites.{Site, Slot}
 use Rattle.plan.specs.Samples.Candidates.{HasCount}
+use Rattle.plan.specs.Samples.Part.{IsPart}
 use Rattle.plan.specs.Samples.NoDeadEnd.{product}
 use Rattle.plan.specs.Internal.Arena.{IsSlot, AreSlots, AreLater}
-use Rattle.plan.specs.Samples.Keys.{HasTuples}
-use Rattle.plan.specs.Internal.Tuples.{AreKeysLeaves}
+use Rattle.plan.specs.Samples.Keys.{AreKeySlots, HasTuples}
 use Rattle.plan.specs.declared.arena.SlotEntry.{SlotEntry}
 use Rattle.plan.proofs.EntryLemmas.{slot_count}
+use Rattle.plan.proofs.MapListLemmas.{later_keys}
 use Rattle.plan.proofs.RowLemmas.{drop_all}
 
 above : (p x top : ℕ) → top < p → min (top * x) top ≡ min (p * x) top
@@ -33,7 +34,7 @@ pub no_tuples : (P : Pools) → HasTuples P [] 1
 no_tuples P = ([], (tt, omega arith))
 
 -- one slot more, before the others
-pub key_first : (P : Pools) (s : Slot) (ss : List Slot) (n c : ℕ) → s.key ≡ true → HasTuples P ss n → HasCount P s.site c → HasTuples P (s ∷ ss) (min (n * c) (2 ^ 64 - 1))
+pub key_first : (P : Pools) (s : Slot) (ss : List Slot) (n c : ℕ) → s.key ≡ true → HasTuples P ss n → HasCount (IsPart P s.site) c → HasTuples P (s ∷ ss) (min (n * c) (2 ^ 64 - 1))
 key_first P s ss n c key h k = rw key (c ∷ h.0, ((k, h.1.0), rw (h.1.1, mul_comm c (product h.0)) (capped (product h.0) c (2 ^ 64 - 1))))
 
 pub other_first : (P : Pools) (s : Slot) (ss : List Slot) (n : ℕ) → s.key ≡ false → HasTuples P ss n → HasTuples P (s ∷ ss) n
@@ -42,7 +43,7 @@ other_first P s ss n key h = rw key h
 -- ---- the slots from a place on
 
 abbrev pub HasTuplesFrom : Pools → List Slot → ℕ → ℕ → Type 0
-HasTuplesFrom P ss place n = AreKeysLeaves (drop place ss) → HasTuples P (drop place ss) n
+HasTuplesFrom P ss place n = AreKeySlots P (drop place ss) → HasTuples P (drop place ss) n
 
 -- the numbers for each place, the last place first
 abbrev pub AreTuplesBack : Pools → List Slot → ℕ → List ℕ → Type 0
@@ -56,13 +57,13 @@ slot_from names sites i (y ∷ xs) (s ∷ ss) zero x h l = (s, refl, h.0)
 slot_from names sites i (y ∷ xs) (s ∷ ss) (suc place) x h l = slot_from names sites i xs ss place x h.1 (omega arith)
 
 pub tuples_end : (P : Pools) (names : List (List ℕ)) (sites : List Site) (i : ℕ) (xs : List SlotEntry) (ss : List Slot) → AreSlots names sites i xs ss → HasTuplesFrom P ss (length xs) 1
-tuples_end P names sites i xs ss h = rw (slot_count names sites i xs ss h, drop_all ss) (λ leaves. no_tuples P)
+tuples_end P names sites i xs ss h = rw (slot_count names sites i xs ss h, drop_all ss) (λ keys. no_tuples P)
 
 pub tuples_next : (P : Pools) (names : List (List ℕ)) (sites : List Site) (i : ℕ) (xs : List SlotEntry) (ss : List Slot) (place : ℕ) (x : SlotEntry) (n m : ℕ) → AreSlots names sites i xs ss → place < length xs → x ≡ get_or xs place x
-    → ((s : Slot) (rest : List Slot) → IsSlot names sites i x s → AreKeysLeaves (s ∷ rest) → HasTuples P rest n → HasTuples P (s ∷ rest) m) → HasTuplesFrom P ss (suc place) n → HasTuplesFrom P ss place m
+    → ((s : Slot) (rest : List Slot) → IsSlot names sites i x s → AreKeySlots P (s ∷ rest) → HasTuples P rest n → HasTuples P (s ∷ rest) m) → HasTuplesFrom P ss (suc place) n → HasTuplesFrom P ss place m
 tuples_next P names sites i xs ss place x n m h l is step after =
     let s = slot_from names sites i xs ss place x h l in
-    rw s.1 (λ leaves. step s.0 (drop (suc place) ss) (rw (← is) at s.2) leaves (after (λ t a. leaves t (inr a))))
+    rw s.1 (λ keys. step s.0 (drop (suc place) ss) (rw (← is) at s.2) keys (after (later_keys P s.0 (drop (suc place) ss) keys)))
 
 -- in the order of the slots
 pub tuples_later : (P : Pools) (ss : List Slot) (count : ℕ) (ns : List ℕ) → length ns ≡ count → AreTuplesBack P ss count ns → AreLater P ss (reverse ns)

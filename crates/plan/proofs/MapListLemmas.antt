@@ -23,7 +23,7 @@ use Rattle.plan.specs.Pools.Pools.{Pools}
 use Rattle.plan.specs.Samples.Part.{IsPart}
 use Rattle.plan.specs.Samples.Presence.{named}
 use Rattle.explain.specs.Paths.FieldPath as step
-use Rattle.plan.specs.Samples.Sites.{Site, below, Slot, slots, field_slots}
+use Rattle.plan.specs.Samples.Sites.{Site, below, Slot, slots, slots_at, field_slots}
 use Rattle.plan.specs.Samples.Candidates.{sort_of}
 use Rattle.plan.specs.declared.sort.Sort.TheVariants.{Row}
 use Rattle.plan.specs.Samples.Sizes.{AreFillings, filled_nodes, Before, nothing, filled, state_after, ending_of, MayEnd}
@@ -43,10 +43,10 @@ use Rattle.plan.proofs.SetLemmas.{plain_leaf, scalar_one, scalar_no_null}
 
 -- ---- the slots of keys
 
-own_key : (P : Pools) (s : Slot) (ss : List Slot) → AreKeySlots P (s ∷ ss) → s.key ≡ true → IsKeySlot P s
+pub own_key : (P : Pools) (s : Slot) (ss : List Slot) → AreKeySlots P (s ∷ ss) → s.key ≡ true → IsKeySlot P s
 own_key P s ss q = q s (contains (s ∷ ss) s (inl refl))
 
-later_keys : (P : Pools) (s : Slot) (ss : List Slot) → AreKeySlots P (s ∷ ss) → AreKeySlots P ss
+pub later_keys : (P : Pools) (s : Slot) (ss : List Slot) → AreKeySlots P (s ∷ ss) → AreKeySlots P ss
 later_keys P s ss q = λ t c. q t (contains (s ∷ ss) t (inr (contained ss t c)))
 
 -- there is one for each key, and for no other name
@@ -217,6 +217,10 @@ module _ (P : Pools) (s : Site) (row : (v : Data) → IsPart P s v ↔ IsObjectP
 -- each part at an object that does not accept null is an object
 only_objects : PartLaws → (P : Pools) (s : Site) → IsNode s.node → sort_of s ≡ Row → admits_null P s ≡ false → (v : Data) → IsPart P s v ↔ IsObjectPart P s v
 only_objects laws P s o row never v = let r = laws.row P s v o row in ((λ p. elim (r.0 p) [ inl null ↦ let no = sym null.1 ∙ never in absurd (cc) | inr x ↦ x ]), λ x. r.1 (inr x))
+
+pub own_keys : StoredLaw → (P : Pools) (path : List ℕ) (N : Node) (keys : List (List ℕ)) → IsNode N → HasKeys N keys → AreKeySlots P (slots_at P path N keys)
+own_keys stored P path (node n t (object fs preserves type b cs)) keys o h = (have_keys stored P fs path keys (named cs) o h.2).are
+own_keys stored P path N keys o h = absurd h
 
 -- the items of a map list are alike exactly where they have the same under all keys
 pub map_alike : StoredLaw → PartLaws → (P : Pools) (path : List ℕ) (own : List (List ℕ)) (n : Bool) (t : Option (List ℕ)) (N : Node) (keys : List (List ℕ)) (b : Bounds) → IsNode N → HasKeys N keys

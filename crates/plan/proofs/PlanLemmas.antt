@@ -18,7 +18,7 @@ use Rattle.std.proofs.lemmas.Option.{same_Some}
 use Rattle.std.proofs.lemmas.Nat.{pow_pos, pow_below, mod_below}
 use Rattle.std.proofs.lemmas.Bool.{lt-ltb, ltb-true, ltb-false}
 use Rattle.std.proofs.lemmas.List.Elements.{All-cons, All-map}
-use Rattle.plan.specs.Samples.Candidates.{sort_at, sort_of, distinct_at, distinct_of, HasCount}
+use Rattle.plan.specs.Samples.Candidates.{sort_at, sort_of, distinct_at, distinct_of, HasCount, IsCandidate}
 use Rattle.plan.specs.Samples.Sizes.{HasRest, HasMore, items_from, ending_at, ending_of, CanFill, IsUpTo}
 use Rattle.plan.specs.Samples.Presence.{named}
 use Rattle.plan.specs.Samples.Names.{in_order}
@@ -37,7 +37,7 @@ use Rattle.plan.specs.Internal.Plan.{IsPlan}
 use Rattle.plan.specs.declared.values.Values.{Values}
 use Rattle.plan.specs.declared.arena.Entry.{Entry}
 use Rattle.std.proofs.lemmas.List.{get_or_default}
-use Rattle.jtree.specs.Internal.Rising.{Among, contains}
+use Rattle.jtree.specs.Internal.Rising.{Among, contained, contains}
 use Rattle.plan.specs.Samples.Keys.{AreKeySlots, HasTuples}
 use Rattle.plan.proofs.EntryLemmas.{slot_count}
 use Rattle.plan.proofs.RowLemmas.{shape_at, width_at, table_at, column_up_to}
@@ -202,11 +202,11 @@ plan_made holds BITS root P limit v es n within room values sound built = record
 -- the number of candidates of a leaf, in terms of the plan's view
 pub count_right : {Z : Type 0} (holds : Z → ℕ → Type 0) (BITS : ℕ) (root : Node) (P : Pools) (limit : ℕ) (v : Values) (es : List (Entry Z)) (first : ℕ) (q : Question) (i n : ℕ)
     → IsPlan holds BITS root P limit v es first → record { root = root; pools = P; limit = limit } ≡ q
-    → ((Q : Pools) (sites : List Site) → AreRight holds limit Q v sites es → i < length es → sort_of (site_at sites i) ≡ LeafSort → HasCount Q (site_at sites i) n)
-    → i < length (sites_of q.pools q.root) → sort_of (site_at (sites_of q.pools q.root) i) ≡ LeafSort → HasCount q.pools (site_at (sites_of q.pools q.root) i) n
+    → ((Q : Pools) (sites : List Site) → AreRight holds limit Q v sites es → i < length es → sort_of (site_at sites i) ≡ LeafSort → HasCount (IsCandidate Q limit (site_at sites i)) n)
+    → i < length (sites_of q.pools q.root) → sort_of (site_at (sites_of q.pools q.root) i) ≡ LeafSort → HasCount (IsCandidate q.pools q.limit (site_at (sites_of q.pools q.root) i)) n
 count_right holds BITS root P limit v es first q i n plan view counts within leaf =
-    let r : i < length (sites_of P root) → sort_of (site_at (sites_of P root) i) ≡ LeafSort → HasCount P (site_at (sites_of P root) i) n = λ l s. counts P (sites_of P root) plan.right (omega (arith, plan.count)) s in
-    subst (λ (x : Question). i < length (sites_of x.pools x.root) → sort_of (site_at (sites_of x.pools x.root) i) ≡ LeafSort → HasCount x.pools (site_at (sites_of x.pools x.root) i) n) view r within leaf
+    let r : i < length (sites_of P root) → sort_of (site_at (sites_of P root) i) ≡ LeafSort → HasCount (IsCandidate P limit (site_at (sites_of P root) i)) n = λ l s. counts P (sites_of P root) plan.right (omega (arith, plan.count)) s in
+    subst (λ (x : Question). i < length (sites_of x.pools x.root) → sort_of (site_at (sites_of x.pools x.root) i) ≡ LeafSort → HasCount (IsCandidate x.pools x.limit (site_at (sites_of x.pools x.root) i)) n) view r within leaf
 
 pub site_among : (sites : List Site) (i : ℕ) → i < length sites → Contains sites (site_at sites i)
 site_among sites i l = (i, l, sym (get_or_default sites i no_site (site_at sites i) l))
@@ -235,7 +235,7 @@ pub row_later : {Z : Type 0} (holds : Z → ℕ → Type 0) (limit : ℕ) (P : P
     → place < length r.slots.items → n ≡ get_or r.later.items place n → HasTuples P (drop (place + 1) (slots P (site_at sites i))) n
 row_later holds limit P names sites i place n r row keys inside is =
     let ss = slots P (site_at sites i) in
-    rw (← is) at (row.later place n (omega (arith, row.later_whole)) (λ s a key. (keys s (contains ss s (drop_among (place + 1) ss s a)) key).leaf))
+    rw (← is) at (row.later place n (omega (arith, row.later_whole)) (λ s c key. keys s (contains ss s (drop_among (place + 1) ss s (contained (drop (place + 1) ss) s c))) key))
 
 -- what a list can still take after the last place
 pub more_past : {Z : Type 0} (holds : Z → ℕ → Type 0) (limit : ℕ) (P : Pools) (sites : List Site) (i t m : ℕ) (l : ListEntry Z) → IsList holds limit P sites i l → length l.more.items ≤ t → HasMore P limit (site_at sites i) t m → ⊥

@@ -26,8 +26,7 @@ use Rattle.plan.specs.declared.arena.SlotEntry.{SlotEntry}
 use Rattle.plan.specs.declared.arena.Content.{Content}
 use Rattle.plan.specs.declared.arena.Content.TheVariants as content
 use Rattle.plan.specs.declared.arena.Entry.{Entry}
-use Rattle.plan.proofs.ApartLemmas.{among_filter}
-use Rattle.plan.proofs.DeadEndLemmas.{HasCandidates, HaveCandidates, counts, rule_of_parts, no_dead_end}
+use Rattle.plan.proofs.DeadEndLemmas.{HasCandidates, HaveCandidates, key_counts, rule_of_parts, no_dead_end}
 use Rattle.plan.specs.Internal.Laws.{StoredLaw, SchemaLaws}
 use Rattle.plan.proofs.PlanLemmas.{item_sort}
 use Rattle.plan.proofs.SoundPartLemmas.{sound_parts}
@@ -40,8 +39,8 @@ slot_entry names sites i (e ∷ es) (t ∷ ss) h s (inr a) = slot_entry names si
 slot_entry names sites i es ss h s a = absurd h
 
 -- the candidates of a leaf, and the sites of the slots of a row
-record IsKnown (P : Pools) (sites : List Site) (i : ℕ) : Type 0 where
-  pub leaf : HasCandidates P (site_at sites i)
+record IsKnown (P : Pools) (limit : ℕ) (sites : List Site) (i : ℕ) : Type 0 where
+  pub leaf : HasCandidates P limit (site_at sites i)
   pub slot : sort_of (site_at sites i) ≡ Row → (s : Slot) → Among (slots P (site_at sites i)) s → (j : ℕ) × ((j < i) × (site_at sites j ≡ s.site))
 
 some_of : {X : Type 0} (xs : List X) → 1 ≤ length xs → X
@@ -49,7 +48,7 @@ some_of [] l = absurd (omega arith)
 some_of (x ∷ xs) l = x
 
 module _ {Z : Type 0} (holds : Z → ℕ → Type 0) (limit : ℕ) (P : Pools) (v : Values) (sites : List Site) where
-  known : (i : ℕ) (c : Content Z) → HasContent holds limit P v sites i c → IsKnown P sites i
+  known : (i : ℕ) (c : Content Z) → HasContent holds limit P v sites i c → IsKnown P limit sites i
   known i (content.Leaf l) h = record { leaf = λ is. (candidates_of v l, h.candidates); slot = λ is s a. let no = sym h.sort ∙ is in absurd (cc) }
   known i (content.Row r) h = record {
     leaf = λ is. let no = sym h.sort ∙ is in absurd (cc);
@@ -60,16 +59,16 @@ module _ {Z : Type 0} (holds : Z → ℕ → Type 0) (limit : ℕ) (P : Pools) (
       record { leaf = λ is. let no = sym sort ∙ is in absurd (cc); slot = λ is s a. let no = sym sort ∙ is in absurd (cc) }
 
   module _ (es : List (Entry Z)) (count : length es ≡ length sites) (right : AreRight holds limit P v sites es) where
-    known_at : (i : ℕ) → i < length es → IsKnown P sites i
+    known_at : (i : ℕ) → i < length es → IsKnown P limit sites i
     known_at i l = let d = some_of es (omega arith) in known i (get_or es i d).content (right i d l).content
 
-    candidates : (s : Site) → Contains sites s → HaveCandidates P s
+    candidates : (s : Site) → Contains sites s → HaveCandidates P limit s
     candidates s c =
         let l : c.0 < length es = let below = c.1 in omega arith in
         let k = known_at c.0 l in
-        subst (HaveCandidates P) (get_or_default sites c.0 _ s c.1 ∙ c.2) (record {
+        subst (HaveCandidates P limit) (get_or_default sites c.0 _ s c.1 ∙ c.2) (record {
           own = k.leaf;
-          below = λ row t a. let j = k.slot row t a in subst (HasCandidates P) j.1.1 (known_at j.0 (let below = j.1.0 in omega arith)).leaf;
+          below = λ row t a. let j = k.slot row t a in subst (HasCandidates P limit) j.1.1 (known_at j.0 (let below = j.1.0 in omega arith)).leaf;
         })
 
 -- at each site of a plan, in terms of its view
@@ -81,7 +80,7 @@ plan_rules stored laws schema_laws holds BITS root P limit v es first q schema p
     subst (λ (x : Question). (s : Site) → Contains (sites_of x.pools x.root) s → RuleOfParts x.pools x.limit s × NoDeadEnd x.pools x.limit s) view (λ s c.
     let sound = All-contains (IsSoundSite P sites) sites s (sites_sound P schema_laws root schema) c in (
       rule_of_parts laws P limit s sound.0 (have s c).own,
-      no_dead_end stored laws P limit s sound.0 (sound_here s.node sound.1) (λ M is. have M (contains sites M (sound.2 M is))),
+      no_dead_end stored laws P limit s plan.room sound.0 (sound_here s.node sound.1) (λ M is. have M (contains sites M (sound.2 M is))),
     ))
 
 pub plan_parts : StoredLaw → PartLaws → SchemaLaws → (root : Node) (P : Pools) (limit : ℕ) (q : Question) → IsSchema root → record { root = root; pools = P; limit = limit } ≡ q
@@ -107,8 +106,4 @@ pub plan_counts : {Z : Type 0} (holds : Z → ℕ → Type 0) (BITS : ℕ) (root
     → record { root = root; pools = P; limit = limit } ≡ q → ((s : Site) → Contains (sites_of q.pools q.root) s → HasSoundParts q.pools s) → (s : Site) → Contains (sites_of q.pools q.root) s → (ns : List ℕ) × AreCounts q.pools (filter is_key (slots q.pools s)) ns
 plan_counts holds BITS root P limit v es first q plan view =
     subst (λ (x : Question). ((s : Site) → Contains (sites_of x.pools x.root) s → HasSoundParts x.pools s) → (s : Site) → Contains (sites_of x.pools x.root) s → (ns : List ℕ) × AreCounts x.pools (filter is_key (slots x.pools s)) ns) view (λ sound s c.
-    let have = candidates holds limit P v (sites_of P root) es plan.count plan.right s c in
-    let ss = slots P s in
-    counts P (filter is_key ss) (λ t a.
-    let f = among_filter is_key ss t a in
-    have.below (slot_row P s.fixed s.path s.node s.keys t f.0) t f.0 ((sound s c).keys t (contains ss t f.0) f.1).leaf))
+    key_counts P limit s plan.room (slot_row P s.fixed s.path s.node s.keys) (sound s c).keys (candidates holds limit P v (sites_of P root) es plan.count plan.right s c))

@@ -20,7 +20,7 @@ use Rattle.plan.specs.Samples.Candidates.{sort_at, HasCount}
 use Rattle.plan.specs.Internal.Keyed.{Keyed}
 use Rattle.plan.specs.declared.sort.Sort.TheVariants.{Leaf}
 use Rattle.plan.proofs.ApartLemmas.{map_among, among_map, map_apart}
-use Rattle.plan.proofs.TupleLemmas.{same_tree, candidates_apart}
+use Rattle.plan.proofs.TupleLemmas.{same_tree, all_apart}
 use Rattle.plan.specs.Internal.Laws.{StoredLaw}
 
 pub plain_leaf : (N : Node) → IsPlainScalar N → sort_at N ≡ Leaf
@@ -38,7 +38,7 @@ one_node IntOrString (tree.integer z) e = refl
 one_node IntOrString (tree.text s) e = refl
 one_node kind v e = absurd (cc)
 
-valid_one : (N : Node) (v : Data) → IsPlainScalar N → IsValidHere N v → node_count v ≡ 1
+pub valid_one : (N : Node) (v : Data) → IsPlainScalar N → IsValidHere N v → node_count v ≡ 1
 valid_one (node n t (scalar kind cs)) tree.null plain h = refl
 valid_one (node n t (scalar kind cs)) v plain h = one_node kind v h.0
 valid_one N v plain h = absurd plain
@@ -57,15 +57,15 @@ valid_no_null (node n t open_) plain valid = plain
 pub scalar_no_null : StoredLaw → (P : Pools) (s : Site) → IsPlainScalar s.node → IsPart P s tree.null → ⊥
 scalar_no_null stored P s plain h = valid_no_null s.node plain ((stored s.node tree.null).0 h.stored).0
 
-pub set_keyed : StoredLaw → (P : Pools) (M : Site) (count : ℕ) → IsPlainScalar M.node → HasCount P M count → (K : Keyed P M is_same) × (length K.keys ≡ count)
+pub set_keyed : StoredLaw → (P : Pools) (M : Site) (count : ℕ) → IsPlainScalar M.node → HasCount (IsPart P M) count → (K : Keyed P M is_same) × (length K.keys ≡ count)
 set_keyed stored P M count plain h =
-    let vs = h.candidates in
+    let vs = h.values in
     let one : Data → List Data = λ v. v ∷ [] in
     let size = scalar_one stored P M plain in (
       record {
         key = one;
         keys = map one vs;
-        apart = map_apart one vs (λ v w e. cc) (candidates_apart P M vs h.are);
+        apart = map_apart one vs (λ v w e. cc) (all_apart (IsPart P M) vs h.are);
         known = λ v p. map_among one vs v (contained vs v ((h.are.each v).1 p));
         given = λ v k p a.
             let w = among_map one vs k a in

@@ -6,7 +6,7 @@ use Rattle.jtree.specs.Internal.Rising.{Among, contained}
 use Rattle.jtree.specs.Data.{Data}
 use Rattle.schema.specs.Nodes.Node.{Node, node, scalar, object, list, open_, IsNode}
 use Rattle.schema.specs.Nodes.Node as nodes
-use Rattle.schema.specs.Nodes.Items.{HasKeys, HasSoundItems}
+use Rattle.schema.specs.Nodes.Items.{HasSoundItems}
 use Rattle.schema.specs.declared.node.ListType.TheVariants.{Atomic, Set, Map}
 use Rattle.plan.specs.Pools.Pools.{Pools, fixed_at}
 use Rattle.explain.specs.Paths.FieldPath.{item}
@@ -19,7 +19,7 @@ use Rattle.plan.specs.Samples.Keys.{AreInOrder, AreKeySlots, AreSetItems, AreMap
 use Rattle.plan.specs.Internal.PartLaws.{PartLaws}
 use Rattle.plan.specs.declared.sort.Distinct.TheVariants.{Free, Whole, Keys}
 use Rattle.plan.proofs.KeyedLemmas.{at_most}
-use Rattle.plan.proofs.MapListLemmas.{slot_key, have_keys, map_alike}
+use Rattle.plan.proofs.MapListLemmas.{slot_key, own_keys, map_alike}
 use Rattle.plan.specs.Internal.Laws.{StoredLaw}
 use Rattle.plan.proofs.PartLemmas.{fields_in_order, name_of_value_slot, values_in_order}
 use Rattle.plan.proofs.FixedLemmas.{leaf_any}
@@ -41,10 +41,6 @@ no_key P path (node n t (nodes.map M type b)) s a = ap (λ u. Slot.key u) (sym (
 no_key P path (node n t (scalar kind cs)) s a = absurd a
 no_key P path (node n t (list M type ks b)) s a = absurd a
 no_key P path (node n t open_) s a = absurd a
-
-own_keys : StoredLaw → (P : Pools) (path : List ℕ) (N : Node) (keys : List (List ℕ)) → IsNode N → HasKeys N keys → AreKeySlots P (slots_at P path N keys)
-own_keys stored P path (node n t (object fs preserves type b cs)) keys o h = (have_keys stored P fs path keys (named cs) o h.2).are
-own_keys stored P path N keys o h = absurd h
 
 key_slots : StoredLaw → (P : Pools) (path : List ℕ) (N : Node) (keys : List (List ℕ)) → IsNode N → AreKeysOf N keys → AreKeySlots P (slots_at P path N keys)
 key_slots stored P path N keys o (inl none) = rw none (λ s c key. let no = sym (no_key P path N s (contained (slots_at P path N []) s c)) ∙ key in absurd (cc))

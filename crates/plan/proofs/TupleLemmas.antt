@@ -1,5 +1,5 @@
 -- The tuples of the candidates of slots: all of them, and those that are not used.
-use Rattle.std.specs.Prelude.{◌≡◌, ◌≢◌, ℕ, ◌*◌, ◌<◌, ◌↔◌, List, true, All, AllPairs, filter, map, Contains}
+use Rattle.std.specs.Prelude.{◌≡◌, ◌≢◌, ℕ, ◌*◌, ◌≤◌, ◌<◌, ◌↔◌, List, true, All, AllPairs, filter, map, Contains}
 use Rattle.std.specs.Bool.{Decides}
 use Rattle.std.specs.Cmp.{IsEquivalence, Equal-is}
 use Rattle.std.specs.declared.cmp.Ordering.TheVariants.{Equal}
@@ -13,13 +13,15 @@ use Rattle.std.proofs.lemmas.List.Elements.{All-contains}
 use Rattle.std.proofs.lemmas.List.Kept.{AllPairs-filter}
 use Rattle.std.proofs.lemmas.Slice.Eq.{slice_eq-Decides}
 use Rattle.jtree.specs.Data.{Data}
+use Rattle.jtree.specs.Nodes.{node_count}
 use Rattle.jtree.specs.Order.{tree_cmp}
 use Rattle.jtree.specs.Internal.OrderLaws.{tree_same, tree_total}
 use Rattle.jtree.specs.Internal.Rising.{Among, contained, contains, rising}
 use Rattle.stored.specs.Objects.Tests.{is_same}
 use Rattle.plan.specs.Pools.Pools.{Pools}
 use Rattle.plan.specs.Samples.Sites.{Site, Slot}
-use Rattle.plan.specs.Samples.Candidates.{AreCandidates}
+use Rattle.plan.specs.Samples.Candidates.{AreAll, HasCount, IsCandidate}
+use Rattle.plan.specs.Samples.Part.{IsPart}
 use Rattle.plan.specs.Samples.NoDeadEnd.{IsTuple, AreCounts, product, begins, HasFree}
 use Rattle.plan.specs.Internal.Keyed.{IsApart}
 use Rattle.plan.proofs.ApartLemmas.{each_before, among_each, each_among, each_length, each_apart, map_apart, map_among, among_map, among_filter, filter_among, apart_length, one_free}
@@ -40,8 +42,16 @@ tuple_laws = lists_equiv (eq_by_cmp_equiv tree_total)
 
 -- ---- all tuples
 
-pub candidates_apart : (P : Pools) (s : Site) (vs : List Data) → AreCandidates P s vs → IsApart vs
-candidates_apart P s vs h = rising (λ u v. u ≢ v) vs (λ i j d l m e. let before = h.ascending i j d l m in let tied = tree_tied _ _ e in cc)
+pub all_apart : (A : Data → Type 0) (vs : List Data) → AreAll A vs → IsApart vs
+all_apart A vs h = rising (λ u v. u ≢ v) vs (λ i j d l m e. let before = h.ascending i j d l m in let tied = tree_tied _ _ e in cc)
+
+pub all_same : (A B : Data → Type 0) (vs : List Data) → ((v : Data) → A v ↔ B v) → AreAll A vs → AreAll B vs
+all_same A B vs same are = record { each = λ v. ((λ c. (same v).0 ((are.each v).0 c)), λ b. (are.each v).1 ((same v).1 b)); ascending = are.ascending }
+
+-- where each part is one node, all of them are candidates
+pub count_parts : (P : Pools) (limit : ℕ) (s : Site) (n : ℕ) → 1 ≤ limit → ((v : Data) → IsPart P s v → node_count v ≡ 1) → HasCount (IsCandidate P limit s) n → HasCount (IsPart P s) n
+count_parts P limit s n some one h =
+    record { values = h.values; are = all_same (IsCandidate P limit s) (IsPart P s) h.values (λ v. ((λ c. c.0), λ p. (p, omega (arith, one v p)))) h.are; count_is = h.count_is }
 
 -- all tuples of the slots, each once
 pub record AreTuples (P : Pools) (ss : List Slot) (ts : List (List Data)) : Type 0 where
@@ -52,7 +62,7 @@ no_slots : (P : Pools) (t : List Data) → IsTuple P [] t → Among ([] ∷ []) 
 no_slots P [] h = inl refl
 no_slots P (v ∷ t) h = absurd h
 
-one_slot : (P : Pools) (s : Slot) (ss : List Slot) (vs : List Data) (ts : List (List Data)) → AreCandidates P s.site vs → AreTuples P ss ts → (t : List Data) → IsTuple P (s ∷ ss) t → Among (each_before vs ts) t
+one_slot : (P : Pools) (s : Slot) (ss : List Slot) (vs : List Data) (ts : List (List Data)) → AreAll (IsPart P s.site) vs → AreTuples P ss ts → (t : List Data) → IsTuple P (s ∷ ss) t → Among (each_before vs ts) t
 one_slot P s ss vs ts c h [] is = absurd is
 one_slot P s ss vs ts c h (v ∷ t) is = each_among vs ts v t (contained vs v ((c.each v).1 is.0)) ((h.each t).1 is.1)
 
@@ -61,7 +71,7 @@ all_tuples P [] [] h = ([] ∷ [], (record { each = λ t. ((λ a. elim a [ inl e
 all_tuples P [] (n ∷ ns) h = absurd h
 all_tuples P (s ∷ ss) [] h = absurd h
 all_tuples P (s ∷ ss) (n ∷ ns) h =
-    let vs = h.0.candidates in
+    let vs = h.0.values in
     let r = all_tuples P ss ns h.1 in (
       each_before vs r.0,
       (
@@ -70,7 +80,7 @@ all_tuples P (s ∷ ss) (n ∷ ns) h =
             (λ a. let q = among_each vs r.0 t a in subst (IsTuple P (s ∷ ss)) q.1.1.2 ((h.0.are.each q.0).0 (contains vs q.0 q.1.1.0), (r.1.0.each q.1.0).0 q.1.1.1)),
             one_slot P s ss vs r.0 h.0.are r.1.0 t,
           );
-          apart = each_apart vs r.0 (candidates_apart P s.site vs h.0.are) r.1.0.apart;
+          apart = each_apart vs r.0 (all_apart (IsPart P s.site) vs h.0.are) r.1.0.apart;
         },
         each_length vs r.0 ∙ ap (λ k. k * length r.0) h.0.count_is ∙ ap (λ k. n * k) r.1.1,
       ),

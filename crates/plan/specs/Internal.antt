@@ -11,7 +11,6 @@ pub mod PathLists
 pub mod Building
 pub mod Keyed
 pub mod Plan
-pub mod Tuples
 pub mod Widest
 pub mod Frame
 pub mod Way

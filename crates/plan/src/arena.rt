@@ -2,7 +2,7 @@
 ghost use Rattle.std.specs.Prelude.{◌≡◌, ◌<◌, ◌≤◌, ◌+◌, ◌++◌, ◌∷◌, ℕ, List, [], length, IfOk, IfSome, IfNone};
 ghost use Rattle.plan.specs.Pools.Pools.{Pools};
 ghost use Rattle.plan.specs.Samples.Sites.{Site};
-ghost use Rattle.plan.specs.Samples.Candidates.{sort_of, HasCount};
+ghost use Rattle.plan.specs.Samples.Candidates.{sort_of, HasCount, IsCandidate};
 ghost use Rattle.plan.specs.Internal.Arena.{AreRightBelow};
 ghost use Rattle.plan.specs.Samples.Sites.{site_at};
 ghost use Rattle.plan.specs.declared.values.Values.{Values};
@@ -133,7 +133,7 @@ impl<Z: SizeSet> Entry<Z> {
 
     /// How many candidates the leaf has; 0 where the node is not a leaf.
     fn count(&self) -> u64
-        ensures { (P : Pools) (limit : ℕ) (v : Values) (sites : List Site) (i : ℕ) → IsRight Z.holds limit P v sites i self.now → sort_of (site_at sites i) ≡ LeafSort → HasCount P (site_at sites i) result }
+        ensures { (P : Pools) (limit : ℕ) (v : Values) (sites : List Site) (i : ℕ) → IsRight Z.holds limit P v sites i self.now → sort_of (site_at sites i) ≡ LeafSort → HasCount (IsCandidate P limit (site_at sites i)) result }
     {
         match &self.content {
             Content::Leaf(leaf) => leaf.places.len() as u64,
@@ -148,7 +148,7 @@ impl<Z: SizeSet> Entry<Z> {
 
     /// How wide the node is: by its candidates or its slots.
     pub(crate) fn width(&self) -> u64
-        ensures { (P : Pools) (limit : ℕ) (v : Values) (sites : List Site) (i : ℕ) → IsRight Z.holds limit P v sites i self.now → HasWidth P (site_at sites i) result }
+        ensures { (P : Pools) (limit : ℕ) (v : Values) (sites : List Site) (i : ℕ) → IsRight Z.holds limit P v sites i self.now → HasWidth P limit (site_at sites i) result }
     {
         match &self.content {
             Content::Leaf(leaf) => leaf.places.len() as u64,
@@ -229,7 +229,7 @@ impl<Z: SizeSet> Arena<Z> {
     /// How many candidates the leaf has; 0 where the node is not a leaf of the arena.
     pub(crate) fn count(&self, node: PlanNode) -> u64
         ensures { (P : Pools) (sites : List Site) (i : ℕ) → AreRightBelow Z.holds self.now.limit P self.now.values sites i self.now.entries.items → node < i → i ≤ length self.now.entries.items
-            → sort_of (site_at sites node) ≡ LeafSort → HasCount P (site_at sites node) result }
+            → sort_of (site_at sites node) ≡ LeafSort → HasCount (IsCandidate P self.now.limit (site_at sites node)) result }
     {
         match self.find(node) {
             Some(entry) => entry.count(),

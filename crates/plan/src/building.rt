@@ -262,8 +262,9 @@ pub(crate) fn leaf_entry<Z: SizeSet>(
     ensures { IfOk result (λ e. (sites : List Site) (i : ℕ) (keys : List (List ℕ)) → AreValues pools.now arena.now.values → site_at sites i ≡ record { node = node_of node.now; keys = keys; path = path.now; fixed = option_map (λ ts. trees_of ts.now) fixed.entry }
         → takes_null_at pools.now path.now (node_of node.now) ≡ nullable → IsRight Z.holds arena.now.limit pools.now arena.now.values sites i e) }
 {
-    let leaf = leaf_of(alloc, pools, &arena.values, fixed, path, node)?;
-    let sizes = leaf_sizes(&arena.values, &leaf, arena.limit);
+    let values = &arena.values;
+    let leaf = leaf_of(alloc, pools, arena.limit, values, fixed, path, node)?;
+    let sizes = leaf_sizes(values, &leaf, arena.limit);
     Ok(Entry {
         sizes,
         nullable,

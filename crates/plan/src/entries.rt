@@ -46,6 +46,7 @@ fn later_tuples<Z: SizeSet>(
     alloc: Global,
     slots: &[SlotEntry],
 ) -> Result<Vec<u64>, AllocError>
+    requires { 1 ≤ arena.now.limit }
     ensures whole { IfOk result (λ later. length later.items ≡ length slots.now) }
     ensures later { IfOk result (λ later. (P : Pools) (sites : List Site) (i : ℕ) (ss : List Slot) → AreRightBelow Z.holds arena.now.limit P arena.now.values sites i arena.now.entries.items → i ≤ length arena.now.entries.items
         → AreSlots arena.now.values.names.items sites i slots.now ss → AreLater P ss later.items) }

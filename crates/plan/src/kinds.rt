@@ -2,6 +2,7 @@
 //! scalars of a schema are such.
 ghost use Rattle.std.specs.Prelude.{◌≡◌, ◌↔◌, [], true, IfOk, IfSome};
 ghost use Rattle.jtree.specs.Data.{Data};
+ghost use Rattle.jtree.specs.Nodes.{node_count};
 ghost use Rattle.jtree.specs.declared.value.Tree.{Tree};
 ghost use Rattle.schema.specs.Nodes.Node.{no_branches};
 ghost use Rattle.schema.specs.Nodes.Validations.{presence};
@@ -52,12 +53,12 @@ impl Kinds {
     }
 }
 
-/// The places of the trees that are stored at a scalar of this kind, of which nothing else is asked.
+/// The places of the trees that are stored at a scalar of this kind, of which nothing else is asked; each is one node.
 fn places_of_kind(alloc: Global, kind: ScalarKind, trees: &[Tree]) -> Result<Vec<usize>, AllocError>
-    ensures { IfOk result (λ places. (past : Tree) → AreStored (of_kind kind) (trees_of trees.now) (at_places past trees.now places.items)) }
+    ensures { IfOk result (λ places. (past : Tree) → AreStored 1 (of_kind kind) (trees_of trees.now) (at_places past trees.now places.items)) }
 {
     let node = node_of_kind(alloc, kind);
-    stored_places(alloc, &node, trees)
+    stored_places(alloc, 1, &node, trees)
 }
 
 /// A scalar of this kind, of which nothing else is asked.
@@ -109,7 +110,8 @@ fn no_branches(alloc: Global) -> Branches
 
 /// The kind of a scalar of which nothing else is asked, and that is not nullable. `None` for any other node.
 pub(crate) fn bare_kind(node: &Node) -> Option<ScalarKind>
-    ensures { IfSome result (λ kind. (v : Data) → IsStored (of_kind kind) v ↔ IsStored (node_of node.now) v) }
+    ensures alike { IfSome result (λ kind. (v : Data) → IsStored (of_kind kind) v ↔ IsStored (node_of node.now) v) }
+    ensures one { IfSome result (λ _. (v : Data) → IsStored (node_of node.now) v → node_count v ≡ 1) }
 {
     stored::laws::stored_by_parts();
     match &node.sort {

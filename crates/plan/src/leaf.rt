@@ -1,6 +1,7 @@
 //! The candidates of a leaf: a scalar, an open node, or a node whose values are fixed.
 ghost use Rattle.std.specs.Prelude.{◌≡◌, ℕ, ◌≤◌, ◌<◌, ◌↔◌, ◌⊎◌, ◌∷◌, IfOk, map, option_map};
 ghost use Rattle.std.specs.List.{slice_get};
+ghost use Rattle.std.specs.Bool.{Decides};
 ghost use Rattle.std.specs.Option.{option_copied};
 ghost use Rattle.jtree.specs.Data.{null};
 ghost use Rattle.jtree.specs.Nodes.{node_count};
@@ -12,7 +13,7 @@ ghost use Rattle.plan.specs.Samples.Sites.{Site, plain, where_fixed};
 ghost use Rattle.plan.specs.Samples.Over.{listed_for, listed};
 ghost use Rattle.plan.specs.Samples.Candidates.{sort_at, sort_of, AreCandidates};
 ghost use Rattle.plan.specs.Samples.Sizes.{HasSize, IsUpTo};
-ghost use Rattle.plan.specs.Internal.Values.{trees_of, IsBase, AreValues, base_of, tree_of, at_places, AreStored, AreKinds, choices_at, candidates_of};
+ghost use Rattle.plan.specs.Internal.Values.{trees_of, IsBase, AreValues, base_of, tree_of, at_places, IsStoredWithin, AreStored, AreKinds, choices_at, candidates_of};
 ghost use Rattle.plan.specs.declared.values.Values.{Values};
 ghost use Rattle.plan.specs.declared.sort.Sort.TheVariants.{Leaf as LeafSort};
 
@@ -40,50 +41,57 @@ pub(crate) struct Leaf {
     pub places: Vec<usize>,
 }
 
-/// The candidates of a leaf at this path: its choices, as far as they are stored there.
+/// The candidates of a leaf at this path: its choices within the limit, as far as they are stored there.
 pub(crate) fn leaf_of(
     alloc: Global,
     pools: &Pools,
+    limit: u32,
     values: &Values,
     fixed: Option<&[Tree]>,
     path: &str,
     node: &Node,
 ) -> Result<Leaf, AllocError>
-    ensures { IfOk result (λ l. (s : Site) → AreValues pools.now values.now → s.node ≡ node_of node.now → s.path ≡ path.now → s.fixed ≡ option_map (λ ts. trees_of ts.now) fixed.entry → sort_of s ≡ LeafSort → AreCandidates pools.now s (candidates_of values.now l)) }
+    ensures { IfOk result (λ l. (s : Site) → AreValues pools.now values.now → s.node ≡ node_of node.now → s.path ≡ path.now → s.fixed ≡ option_map (λ ts. trees_of ts.now) fixed.entry → sort_of s ≡ LeafSort → AreCandidates pools.now limit s (candidates_of values.now l)) }
 {
     laws::parts_one_level();
     let base = base_for(alloc, pools, fixed, path, node)?;
-    let places = places_in(alloc, values, &base, node)?;
+    let places = places_in(alloc, limit, values, &base, node)?;
     Ok(Leaf { base, places })
 }
 
 /// The places in its base of the candidates of a leaf.
 fn places_in(
     alloc: Global,
+    limit: u32,
     values: &Values,
     base: &Base,
     node: &Node,
 ) -> Result<Vec<usize>, AllocError>
-    ensures { IfOk result (λ places. AreKinds values.now.scalars.items values.now.kinds → (past : Tree) → AreStored (node_of node.now) (trees_of (base_of values.now base.now)) (at_places past (base_of values.now base.now) places.items)) }
+    ensures { IfOk result (λ places. AreKinds values.now.scalars.items values.now.kinds → (past : Tree) → AreStored limit (node_of node.now) (trees_of (base_of values.now base.now)) (at_places past (base_of values.now base.now) places.items)) }
 {
     match (base, bare_kind(node)) {
-        (Base::Scalars, Some(kind)) => Vec::from_slice(alloc, values.kinds.places(kind)),
-        _ => stored_places(alloc, node, base.trees(values)),
+        (Base::Scalars, Some(kind)) if limit > 0 => {
+            Vec::from_slice(alloc, values.kinds.places(kind))
+        }
+        _ => stored_places(alloc, limit, node, base.trees(values)),
     }
 }
 
 /// The candidates of a leaf, in the tree order, each once: the values that a scalar or an open node with this path can have, or, where
-/// the pools fix its values, those of them that are stored there. `AllocError` where an allocation fails.
+/// the pools fix its values, those of them that are stored there; in both cases with at most `limit` nodes. A value with more is not
+/// compared with the node. `AllocError` where an allocation fails.
 pub fn candidates(
     alloc: Global,
     pools: &Pools,
+    limit: u32,
     path: &str,
     node: &Node,
 ) -> Result<Vec<Tree>, AllocError>
-    ensures { IfOk result (λ vs. sort_at (node_of node.now) ≡ LeafSort → AreCandidates pools.now (plain pools.now path.now (node_of node.now)) (map (λ v. data_of v) vs.items)) }
+    ensures { IfOk result (λ vs. sort_at (node_of node.now) ≡ LeafSort → AreCandidates pools.now limit (plain pools.now path.now (node_of node.now)) (map (λ v. data_of v) vs.items)) }
 {
     let values = Values::new(alloc, pools)?;
-    let leaf = leaf_of(alloc, pools, &values, pools.fixed_at(path), path, node)?;
+    let fixed = pools.fixed_at(path);
+    let leaf = leaf_of(alloc, pools, limit, &values, fixed, path, node)?;
     copies(alloc, &values, &leaf)
 }
 
@@ -139,24 +147,34 @@ fn base_by_node(alloc: Global, node: &Node) -> Result<Base, AllocError>
     }
 }
 
-/// The places of the trees that are stored at the node.
+/// The places of the trees of at most `limit` nodes that are stored at the node.
 pub(crate) fn stored_places(
     alloc: Global,
+    limit: u32,
     node: &Node,
     trees: &[Tree],
 ) -> Result<Vec<usize>, AllocError>
-    ensures { IfOk result (λ places. (past : Tree) → AreStored (node_of node.now) (trees_of trees.now) (at_places past trees.now places.items)) }
+    ensures { IfOk result (λ places. (past : Tree) → AreStored limit (node_of node.now) (trees_of trees.now) (at_places past trees.now places.items)) }
 {
     let mut places = Vec::with_capacity(alloc, trees.len())?;
     for (place, tree) in trees.iter().enumerate() {
-        tree.reveal_invariant();
-        let stored = check_stored(alloc, node, tree)?;
-        if stored {
+        if is_stored_within(alloc, limit, node, tree)? {
             places.push(place)?;
         }
     }
     // without the room to grow that is left
     Vec::from_slice(alloc, &places)
+}
+
+/// Whether the tree is stored at the node and has at most `limit` nodes. One with more is not compared with the node.
+fn is_stored_within(alloc: Global, limit: u32, node: &Node, tree: &Tree) -> Result<bool, AllocError>
+    ensures { IfOk result (λ stored. Decides stored (IsStoredWithin limit (node_of node.now) (data_of tree.now))) }
+{
+    tree.reveal_invariant();
+    if tree.nodes() > limit as u64 {
+        return Ok(false);
+    }
+    check_stored(alloc, node, tree)
 }
 
 impl Base {
@@ -190,7 +208,7 @@ pub(crate) fn candidate<'a>(values: &'a Values, leaf: &'a Leaf, place: usize) ->
 /// The sizes of the candidates, up to the limit.
 pub(crate) fn leaf_sizes<Z: SizeSet>(values: &Values, leaf: &Leaf, limit: u32) -> Z
     requires { limit < Z.BITS }
-    ensures { (P : PoolsData) (s : Site) → AreCandidates P s (candidates_of values.now leaf.now) → IsUpTo limit (Z.holds result) (HasSize P s) }
+    ensures { (P : PoolsData) (s : Site) → AreCandidates P limit s (candidates_of values.now leaf.now) → IsUpTo limit (Z.holds result) (HasSize P s) }
 {
     let mut sizes = Z::empty();
     for place in &leaf.places {

@@ -10,9 +10,8 @@ ghost use Rattle.plan.specs.Samples.Sizes.{bounds_of};
 ghost use Rattle.plan.specs.Samples.RuleOfParts.{admits_null};
 ghost use Rattle.plan.specs.Internal.Arena.{IsSlot, AreRightBelow, IsRight, IsLimit};
 ghost use Rattle.plan.specs.Samples.Sites.{site_at};
-ghost use Rattle.plan.specs.Samples.Keys.{HasTuples};
-ghost use Rattle.plan.specs.Internal.Tuples.{AreKeysLeaves, IsCutTo};
-ghost use Rattle.plan.specs.Internal.Lists.{cut};
+ghost use Rattle.plan.specs.Samples.Keys.{AreKeySlots, HasTuples};
+ghost use Rattle.plan.specs.Internal.Lists.{IsCutTo, cut};
 ghost use Rattle.plan.specs.declared.sort.Sort.TheVariants.{Leaf, Row};
 
 use crate::arena::{Arena, Content, Entry, ListEntry, PlanNode, SlotEntry};
@@ -66,8 +65,9 @@ fn distinct(list_type: ListType) -> Distinct
 
 /// How many tuples the keys of a slot and of those after it have, where those after it have `later`; at most 2^64 - 1.
 pub(crate) fn tuples_from<Z: SizeSet>(arena: &Arena<Z>, slot: &SlotEntry, later: u64) -> u64
+    requires { 1 ≤ arena.now.limit }
     ensures { (P : Pools) (sites : List Site) (i : ℕ) (s : Slot) (ss : List Slot) → AreRightBelow Z.holds arena.now.limit P arena.now.values sites i arena.now.entries.items → i ≤ length arena.now.entries.items
-        → IsSlot arena.now.values.names.items sites i slot.now s → AreKeysLeaves (s ∷ ss) → HasTuples P ss later → HasTuples P (s ∷ ss) result }
+        → IsSlot arena.now.values.names.items sites i slot.now s → AreKeySlots P (s ∷ ss) → HasTuples P ss later → HasTuples P (s ∷ ss) result }
 {
     if slot.key {
         later.saturating_mul(arena.count(slot.node))
@@ -99,6 +99,7 @@ fn item_bounds<Z: SizeSet>(
     bounds: Bounds,
 ) -> Bounds
     requires item { item < length arena.now.entries.items }
+    requires some { 1 ≤ arena.now.limit }
     requires limit { arena.now.limit < 18446744073709551615 }
     ensures { (P : Pools) (sites : List Site) (i : ℕ) (s : Site) → AreRightBelow Z.holds arena.now.limit P arena.now.values sites i arena.now.entries.items → item < i → i ≤ length arena.now.entries.items
         → (n : Bool) (d : Option (List ℕ)) → s.node ≡ node_with n d (list_of list.now) → bounds_of P s ≡ bounds → item_site P s ≡ Some (site_at sites item) → IsNode s.node → HasSoundItems s.node
@@ -115,9 +116,10 @@ fn item_bounds<Z: SizeSet>(
 
 /// How many tuples of keys the row has; 0 where the node is not a row.
 fn item_tuples<Z: SizeSet>(arena: &Arena<Z>, node: PlanNode) -> u64
-    requires { node < length arena.now.entries.items }
+    requires node { node < length arena.now.entries.items }
+    requires some { 1 ≤ arena.now.limit }
     ensures { (P : Pools) (sites : List Site) (i : ℕ) → AreRightBelow Z.holds arena.now.limit P arena.now.values sites i arena.now.entries.items → node < i → i ≤ length arena.now.entries.items
-        → sort_of (site_at sites node) ≡ Row → AreKeysLeaves (slots P (site_at sites node)) → HasTuples P (slots P (site_at sites node)) result }
+        → sort_of (site_at sites node) ≡ Row → AreKeySlots P (slots P (site_at sites node)) → HasTuples P (slots P (site_at sites node)) result }
 {
     match &arena.entry(node).content {
         Content::Row(row) => match (row.slots.first(), row.later.first()) {

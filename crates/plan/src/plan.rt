@@ -76,7 +76,7 @@ impl<Z: SizeSet> Plan<Z> {
     ghost use Rattle.plan.specs.Samples.Keys.{HasTuples, HasSoundParts};
     ghost use Rattle.plan.specs.Samples.ByPlace.{IsSlotAt, IsCandidateAt};
     ghost use Rattle.plan.specs.Samples.Sites.{Site, Slot as SiteSlot, sites_of, root_site, item_site, slots as slots_of};
-    ghost use Rattle.plan.specs.Samples.Candidates.{sort_of, distinct_of, HasCount, IsWidth};
+    ghost use Rattle.plan.specs.Samples.Candidates.{sort_of, distinct_of, HasCount, IsCandidate, IsWidth};
     ghost use Rattle.plan.specs.Samples.Sizes.{HasSize, HasRest, HasMore, IsUpTo, ending_of};
     ghost use Rattle.plan.specs.Samples.Presence.{named};
     ghost use Rattle.plan.specs.Samples.Sites.{site_at};
@@ -217,18 +217,18 @@ impl<Z: SizeSet> Plan<Z> {
         }
     }
 
-    /// The number of candidates. Only for a leaf.
+    /// The number of candidates: of the values within the limit. Only for a leaf.
     pub fn count(&self, node: PlanNode) -> u64
         requires node { node < length (sites_of self.now.pools self.now.root) }
         requires leaf { sort_of (site_at (sites_of self.now.pools self.now.root) node) ≡ sort.Leaf }
-        ensures { HasCount self.now.pools (site_at (sites_of self.now.pools self.now.root) node) result }
+        ensures { HasCount (IsCandidate self.now.pools self.now.limit (site_at (sites_of self.now.pools self.now.root) node)) result }
     {
         self.arena.count(node)
     }
 
     /// The width of the widest node: by the slots of a row, or by the candidates of a leaf; 0 where there are none.
     pub fn width(&self) -> u64
-        ensures { IsWidth self.now.pools self.now.root result }
+        ensures { IsWidth self.now result }
     {
         let mut width: u64 = 0;
         for entry in &self.arena.entries {
@@ -316,7 +316,7 @@ impl<Z: SizeSet> Plan<Z> {
     pub fn candidate(&self, node: PlanNode, place: u64, meter: &mut Meter) -> Option<&Tree>
         requires node { node < length (sites_of self.now.pools self.now.root) }
         requires leaf { sort_of (site_at (sites_of self.now.pools self.now.root) node) ≡ sort.Leaf }
-        ensures candidate { IsCandidateAt self.now.pools (site_at (sites_of self.now.pools self.now.root) node) place (option_map data_of (option_copied result)) }
+        ensures candidate { IsCandidateAt self.now.pools self.now.limit (site_at (sites_of self.now.pools self.now.root) node) place (option_map data_of (option_copied result)) }
         ensures step { meter.new ≡ counted meter.old 1 }
     {
         meter.step();

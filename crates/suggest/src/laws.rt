@@ -46,7 +46,8 @@ pub fn no_sample_has_a_left_out_path()
 }
 
 /// What stands in an object at a scalar or an open node, and is stored there, is a candidate there over the pools that are suggested
-/// from objects, where the document has a list for its path that is not full. Paths that are left out count as absent.
+/// from objects, within any limit that its nodes are within, where the document has a list for its path that is not full. Paths that are
+/// left out count as absent.
 pub fn what_stands_there_is_a_candidate()
     ensures { WhatStandsThereIsACandidate }
 {

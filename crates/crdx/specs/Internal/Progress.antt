@@ -24,7 +24,7 @@ pub record AddsBlock (q : Question) (place : Option Data) (count : ℕ) (e : Opt
 -- at most as many steps as the lines written since then may take
 abbrev pub IsWithinLines : Question → ℕ → ℕ → ℕ → ℕ → Type 0
 IsWithinLines q lines_before lines_now steps_before steps_now =
-    (width : ℕ) → IsWidth q.pools q.root width → steps_now + lines_before * delay q.limit width ≤ steps_before + lines_now * delay q.limit width
+    (width : ℕ) → IsWidth q width → steps_now + lines_before * delay q.limit width ≤ steps_before + lines_now * delay q.limit width
 
 -- what is out where the page after `before` lines was not written whole: nothing of it, out of memory, or a part
 abbrev pub IsPartialBlock : Question → Option Data → ℕ → Option Envelope → ℕ → Option (List ℕ) → Option (List ℕ) → ℕ → ℕ → WFault → Type 0

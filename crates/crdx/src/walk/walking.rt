@@ -87,7 +87,7 @@ pub fn walk<Z: SizeSet, W: Sink>(
     ensures cut { IfErr result (λ e. IsPartialOutput plan.now (resume_point after.entry) total (option_copied envelope.entry) (W.taken out.old) (W.taken out.new) (W.failures out.old) (W.failures out.new) e) }
     ensures goes_on { IfErr result (CanGoOn plan.now (resume_point after.entry) total) }
     ensures unfailed { OnOk result (W.failures out.new ≡ W.failures out.old) }
-    ensures steps { IfOk result (λ walked. (width : ℕ) → IsWidth plan.now.pools plan.now.root width
+    ensures steps { IfOk result (λ walked. (width : ℕ) → IsWidth plan.now width
         → meter.new ≤ meter.old + (walked.lines + 1) * delay plan.now.limit width) }
 {
     let extent = Extent {
@@ -117,7 +117,7 @@ pub fn walk_to_end<Z: SizeSet, W: Sink>(
     ensures cut { IfErr result (λ e. IsPartialOutput plan.now (resume_point after.entry) most_lines (option_copied envelope.entry) (W.taken out.old) (W.taken out.new) (W.failures out.old) (W.failures out.new) e) }
     ensures goes_on { IfErr result (CanGoOn plan.now (resume_point after.entry) most_lines) }
     ensures unfailed { OnOk result (W.failures out.new ≡ W.failures out.old) }
-    ensures steps { IfOk result (λ walked. (width : ℕ) → IsWidth plan.now.pools plan.now.root width
+    ensures steps { IfOk result (λ walked. (width : ℕ) → IsWidth plan.now width
         → meter.new ≤ meter.old + (walked.lines + 1) * delay plan.now.limit width) }
 {
     let extent = Extent {
@@ -145,7 +145,7 @@ fn walk_within<Z: SizeSet, W: Sink>(
     ensures cut { IfErr result (λ e. IsPartialOutput plan.now (resume_point after.entry) extent.total (option_copied envelope.entry) (W.taken out.old) (W.taken out.new) (W.failures out.old) (W.failures out.new) e) }
     ensures goes_on { IfErr result (CanGoOn plan.now (resume_point after.entry) extent.total) }
     ensures unfailed { OnOk result (W.failures out.new ≡ W.failures out.old) }
-    ensures steps { IfOk result (λ walked. (width : ℕ) → IsWidth plan.now.pools plan.now.root width
+    ensures steps { IfOk result (λ walked. (width : ℕ) → IsWidth plan.now width
         → meter.new ≤ meter.old + (walked.lines + 1) * delay plan.now.limit width) }
 {
     enumerate::laws::pages_agree();

@@ -363,7 +363,7 @@ static WIDTHS: [Width; 4] = [
         bound: 1024,
     },
     Width {
-        name: "a value of more nodes than the limit",
+        name: "two values of more nodes than the limit",
         given: LARGE_VALUES,
         width: 1,
         bound: 24,

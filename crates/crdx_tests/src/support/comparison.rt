@@ -52,7 +52,7 @@ fn are_candidates(
     Ok(())
 }
 
-/// The candidates of a leaf are all parts, also those of more nodes than the limit.
+/// The candidates of a leaf are its parts of at most as many nodes as the limit.
 fn try_leaf(
     report: &mut Report,
     of: Compared<'_>,
@@ -65,7 +65,8 @@ fn try_leaf(
 {
     match of.plan.sort(number) {
         Sort::Leaf => {
-            let parts = plain_parts(of.alloc, node, path, of.pools, u64::MAX)?;
+            let limit = u64::from(of.plan.limit());
+            let parts = plain_parts(of.alloc, node, path, of.pools, limit)?;
             are_candidates(report, of.plan, number, &parts, meter)
         }
         Sort::Row | Sort::List => {

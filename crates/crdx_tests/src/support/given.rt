@@ -108,6 +108,6 @@ pub const NULLABLE_OBJECTS: Given<'static> = Given {
 /// A value of four nodes, which is more than a sample may have.
 pub const LARGE_VALUES: Given<'static> = Given {
     schema: OPEN,
-    pools: r#"{"any":[[1,2,3]]}"#,
+    pools: r#"{"any":[[1,2,3],[4,5,6]]}"#,
     limit: 2,
 };

@@ -22,7 +22,7 @@ use Rattle.plan.specs.Samples.Sites.{sites_of}
 use Rattle.plan.specs.Samples.Question.{Question}
 use Rattle.plan.specs.declared.sort.Sort.TheVariants as sort
 use Rattle.enumerate.specs.View.{trees_of}
-use Rattle.enumerate.specs.Internal.Nodes.{site, IsNodeOf}
+use Rattle.enumerate.specs.Internal.Nodes.{site, IsNodeOf, IsCandidateOf}
 use Rattle.enumerate.proofs.walks.Least.{tree_order, not_itself}
 
 -- ---- lists that ascend
@@ -49,37 +49,37 @@ rising_same (u ∷ us) (v ∷ vs) r s there back =
     cc
 
 module _ (q : Question) (i : ℕ) where
-  pub candidates_same : (us vs : List Data) → AreCandidates q.pools (site q i) us → AreCandidates q.pools (site q i) vs → us ≡ vs
+  pub candidates_same : (us vs : List Data) → AreCandidates q.pools q.limit (site q i) us → AreCandidates q.pools q.limit (site q i) vs → us ≡ vs
   candidates_same us vs c d = rising_same us vs (rising IsBefore us c.ascending) (rising IsBefore vs d.ascending)
       (λ v a. contained vs v ((d.each v).1 ((c.each v).0 (contains us v a))))
       (λ v a. contained us v ((c.each v).1 ((d.each v).0 (contains vs v a))))
 
-  pub candidate_part : (place : ℕ) (v : Data) → IsCandidateAt q.pools (site q i) place (Some v) → IsPart q.pools (site q i) v
+  pub candidate_part : (place : ℕ) (v : Data) → IsCandidateAt q.pools q.limit (site q i) place (Some v) → IsPart q.pools (site q i) v
   candidate_part place v candidate =
       let at : slice_get candidate.candidates place ≡ Some v = sym candidate.is in
-      (candidate.are.each v).0 (place, slice_get_within candidate.candidates place v at, get_or_from_slice_get candidate.candidates place v v at)
+      ((candidate.are.each v).0 (place, slice_get_within candidate.candidates place v at, get_or_from_slice_get candidate.candidates place v v at)).0
 
   -- before the end there is one
-  pub some_candidate : (place n : ℕ) → HasCount q.pools (site q i) n → place < n → IsCandidateAt q.pools (site q i) place None → ⊥
+  pub some_candidate : (place n : ℕ) → HasCount (IsCandidateOf q i) n → place < n → IsCandidateAt q.pools q.limit (site q i) place None → ⊥
   some_candidate place n count inside candidate =
-      let same = ap length (candidates_same candidate.candidates count.candidates candidate.are count.are) in
+      let same = ap length (candidates_same candidate.candidates count.values candidate.are count.are) in
       let at = slice_get-get_or candidate.candidates place null (omega (arith, inside, same, count.count_is)) in
       let is = candidate.is in
       cc
 
   -- a leaf has at most as many candidates as the plan is wide
-  pub count_within : IsNodeOf q i → sort_of (site q i) ≡ sort.Leaf → (n : ℕ) → HasCount q.pools (site q i) n → (w : ℕ) → IsWidth q.pools q.root w → n ≤ w
+  pub count_within : IsNodeOf q i → sort_of (site q i) ≡ sort.Leaf → (n : ℕ) → HasCount (IsCandidateOf q i) n → (w : ℕ) → IsWidth q w → n ≤ w
   count_within at leaf n count w width =
-      width.each (site q i) n (Contains-get_or (sites_of q.pools q.root) i _ at) (subst (λ s. HasWidthBy s q.pools (site q i) n) (sym leaf) count)
+      width.each (site q i) n (Contains-get_or (sites_of q.pools q.root) i _ at) (subst (λ s. HasWidthBy s q.pools q.limit (site q i) n) (sym leaf) count)
 
   -- ---- the first candidate for which C holds
 
-  module _ (C : Data → Type 0) (part : (u : Data) → C u → IsPart q.pools (site q i) u) where
+  module _ (C : Data → Type 0) where
     -- it holds for none before a place
     abbrev pub NoneBefore : ℕ → Type 0
-    NoneBefore place = (vs : List Data) → AreCandidates q.pools (site q i) vs → (j : ℕ) (u : Data) → j < place → slice_get vs j ≡ Some u → C u → ⊥
+    NoneBefore place = (vs : List Data) → AreCandidates q.pools q.limit (site q i) vs → (j : ℕ) (u : Data) → j < place → slice_get vs j ≡ Some u → C u → ⊥
 
-    pub none_after : (place : ℕ) (o : Option Data) → IsCandidateAt q.pools (site q i) place o → NoneBefore place → ((v : Data) → o ≡ Some v → C v → ⊥) → NoneBefore (place + 1)
+    pub none_after : (place : ℕ) (o : Option Data) → IsCandidateAt q.pools q.limit (site q i) place o → NoneBefore place → ((v : Data) → o ≡ Some v → C v → ⊥) → NoneBefore (place + 1)
     none_after place o candidate none not_it vs are j u below at c = elim (cases_lt j place) [
       | inl lt ↦ none vs are j u lt at c
       | inr ge ↦
@@ -88,15 +88,16 @@ module _ (q : Question) (i : ℕ) where
           not_it u (candidate.is ∙ (ap (λ xs. slice_get xs place) same ∙ (ap (slice_get vs) here ∙ at))) c
     ]
 
-    pub index_of : (vs : List Data) → AreCandidates q.pools (site q i) vs → (u : Data) → C u → (j : ℕ) × (j < length vs) × (slice_get vs j ≡ Some u)
-    index_of vs are u c =
-        let k = (are.each u).1 (part u c) in
-        (k.0, k.1, slice_get-get_or vs k.0 u k.1 ∙ ap Some k.2)
+    module _ (within : (u : Data) → C u → IsCandidateOf q i u) where
+      pub index_of : (vs : List Data) → AreCandidates q.pools q.limit (site q i) vs → (u : Data) → C u → (j : ℕ) × (j < length vs) × (slice_get vs j ≡ Some u)
+      index_of vs are u c =
+          let k = (are.each u).1 (within u c) in
+          (k.0, k.1, slice_get-get_or vs k.0 u k.1 ∙ ap Some k.2)
 
-    pub none_at_all : (place : ℕ) → HasCount q.pools (site q i) place → NoneBefore place → (u : Data) → C u → ⊥
-    none_at_all place count none u c =
-        let k = index_of count.candidates count.are u c in
-        none count.candidates count.are k.0 u (omega (arith, k.1, count.count_is)) k.2 c
+      pub none_at_all : (place : ℕ) → HasCount (IsCandidateOf q i) place → NoneBefore place → (u : Data) → C u → ⊥
+      none_at_all place count none u c =
+          let k = index_of count.values count.are u c in
+          none count.values count.are k.0 u (omega (arith, k.1, count.count_is)) k.2 c
 
 -- ---- whether a tree is among trees
 

@@ -164,8 +164,8 @@ module _ (q : Question) (first : Option Data) (count lent : ℕ) where
     next = λ after h. subst (λ o. IsNextSample q o at) (sym (after_more after l.items v)) later;
   }
 
-  module _ (has_taken : List Data → Type 0) (steps_before steps_now : ℕ) (costs : (w : ℕ) → IsWidth q.pools q.root w → steps_now ≤ steps_before + lent * delay q.limit w) where
-    within : (items : List Data) → length items ≡ lent → (w : ℕ) → IsWidth q.pools q.root w → steps_now ≤ steps_before + length items * delay q.limit w
+  module _ (has_taken : List Data → Type 0) (steps_before steps_now : ℕ) (costs : (w : ℕ) → IsWidth q w → steps_now ≤ steps_before + lent * delay q.limit w) where
+    within : (items : List Data) → length items ≡ lent → (w : ℕ) → IsWidth q w → steps_now ≤ steps_before + length items * delay q.limit w
     within items counted w wide = subst (λ n. steps_now ≤ steps_before + n * delay q.limit w) (sym counted) (costs w wide)
 
     -- the page is full, and there is a next sample

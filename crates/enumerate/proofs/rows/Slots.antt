@@ -302,8 +302,8 @@ module _ (q : Question) (i place : ℕ) (sound : HasSoundParts q.pools (site q i
     pub after_open : (d : Demand) (n : ℕ) (v : Data) → AreUsed q.pools (slots_from q i place) d.used → FitsSlot q.pools here after d n → IsValue q.pools here after d.used n v → IsOpen q.pools after (demand_after here v (d.room - n) d)
     after_open d n v known fits value = open_after q.pools here after d n v (subst (λ ss. AreUsed q.pools ss d.used) first known) fits value
 
-    pub key_leaf : here.key ≡ true → sort_of here.site ≡ sort.Leaf
-    key_leaf key = (key_here q.pools here after keys key).leaf
+    pub key_slot : here.key ≡ true → IsKeySlot q.pools here
+    key_slot key = key_here q.pools here after keys key
 
 -- a key that the plan answers
 pub key_of : (q : Question) (i place : ℕ) (t : answer.Slot) (used : List Data) → HasSoundParts q.pools (site q i) → FreeLaw → IsSlotOf q i place t → t.key ≡ true → AreUsed q.pools (slots_from q i place) used

@@ -38,7 +38,7 @@ use Rattle.enumerate.specs.declared.walk.NextParts.{NextParts}
 use Rattle.enumerate.specs.declared.walk.NextParts.TheVariants as parts
 use Rattle.enumerate.proofs.rows.Parts.{row_plain}
 use Rattle.enumerate.specs.declared.siblings.Used.{Used}
-use Rattle.enumerate.specs.Internal.Nodes.{site, IsPartOf}
+use Rattle.enumerate.specs.Internal.Nodes.{site, IsPartOf, IsCandidateOf}
 use Rattle.enumerate.specs.Internal.Lists.{AreItems, IsUnusedItem}
 use Rattle.enumerate.specs.declared.list.ListNode.{ListNode}
 use Rattle.enumerate.specs.Internal.Rows.{fill_cmp, slots_from, slot_in, ending_at, Demand, row_demand, demand_after, CanMeet, IsRest, still_used, IsValue, IsRow, IsGrown}
@@ -258,31 +258,13 @@ with_single (object (member k d ms)) c one = absurd (omega (arith, one, some_nod
 pub stack_pushed : (xs : List (Bor Tree)) (x : Bor Tree) → stack_of (xs ++ x ∷ []) ≡ data_of x.now ∷ stack_of xs
 stack_pushed xs x = ap reverse (map-append (λ (r : Bor Tree). data_of r.now) xs (x ∷ [])) ∙ reverse-append (rows_of xs) (data_of x.now ∷ [])
 
-module _ (q : Question) (i : ℕ) (C : Data → Type 0) (part : (u : Data) → C u → IsPart q.pools (site q i) u) where
-  -- C holds for none from a place on
-  abbrev pub NoneFrom : ℕ → Type 0
-  NoneFrom place = (vs : List Data) → AreCandidates q.pools (site q i) vs → (j : ℕ) (u : Data) → place ≤ j → slice_get vs j ≡ Some u → C u → ⊥
-
-  -- it is a candidate from a place on, and C holds for none of these before it
-  abbrev pub IsFirstFrom : Data → ℕ → Type 0
-  IsFirstFrom v place = (vs : List Data) → AreCandidates q.pools (site q i) vs → ((j : ℕ) × (place ≤ j) × (slice_get vs j ≡ Some v)) × ((j : ℕ) (u : Data) → place ≤ j → slice_get vs j ≡ Some u → C u → tree_cmp u v ≡ Less → ⊥)
-
-  -- these are the candidates from a place on for which C holds
-  abbrev pub Chosen : List Data → ℕ → Type 0
-  Chosen [] place = NoneFrom place
-  Chosen (v ∷ cs) place = C v × InTurn C v cs × IsFirstFrom v place
-
-  pub none_chosen : (place : ℕ) → HasCount q.pools (site q i) place → Chosen [] place
-  none_chosen place count = λ vs are j u from at c.
-      let same = ap length (candidates_same q i vs count.candidates are count.are) in
-      absurd (omega (arith, from, slice_get_within vs j u at, same, count.count_is))
-
+module _ (q : Question) (i : ℕ) where
   -- the candidate at a place
-  at_place : (place : ℕ) (x : Data) → IsCandidateAt q.pools (site q i) place (Some x) → (vs : List Data) → AreCandidates q.pools (site q i) vs → slice_get vs place ≡ Some x
+  at_place : (place : ℕ) (x : Data) → IsCandidateAt q.pools q.limit (site q i) place (Some x) → (vs : List Data) → AreCandidates q.pools q.limit (site q i) vs → slice_get vs place ≡ Some x
   at_place place x candidate vs are = ap (λ xs. slice_get xs place) (candidates_same q i vs candidate.candidates are candidate.are) ∙ sym candidate.is
 
   -- candidates ascend
-  ascends : (vs : List Data) → AreCandidates q.pools (site q i) vs → (j k : ℕ) (u v : Data) → j < k → slice_get vs j ≡ Some u → slice_get vs k ≡ Some v → tree_cmp u v ≡ Less
+  ascends : (vs : List Data) → AreCandidates q.pools q.limit (site q i) vs → (j k : ℕ) (u v : Data) → j < k → slice_get vs j ≡ Some u → slice_get vs k ≡ Some v → tree_cmp u v ≡ Less
   ascends vs are j k u v before at there =
       let pair = are.ascending j k u before (slice_get_within vs k v there) in
       let first = get_or_from_slice_get vs j u u at in
@@ -292,117 +274,137 @@ module _ (q : Question) (i : ℕ) (C : Data → Type 0) (part : (u : Data) → C
   same_at : (vs : List Data) (j k : ℕ) (u v : Data) → j ≡ k → slice_get vs j ≡ Some u → slice_get vs k ≡ Some v → u ≡ v
   same_at vs j k u v e at there = let both : Some u ≡ Some v = sym at ∙ (ap (slice_get vs) e ∙ there) in cc
 
-  index_here : (vs : List Data) → AreCandidates q.pools (site q i) vs → (u : Data) → C u → (j : ℕ) × (slice_get vs j ≡ Some u)
-  index_here vs are u c = let k = index_of q i C part vs are u c in (k.0, k.2)
+  module _ (C : Data → Type 0) where
+    -- C holds for none from a place on
+    abbrev pub NoneFrom : ℕ → Type 0
+    NoneFrom place = (vs : List Data) → AreCandidates q.pools q.limit (site q i) vs → (j : ℕ) (u : Data) → place ≤ j → slice_get vs j ≡ Some u → C u → ⊥
 
-  -- C holds for the candidate before the place
-  pub chosen_more : (vs : List Data) (x : Data) (place : ℕ) → C x → IsCandidateAt q.pools (site q i) place (Some x) → Chosen vs (place + 1) → Chosen (x ∷ vs) place
-  chosen_more [] x place c candidate none = (
-    c,
-    tt,
-    λ vs are.
-        let here = at_place place x candidate vs are in (
-          (place, omega arith, here),
-          (λ j u from at d less. elim (cases_lt place j) [
-            | inl lt ↦ none vs are j u (omega (arith, lt)) at d
-            | inr ge ↦ not_itself tree_cmp tree_order u x (same_at vs j place u x (omega (arith, ge, from)) at here) less
-          ]),
-        ),
-  )
-  chosen_more (v ∷ cs) x place c candidate (holds, turn, first) = (
-    c,
-    (
-      record {
-        is = let f = first candidate.candidates candidate.are in (holds, ascends candidate.candidates candidate.are place f.0.0 x v (omega (arith, f.0.1)) (sym candidate.is) f.0.2);
-        least = λ u d less.
-            let vs = candidate.candidates in
-            let here = sym candidate.is in
-            let k = index_here vs candidate.are u d.0 in
-            elim (cases_lt place k.0) [
-              | inl lt ↦ (first vs candidate.are).1 k.0 u (omega (arith, lt)) k.1 d.0 less
-              | inr ge ↦ elim (eq-or-lt_of_le ge) [
-                | inl same ↦ not_itself tree_cmp tree_order x u (same_at vs place k.0 x u (sym same) here k.1) d.1
-                | inr lt ↦ tree_order.turned u x (ascends vs candidate.are k.0 place u x lt k.1 here) d.1
-              ]
-            ];
-      },
+    -- it is a candidate from a place on, and C holds for none of these before it
+    abbrev pub IsFirstFrom : Data → ℕ → Type 0
+    IsFirstFrom v place = (vs : List Data) → AreCandidates q.pools q.limit (site q i) vs → ((j : ℕ) × (place ≤ j) × (slice_get vs j ≡ Some v)) × ((j : ℕ) (u : Data) → place ≤ j → slice_get vs j ≡ Some u → C u → tree_cmp u v ≡ Less → ⊥)
+
+    -- these are the candidates from a place on for which C holds
+    abbrev pub Chosen : List Data → ℕ → Type 0
+    Chosen [] place = NoneFrom place
+    Chosen (v ∷ cs) place = C v × InTurn C v cs × IsFirstFrom v place
+
+    pub none_chosen : (place : ℕ) → HasCount (IsCandidateOf q i) place → Chosen [] place
+    none_chosen place count = λ vs are j u from at c.
+        let same = ap length (candidates_same q i vs count.values are count.are) in
+        absurd (omega (arith, from, slice_get_within vs j u at, same, count.count_is))
+
+    -- it does not hold for the candidate before the place
+    pub chosen_same : (vs : List Data) (x : Data) (place : ℕ) → IsCandidateAt q.pools q.limit (site q i) place (Some x) → (C x → ⊥) → Chosen vs (place + 1) → Chosen vs place
+    chosen_same [] x place candidate other none = λ vs are j u from at d. elim (cases_lt place j) [
+      | inl lt ↦ none vs are j u (omega (arith, lt)) at d
+      | inr ge ↦ other (subst C (same_at vs j place u x (omega (arith, ge, from)) at (at_place place x candidate vs are)) d)
+    ]
+    chosen_same (v ∷ cs) x place candidate other (holds, turn, first) = (
+      holds,
       turn,
-    ),
-    λ vs are.
-        let here = at_place place x candidate vs are in (
-          (place, omega arith, here),
-          (λ j u from at d less. elim (cases_lt place j) [
-            | inl lt ↦ tree_order.turned u x less (ascends vs are place j x u lt here at)
-            | inr ge ↦ not_itself tree_cmp tree_order u x (same_at vs j place u x (omega (arith, ge, from)) at here) less
-          ]),
-        ),
-  )
+      λ vs are.
+          let f = first vs are in (
+            (f.0.0, omega (arith, f.0.1), f.0.2),
+            (λ j u from at d less. elim (cases_lt place j) [
+              | inl lt ↦ f.1 j u (omega (arith, lt)) at d less
+              | inr ge ↦ other (subst C (same_at vs j place u x (omega (arith, ge, from)) at (at_place place x candidate vs are)) d)
+            ]),
+          ),
+    )
 
-  -- it does not
-  pub chosen_same : (vs : List Data) (x : Data) (place : ℕ) → IsCandidateAt q.pools (site q i) place (Some x) → (C x → ⊥) → Chosen vs (place + 1) → Chosen vs place
-  chosen_same [] x place candidate other none = λ vs are j u from at d. elim (cases_lt place j) [
-    | inl lt ↦ none vs are j u (omega (arith, lt)) at d
-    | inr ge ↦ other (subst C (same_at vs j place u x (omega (arith, ge, from)) at (at_place place x candidate vs are)) d)
-  ]
-  chosen_same (v ∷ cs) x place candidate other (holds, turn, first) = (
-    holds,
-    turn,
-    λ vs are.
-        let f = first vs are in (
-          (f.0.0, omega (arith, f.0.1), f.0.2),
-          (λ j u from at d less. elim (cases_lt place j) [
-            | inl lt ↦ f.1 j u (omega (arith, lt)) at d less
-            | inr ge ↦ other (subst C (same_at vs j place u x (omega (arith, ge, from)) at (at_place place x candidate vs are)) d)
-          ]),
-        ),
-  )
+    pub none_at_first : NoneBefore q i C 0
+    none_at_first = λ vs are j u before at c. absurd (omega (arith, before))
 
-  -- it holds for none before
-  pub all_chosen : (vs : List Data) (place : ℕ) → NoneBefore q i C part place → Chosen vs place → (xs : List Data) → AreCandidates q.pools (site q i) xs → AreChoices C vs
-  all_chosen [] place before none xs are = λ u c. let k = index_here xs are u c in elim (cases_lt k.0 place) [
-    | inl lt ↦ before xs are k.0 u lt k.1 c
-    | inr ge ↦ none xs are k.0 u ge k.1 c
-  ]
-  all_chosen (v ∷ cs) place before (holds, turn, first) xs are = (
-    record {
-      is = holds;
-      least = λ u c less. let k = index_here xs are u c in elim (cases_lt k.0 place) [
-        | inl lt ↦ before xs are k.0 u lt k.1 c
-        | inr ge ↦ (first xs are).1 k.0 u ge k.1 c less
-      ];
-    },
-    turn,
-  )
+    -- it holds for none up to a place, where the candidate there is not past, and those for which it holds are
+    pub none_to : (after : Option Data) (x : Data) (place : ℕ) → ((u : Data) → C u → IsPast after u) → (IsPast after x → ⊥) → IsCandidateAt q.pools q.limit (site q i) place (Some x) → NoneBefore q i C (place + 1)
+    none_to after x place past other candidate = λ vs are j u before at c.
+        let here = at_place place x candidate vs are in
+        elim (cases_lt j place) [
+          | inl lt ↦ other (goes_past after u x (past u c) (ascends vs are j place u x lt at here))
+          | inr ge ↦ other (subst (IsPast after) (same_at vs j place u x (omega (arith, ge, before)) at here) (past u c))
+        ]
 
-  -- the first one alone
-  pub first_chosen : (x : Data) (place : ℕ) → C x → IsCandidateAt q.pools (site q i) place (Some x) → NoneBefore q i C part place → AreChoices C (x ∷ [])
-  first_chosen x place c candidate none =
-      let vs = candidate.candidates in
-      let here = sym candidate.is in (
-        record {
-          is = c;
-          least = λ u d less. let k = index_here vs candidate.are u d in elim (cases_lt k.0 place) [
-            | inl lt ↦ none vs candidate.are k.0 u lt k.1 d
-            | inr ge ↦ elim (eq-or-lt_of_le ge) [
-              | inl same ↦ not_itself tree_cmp tree_order u x (same_at vs k.0 place u x (sym same) k.1 here) less
-              | inr lt ↦ tree_order.turned u x less (ascends vs candidate.are place k.0 x u lt here k.1)
-            ]
-          ];
-        },
+    module _ (within : (u : Data) → C u → IsCandidateOf q i u) where
+      index_here : (vs : List Data) → AreCandidates q.pools q.limit (site q i) vs → (u : Data) → C u → (j : ℕ) × (slice_get vs j ≡ Some u)
+      index_here vs are u c = let k = index_of q i C within vs are u c in (k.0, k.2)
+
+      -- it holds for the candidate before the place
+      pub chosen_more : (vs : List Data) (x : Data) (place : ℕ) → C x → IsCandidateAt q.pools q.limit (site q i) place (Some x) → Chosen vs (place + 1) → Chosen (x ∷ vs) place
+      chosen_more [] x place c candidate none = (
+        c,
         tt,
+        λ vs are.
+            let here = at_place place x candidate vs are in (
+              (place, omega arith, here),
+              (λ j u from at d less. elim (cases_lt place j) [
+                | inl lt ↦ none vs are j u (omega (arith, lt)) at d
+                | inr ge ↦ not_itself tree_cmp tree_order u x (same_at vs j place u x (omega (arith, ge, from)) at here) less
+              ]),
+            ),
+      )
+      chosen_more (v ∷ cs) x place c candidate (holds, turn, first) = (
+        c,
+        (
+          record {
+            is = let f = first candidate.candidates candidate.are in (holds, ascends candidate.candidates candidate.are place f.0.0 x v (omega (arith, f.0.1)) (sym candidate.is) f.0.2);
+            least = λ u d less.
+                let vs = candidate.candidates in
+                let here = sym candidate.is in
+                let k = index_here vs candidate.are u d.0 in
+                elim (cases_lt place k.0) [
+                  | inl lt ↦ (first vs candidate.are).1 k.0 u (omega (arith, lt)) k.1 d.0 less
+                  | inr ge ↦ elim (eq-or-lt_of_le ge) [
+                    | inl same ↦ not_itself tree_cmp tree_order x u (same_at vs place k.0 x u (sym same) here k.1) d.1
+                    | inr lt ↦ tree_order.turned u x (ascends vs candidate.are k.0 place u x lt k.1 here) d.1
+                  ]
+                ];
+          },
+          turn,
+        ),
+        λ vs are.
+            let here = at_place place x candidate vs are in (
+              (place, omega arith, here),
+              (λ j u from at d less. elim (cases_lt place j) [
+                | inl lt ↦ tree_order.turned u x less (ascends vs are place j x u lt here at)
+                | inr ge ↦ not_itself tree_cmp tree_order u x (same_at vs j place u x (omega (arith, ge, from)) at here) less
+              ]),
+            ),
       )
 
-  pub none_at_first : NoneBefore q i C part 0
-  none_at_first = λ vs are j u before at c. absurd (omega (arith, before))
-
-  -- nor for the candidate at a place and those before it, where it is not past, and the others are
-  pub none_to : (after : Option Data) (x : Data) (place : ℕ) → ((u : Data) → C u → IsPast after u) → (IsPast after x → ⊥) → IsCandidateAt q.pools (site q i) place (Some x) → NoneBefore q i C part (place + 1)
-  none_to after x place past other candidate = λ vs are j u before at c.
-      let here = at_place place x candidate vs are in
-      elim (cases_lt j place) [
-        | inl lt ↦ other (goes_past after u x (past u c) (ascends vs are j place u x lt at here))
-        | inr ge ↦ other (subst (IsPast after) (same_at vs j place u x (omega (arith, ge, before)) at here) (past u c))
+      -- it holds for none before
+      pub all_chosen : (vs : List Data) (place : ℕ) → NoneBefore q i C place → Chosen vs place → (xs : List Data) → AreCandidates q.pools q.limit (site q i) xs → AreChoices C vs
+      all_chosen [] place before none xs are = λ u c. let k = index_here xs are u c in elim (cases_lt k.0 place) [
+        | inl lt ↦ before xs are k.0 u lt k.1 c
+        | inr ge ↦ none xs are k.0 u ge k.1 c
       ]
+      all_chosen (v ∷ cs) place before (holds, turn, first) xs are = (
+        record {
+          is = holds;
+          least = λ u c less. let k = index_here xs are u c in elim (cases_lt k.0 place) [
+            | inl lt ↦ before xs are k.0 u lt k.1 c
+            | inr ge ↦ (first xs are).1 k.0 u ge k.1 c less
+          ];
+        },
+        turn,
+      )
+
+      -- the first one alone
+      pub first_chosen : (x : Data) (place : ℕ) → C x → IsCandidateAt q.pools q.limit (site q i) place (Some x) → NoneBefore q i C place → AreChoices C (x ∷ [])
+      first_chosen x place c candidate none =
+          let vs = candidate.candidates in
+          let here = sym candidate.is in (
+            record {
+              is = c;
+              least = λ u d less. let k = index_here vs candidate.are u d in elim (cases_lt k.0 place) [
+                | inl lt ↦ none vs candidate.are k.0 u lt k.1 d
+                | inr ge ↦ elim (eq-or-lt_of_le ge) [
+                  | inl same ↦ not_itself tree_cmp tree_order u x (same_at vs k.0 place u x (sym same) k.1 here) less
+                  | inr lt ↦ tree_order.turned u x less (ascends vs candidate.are place k.0 x u lt here k.1)
+                ]
+              ];
+            },
+            tt,
+          )
 
 module _ (q : Question) (i n : ℕ) (after : Option Data) (taken : Used) where
   abbrev FreePart : Data → Type 0

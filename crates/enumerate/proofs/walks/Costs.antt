@@ -100,7 +100,7 @@ parts_kept (Last r) q old mid new n h k = λ w wide. omega (arith, h w wide, k)
 
 module _ (q : Question) (i : ℕ) where
   -- the slots that were walked, and the one that moves
-  pub walk_cost : (old mid new place room n m : ℕ) → n + room ≡ m → ((w : ℕ) → IsWidth q.pools q.root w → mid + place ≤ old + length (slots_from q i 0) + (w + 1) * (2 * room)) → CostsFrom q i mid new (3 * n + room) → CostsWalk q i old new m
+  pub walk_cost : (old mid new place room n m : ℕ) → n + room ≡ m → ((w : ℕ) → IsWidth q w → mid + place ≤ old + length (slots_from q i 0) + (w + 1) * (2 * room)) → CostsFrom q i mid new (3 * n + room) → CostsWalk q i old new m
   walk_cost old mid new place room n m both walked h = λ w wide. omega (arith, split_cost w (2 * room) (3 * n + room) (3 * m) (omega (arith, both)), walked w wide, h w wide)
 
 -- where there is no next one, so many nodes are removed

@@ -213,9 +213,9 @@ module _ (q : Question) (i : ℕ) (rule : RuleOfParts q.pools q.limit (site q i)
   ]
 
 -- a row has at most as many slots as the plan is wide
-pub slots_within : (q : Question) (i : ℕ) → IsNodeOf q i → sort_of (site q i) ≡ sort.Row → (w : ℕ) → IsWidth q.pools q.root w → length (slots_from q i 0) ≤ w
+pub slots_within : (q : Question) (i : ℕ) → IsNodeOf q i → sort_of (site q i) ≡ sort.Row → (w : ℕ) → IsWidth q w → length (slots_from q i 0) ≤ w
 slots_within q i at row w width =
-    width.each (site q i) (length (slots q.pools (site q i))) (Contains-get_or (sites_of q.pools q.root) i _ at) (subst (λ s. HasWidthBy s q.pools (site q i) (length (slots q.pools (site q i)))) (sym row) refl)
+    width.each (site q i) (length (slots q.pools (site q i))) (Contains-get_or (sites_of q.pools q.root) i _ at) (subst (λ s. HasWidthBy s q.pools q.limit (site q i) (length (slots q.pools (site q i)))) (sym row) refl)
 
 -- ---- items
 

@@ -9,7 +9,7 @@ use Rattle.plan.specs.Samples.Part.{IsPart}
 use Rattle.plan.specs.Samples.RuleOfParts.{RuleOfParts}
 use Rattle.plan.specs.Samples.Sites.{Site, Slot, site_at, sites_of, slots}
 use Rattle.plan.specs.Samples.Sizes.{HasSize}
-use Rattle.plan.specs.Samples.Candidates.{IsWidth, sort_of}
+use Rattle.plan.specs.Samples.Candidates.{IsCandidate, IsWidth, sort_of}
 use Rattle.plan.specs.Samples.Question.{Question}
 use Rattle.plan.specs.declared.sort.Sort.{Sort}
 
@@ -29,12 +29,16 @@ pub record IsPartOf (q : Question) (i n : ℕ) (v : Data) : Type 0 where
   pub part : IsPart q.pools (site q i) v
   pub nodes_are : node_count v ≡ n
 
+-- a candidate, where the node is a leaf
+abbrev pub IsCandidateOf : Question → ℕ → Data → Type 0
+IsCandidateOf q i v = IsCandidate q.pools q.limit (site q i) v
+
 abbrev pub HasSizeAt : Question → ℕ → ℕ → Type 0
 HasSizeAt q i n = HasSize q.pools (site q i) n
 
 -- for each of n nodes, at most as many steps as the plan is wide, and one
 abbrev pub Costs : Question → ℕ → ℕ → ℕ → Type 0
-Costs q old new n = (w : ℕ) → IsWidth q.pools q.root w → new ≤ old + (w + 1) * n
+Costs q old new n = (w : ℕ) → IsWidth q w → new ≤ old + (w + 1) * n
 
 -- how much there is to go through at the nodes before a number: a measure of recursions
 abbrev pub weight : Question → ℕ → ℕ

@@ -240,7 +240,7 @@ pub record IsRow (q : Question) (i n : ℕ) (used : List Data) (v : Data) : Type
 
 -- for each slot one step, and one for their end, besides those of m nodes
 abbrev pub CostsSlots : Question → ℕ → ℕ → ℕ → ℕ → ℕ → Type 0
-CostsSlots q i place old new m = (w : ℕ) → IsWidth q.pools q.root w → new ≤ old + (length (slots_from q i place) + 1) + (w + 1) * m
+CostsSlots q i place old new m = (w : ℕ) → IsWidth q w → new ≤ old + (length (slots_from q i place) + 1) + (w + 1) * m
 
 abbrev pub CostsAfter : Question → RowSlot → ℕ → ℕ → ℕ → Type 0
 CostsAfter q t old new m = CostsSlots q t.node (t.place + 1) old new m

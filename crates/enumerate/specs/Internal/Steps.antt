@@ -29,11 +29,11 @@ CostsLastSlots (Last m) q i place old new n = CostsSlots q i place old new n
 
 -- The slots are walked there and back, for a move of the members of a row.
 abbrev pub CostsWalk : Question → ℕ → ℕ → ℕ → ℕ → Type 0
-CostsWalk q i old new m = (w : ℕ) → IsWidth q.pools q.root w → new ≤ old + (2 * (length (slots_from q i 0) + 1) + (w + 1) * (3 * m))
+CostsWalk q i old new m = (w : ℕ) → IsWidth q w → new ≤ old + (2 * (length (slots_from q i 0) + 1) + (w + 1) * (3 * m))
 
 -- At a slot: those before it are walked, and those after it are filled, for members of m nodes.
 abbrev pub CostsFrom : Question → ℕ → ℕ → ℕ → ℕ → Type 0
-CostsFrom q i old new m = (w : ℕ) → IsWidth q.pools q.root w → new ≤ old + (length (slots_from q i 0) + 2 + (w + 1) * m)
+CostsFrom q i old new m = (w : ℕ) → IsWidth q w → new ≤ old + (length (slots_from q i 0) + 2 + (w + 1) * m)
 
 -- ---- by what is answered
 

@@ -55,7 +55,7 @@ AreWalked (Last n) q i place used before members gs = IsWalkedTo q i place (reco
 -- where it did not move, what the nodes take that were removed
 abbrev pub CostsLastFrom : NextParts → Question → ℕ → ℕ → ℕ → Type 0
 CostsLastFrom (Made n) q room old new = Unit {0}
-CostsLastFrom (Last m) q room old new = (w : ℕ) → IsWidth q.pools q.root w → new + (w + 1) * (2 * room) ≤ old + (w + 1) * (2 * m)
+CostsLastFrom (Last m) q room old new = (w : ℕ) → IsWidth q w → new + (w + 1) * (2 * room) ≤ old + (w + 1) * (2 * m)
 
 -- the members before the place are kept; where there is no next one, they are what is left
 abbrev pub AreLeft : NextParts → List Member → List Member → Type 0

@@ -262,6 +262,7 @@ impl<'p, Z: SizeSet> Walk<'p, Z> {
     #[inline(always)]
     fn is_last_key(&self, here: &RowSlot<'_>, tree: &Tree, meter: &mut Meter) -> bool
         requires here { IsRowSlot self.now.plan.now here.now }
+        requires some { 1 ≤ self.now.plan.now.limit }
         ensures key { result ≡ true → (slot_there self.now.plan.now here.now).key ≡ true }
         ensures plain { result ≡ true → All (λ s. s.bit ≡ None) (slots_from self.now.plan.now here.now.node 0) }
         ensures none { result ≡ true → (u : Data) → IsPart self.now.plan.now.pools (slot_there self.now.plan.now here.now).site u → IsPast (Some (data_of tree.now)) u → ⊥ }

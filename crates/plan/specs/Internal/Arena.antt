@@ -8,8 +8,7 @@ use Rattle.plan.specs.Samples.Presence.{named}
 use Rattle.plan.specs.Samples.Sizes.{HasSize, HasMore, ending_of, IsUpTo}
 use Rattle.plan.specs.Samples.RuleOfParts.{admits_null}
 use Rattle.plan.specs.Internal.Tables.{AreShaped, AreTables}
-use Rattle.plan.specs.Samples.Keys.{HasTuples}
-use Rattle.plan.specs.Internal.Tuples.{AreKeysLeaves}
+use Rattle.plan.specs.Samples.Keys.{AreKeySlots, HasTuples}
 use Rattle.plan.specs.Internal.Values.{candidates_of}
 use Rattle.plan.specs.declared.sort.Sort.TheVariants as sort
 use Rattle.plan.specs.declared.values.Values.{Values}
@@ -68,9 +67,9 @@ AreChosen es [] [] = Unit {0}
 AreChosen es (c ∷ cs) (x ∷ xs) = IsChosen es c x × AreChosen es cs xs
 AreChosen es _ _ = ⊥
 
--- how many tuples the keys after each slot have, where keys are leaves
+-- how many tuples the keys after each slot have
 abbrev pub AreLater : Pools → List Slot → List ℕ → Type 0
-AreLater P ss ns = (k n : ℕ) → k < length ns → AreKeysLeaves (drop (k + 1) ss) → HasTuples P (drop (k + 1) ss) (get_or ns k n)
+AreLater P ss ns = (k n : ℕ) → k < length ns → AreKeySlots P (drop (k + 1) ss) → HasTuples P (drop (k + 1) ss) (get_or ns k n)
 
 pub record IsRow {Z : Type 0} (holds : Z → ℕ → Type 0) (limit : ℕ) (P : Pools) (names : List (List ℕ)) (sites : List Site) (i : ℕ) (r : RowEntry Z) : Type 0 where
   pub sort : sort_of (site_at sites i) ≡ sort.Row
@@ -89,12 +88,12 @@ pub record IsList {Z : Type 0} (holds : Z → ℕ → Type 0) (limit : ℕ) (P :
   pub whole : length l.more.items ≡ limit
   pub more : (t : ℕ) (z : Z) → t < length l.more.items → IsUpTo limit (holds (get_or l.more.items t z)) (HasMore P limit (site_at sites i) t)
 
-pub record IsLeaf (P : Pools) (v : Values) (sites : List Site) (i : ℕ) (l : Leaf) : Type 0 where
+pub record IsLeaf (limit : ℕ) (P : Pools) (v : Values) (sites : List Site) (i : ℕ) (l : Leaf) : Type 0 where
   pub sort : sort_of (site_at sites i) ≡ sort.Leaf
-  pub candidates : AreCandidates P (site_at sites i) (candidates_of v l)
+  pub candidates : AreCandidates P limit (site_at sites i) (candidates_of v l)
 
 abbrev pub HasContent : {Z : Type 0} → (Z → ℕ → Type 0) → ℕ → Pools → Values → List Site → ℕ → Content Z → Type 0
-HasContent holds limit P v sites i (content.Leaf l) = IsLeaf P v sites i l
+HasContent holds limit P v sites i (content.Leaf l) = IsLeaf limit P v sites i l
 HasContent holds limit P v sites i (content.Row r) = IsRow holds limit P v.names.items sites i r
 HasContent holds limit P v sites i (content.List l) = IsList holds limit P sites i l
 

@@ -1,5 +1,5 @@
 -- The lists of parts of one site, with and without regard to items that are alike, and what the tables of a list hold.
-use Rattle.std.specs.Prelude.{◌≡◌, ℕ, ◌+◌, ◌-◌, ◌≤◌, ◌<◌, List, length, Bool, true, Option, Some, None, get_or, min}
+use Rattle.std.specs.Prelude.{◌≡◌, ℕ, ◌+◌, ◌-◌, ◌≤◌, ◌<◌, ◌↔◌, List, length, Bool, true, Option, Some, None, get_or, min}
 use Rattle.jtree.specs.Data.{Data, Items}
 use Rattle.jtree.specs.Nodes.{items_count}
 use Rattle.schema.specs.declared.node.Bounds.{Bounds}
@@ -7,7 +7,7 @@ use Rattle.stored.specs.Objects.Fault as fault
 use Rattle.stored.specs.Objects.StoredByParts.{are_apart, IsWithin}
 use Rattle.plan.specs.Pools.Pools.{Pools}
 use Rattle.plan.specs.Samples.Sites.{Site}
-use Rattle.plan.specs.Samples.Sizes.{HasSize, items_from, IsUpTo}
+use Rattle.plan.specs.Samples.Sizes.{HasSize, HasMore, items_from, IsUpTo}
 use Rattle.plan.specs.Samples.RuleOfParts.{AreParts}
 
 -- parts of the site can follow t items, m nodes in all, so that the bounds hold
@@ -35,6 +35,10 @@ pub record HasMoreApart (P : Pools) (limit : ℕ) (M : Site) (alike : Data → D
   pub fits : 1 + items_count items ≤ limit
   pub many : t ≤ fault.items_count items
   pub nodes_are : items_count (items_from t items) ≡ m
+
+-- the lists of the site have the sizes of lists of parts within these bounds, without regard to items that are alike
+abbrev pub IsCutTo : Pools → ℕ → Site → Site → Bounds → Type 0
+IsCutTo P limit s M b = (t m : ℕ) → HasMore P limit s t m ↔ HasMoreFree P limit M b t m
 
 -- at most this many, where there are no more
 abbrev pub most_or : Option ℕ → ℕ → ℕ

@@ -1,8 +1,9 @@
 -- The values of the pools, and the candidates of a leaf, as a plan keeps them.
-use Rattle.std.specs.Prelude.{◌≡◌, ◌↔◌, ℕ, List, [], ◌∷◌, false, Option, Some, None, map, get_or, Contains, AllPairs}
+use Rattle.std.specs.Prelude.{◌≡◌, ◌≤◌, ◌↔◌, ℕ, List, [], ◌∷◌, false, Option, Some, None, map, get_or, Contains, AllPairs}
 use Rattle.std.specs.declared.cmp.Ordering.{Ordering}
 use Rattle.std.specs.declared.cmp.Ordering.TheVariants.{Less}
 use Rattle.jtree.specs.Data.{Data, null, IsTree}
+use Rattle.jtree.specs.Nodes.{node_count}
 use Rattle.jtree.specs.Order.{tree_cmp}
 use Rattle.jtree.specs.View.{data_of}
 use Rattle.jtree.specs.declared.value.Tree.{Tree}
@@ -36,10 +37,17 @@ IsBase xs ts = IsInOrder tree_cmp xs (trees_of ts)
 abbrev pub at_places : Tree → List Tree → List ℕ → List Data
 at_places past ts places = map (λ i. data_of (get_or ts i past)) places
 
--- those that are stored at the node, in the same order
-pub record AreStored (N : Node) (ds vs : List Data) : Type 0 where
-  pub each : (v : Data) → Contains vs v ↔ (Contains ds v × (IsTree v × IsStored N v))
+-- those for which A holds, in the same order
+pub record AreKept (A : Data → Type 0) (ds vs : List Data) : Type 0 where
+  pub each : (v : Data) → Contains vs v ↔ (Contains ds v × A v)
   pub ascending : AllPairs (λ u v. tree_cmp u v ≡ Less) ds → AllPairs (λ u v. tree_cmp u v ≡ Less) vs
+
+-- a tree that is stored at the node, with at most as many nodes as the limit
+abbrev pub IsStoredWithin : ℕ → Node → Data → Type 0
+IsStoredWithin limit N v = IsTree v × IsStored N v × (node_count v ≤ limit)
+
+abbrev pub AreStored : ℕ → Node → List Data → List Data → Type 0
+AreStored limit N ds vs = AreKept (IsStoredWithin limit N) ds vs
 
 -- a scalar of which nothing is asked but its kind
 abbrev pub no_validations : Validations
@@ -54,9 +62,9 @@ places_of k Integer = k.integers.items
 places_of k String = k.strings.items
 places_of k IntOrString = k.integers_and_strings.items
 
--- where the values of each kind are among the trees
+-- where the values of each kind are among the trees: each is one node
 abbrev pub AreKinds : List Tree → Kinds → Type 0
-AreKinds ts k = (kind : ScalarKind) (past : Tree) → AreStored (of_kind kind) (trees_of ts) (at_places past ts (places_of k kind))
+AreKinds ts k = (kind : ScalarKind) (past : Tree) → AreStored 1 (of_kind kind) (trees_of ts) (at_places past ts (places_of k kind))
 
 pub record AreValues (P : Pools) (v : Values) : Type 0 where
   pub scalars : IsBase (null ∷ scalars_of P) v.scalars.items

@@ -18,7 +18,7 @@ pub record IsSlotAt (all : List Site) (ss : List sites.Slot) (place : ℕ) (t : 
   pub bit : t.bit ≡ slot.bit
 
 -- the candidate at a place, where there is one
-pub record IsCandidateAt (P : Pools) (s : Site) (place : ℕ) (v : Option Data) : Type 0 where
+pub record IsCandidateAt (P : Pools) (limit : ℕ) (s : Site) (place : ℕ) (v : Option Data) : Type 0 where
   pub candidates : List Data
-  pub are : AreCandidates P s candidates
+  pub are : AreCandidates P limit s candidates
   pub is : v ≡ slice_get candidates place

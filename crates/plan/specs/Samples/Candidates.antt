@@ -2,12 +2,14 @@
 use Rattle.std.specs.Prelude.{◌≡◌, ℕ, ◌≤◌, ◌⊎◌, ◌↔◌, List, length, Contains, AllPairs}
 use Rattle.std.specs.declared.cmp.Ordering.TheVariants.{Less}
 use Rattle.jtree.specs.Data.{Data}
+use Rattle.jtree.specs.Nodes.{node_count}
 use Rattle.jtree.specs.Order.{tree_cmp}
 use Rattle.schema.specs.Nodes.Node.{Node, node, scalar, list, open_}
 use Rattle.schema.specs.declared.node.ListType.{ListType}
 use Rattle.schema.specs.declared.node.ListType.TheVariants as list_type
 use Rattle.plan.specs.Pools.Pools.{Pools}
 use Rattle.plan.specs.Samples.Part.{IsPart}
+use Rattle.plan.specs.Samples.Question.{Question}
 use Rattle.plan.specs.Samples.Sites.{Site, where_fixed, sites_of, slots}
 use Rattle.plan.specs.declared.sort.Distinct.{Distinct}
 use Rattle.plan.specs.declared.sort.Distinct.TheVariants.{Free, Whole, Keys}
@@ -38,27 +40,34 @@ distinct_at _ = Free
 abbrev pub distinct_of : Site → Distinct
 distinct_of s = where_fixed s.fixed Free (distinct_at s.node)
 
--- all parts of the site, in the tree order, each once; null is one of them where it is accepted
-pub record AreCandidates (P : Pools) (s : Site) (vs : List Data) : Type 0 where
-  pub each : (v : Data) → Contains vs v ↔ IsPart P s v
+-- the values for which A holds, in the tree order, each once
+pub record AreAll (A : Data → Type 0) (vs : List Data) : Type 0 where
+  pub each : (v : Data) → Contains vs v ↔ A v
   pub ascending : AllPairs (λ u v. tree_cmp u v ≡ Less) vs
 
--- the site has this many candidates
-pub record HasCount (P : Pools) (s : Site) (count : ℕ) : Type 0 where
-  pub candidates : List Data
-  pub are : AreCandidates P s candidates
-  pub count_is : length candidates ≡ count
+-- A holds for this many values
+pub record HasCount (A : Data → Type 0) (count : ℕ) : Type 0 where
+  pub values : List Data
+  pub are : AreAll A values
+  pub count_is : length values ≡ count
+
+-- a part with at most as many nodes as the limit; null is one where it is accepted
+abbrev pub IsCandidate : Pools → ℕ → Site → Data → Type 0
+IsCandidate P limit s v = IsPart P s v × (node_count v ≤ limit)
+
+abbrev pub AreCandidates : Pools → ℕ → Site → List Data → Type 0
+AreCandidates P limit s vs = AreAll (IsCandidate P limit s) vs
 
 -- how wide a site is: by the candidates of a leaf, by the slots of a row
-abbrev pub HasWidthBy : Sort → Pools → Site → ℕ → Type 0
-HasWidthBy Leaf P s width = HasCount P s width
-HasWidthBy Row P s width = length (slots P s) ≡ width
-HasWidthBy ListSort P s width = width ≡ 0
+abbrev pub HasWidthBy : Sort → Pools → ℕ → Site → ℕ → Type 0
+HasWidthBy Leaf P limit s width = HasCount (IsCandidate P limit s) width
+HasWidthBy Row P limit s width = length (slots P s) ≡ width
+HasWidthBy ListSort P limit s width = width ≡ 0
 
-abbrev pub HasWidth : Pools → Site → ℕ → Type 0
-HasWidth P s width = HasWidthBy (sort_of s) P s width
+abbrev pub HasWidth : Pools → ℕ → Site → ℕ → Type 0
+HasWidth P limit s width = HasWidthBy (sort_of s) P limit s width
 
 -- the width of the widest site
-pub record IsWidth (P : Pools) (root : Node) (width : ℕ) : Type 0 where
-  pub each : (s : Site) (w : ℕ) → Contains (sites_of P root) s → HasWidth P s w → w ≤ width
-  pub reached : (width ≡ 0) ⊎ ((s : Site) × (Contains (sites_of P root) s × HasWidth P s width))
+pub record IsWidth (q : Question) (width : ℕ) : Type 0 where
+  pub each : (s : Site) (w : ℕ) → Contains (sites_of q.pools q.root) s → HasWidth q.pools q.limit s w → w ≤ width
+  pub reached : (width ≡ 0) ⊎ ((s : Site) × (Contains (sites_of q.pools q.root) s × HasWidth q.pools q.limit s width))

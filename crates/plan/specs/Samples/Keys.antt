@@ -51,7 +51,7 @@ pub record AreSetItems (P : Pools) (s M : Site) : Type 0 where
   pub leaf : sort_of M ≡ Leaf
   pub one : (v : Data) → IsPart P M v → node_count v ≡ 1
   pub alike : (v w : Data) → alike_at s v w ≡ is_same v w
-  pub most : (ds : Items) (n : ℕ) → AreParts P M ds → are_apart (alike_at s) ds ≡ true → HasCount P M n → items_count ds ≤ n
+  pub most : (ds : Items) (n : ℕ) → AreParts P M ds → are_apart (alike_at s) ds ≡ true → HasCount (IsPart P M) n → items_count ds ≤ n
 
 -- the items of a map list: objects, of which no two have the same under all keys; there are at most as many as there are tuples of
 -- candidates of the keys

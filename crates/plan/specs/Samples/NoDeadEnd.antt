@@ -40,16 +40,16 @@ pub record ListCompletes (P : Pools) (s : Site) (front : Items) (m : ℕ) : Type
 abbrev pub is_key : Slot → Bool
 is_key s = s.key
 
--- a candidate for each of the slots
+-- a part for each of the slots
 abbrev pub IsTuple : Pools → List Slot → List Data → Type 0
 IsTuple P [] [] = Unit {0}
 IsTuple P (s ∷ ss) (v ∷ vs) = IsPart P s.site v × IsTuple P ss vs
 IsTuple P _ _ = ⊥
 
--- the numbers of their candidates
+-- how many parts each of their sites has
 abbrev pub AreCounts : Pools → List Slot → List ℕ → Type 0
 AreCounts P [] [] = Unit {0}
-AreCounts P (s ∷ ss) (n ∷ ns) = HasCount P s.site n × AreCounts P ss ns
+AreCounts P (s ∷ ss) (n ∷ ns) = HasCount (IsPart P s.site) n × AreCounts P ss ns
 AreCounts P _ _ = ⊥
 
 abbrev pub product : List ℕ → ℕ

@@ -61,10 +61,10 @@ pub record IsListPart (P : Pools) (limit : ℕ) (s M : Site) (v : Data) : Type 0
   pub ends : HasMore P limit s (fault.items_count items) 0
 
 -- A value is a part exactly: at a leaf, where it is a candidate; at a row, where it is null and that is accepted, or where its
--- slots hold parts; at a list, whose items have one site, where it is null and that is accepted, or a list of parts. A list has
--- at most as many nodes as the limit.
+-- slots hold parts; at a list, whose items have one site, where it is null and that is accepted, or a list of parts. At a leaf and a
+-- list it has at most as many nodes as the limit.
 pub record RuleOfParts (P : Pools) (limit : ℕ) (s : Site) : Type 0 where
-  pub leaf : (v : Data) → sort_of s ≡ Leaf → IsPart P s v ↔ ((vs : List Data) × (AreCandidates P s vs × Contains vs v))
+  pub leaf : (v : Data) → sort_of s ≡ Leaf → node_count v ≤ limit → IsPart P s v ↔ ((vs : List Data) × (AreCandidates P limit s vs × Contains vs v))
   pub row : (v : Data) → sort_of s ≡ Row → IsPart P s v ↔ (IsNullPart P s v ⊎ IsRowPart P s v)
   pub items : sort_of s ≡ ListSort → (M : Site) × (item_site P s ≡ Some M)
   pub list : (M : Site) (v : Data) → item_site P s ≡ Some M → node_count v ≤ limit → IsPart P s v ↔ (IsNullPart P s v ⊎ IsListPart P limit s M v)

@@ -42,8 +42,8 @@ pub record StandsAtLeaf (root : Node) (object : Data) (p : FieldPath) (N : Node)
 abbrev pub IsUncutAt : PoolLimits → Pools → List ℕ → Type 0
 IsUncutAt limits P text = (vs : List Data) × (list_at text P ≡ Some vs) × (length vs < limits.entries)
 
--- Such a value of one of the objects, without the paths that never occur, is a candidate there, where the list of its path is not cut; null
--- needs no list.
+-- Such a value of one of the objects, without the paths that never occur, is a part of the site, and so a candidate there within any limit
+-- that its nodes are within, where the list of its path is not cut; null needs no list.
 abbrev pub WhatStandsThereIsACandidate : Type 0
 WhatStandsThereIsACandidate = (limits : PoolLimits) (raw : Data) (root : Node) (objects : List Data) (without : List (List ℕ)) (object : Data) (p : FieldPath) (N : Node) (v : Data)
     → IsNode root → Contains objects object → StandsAtLeaf root (taken_out without [] root object) p N v

@@ -68,8 +68,8 @@ loop-field-preserved g c =
     let after = covered_of c.add_values.new.covered in
     let one = c.in_ok-plan.ensures.adds q inv.wanted (sym inv.plan) inv.covered in
     let more = c.in_ok-plan-2.ensures.adds q (inv.wanted ++ with_any path ∷ []) (sym now) one in
-    let found : AreValuesOf c.args.values q.root q.pools path vs =
-    subst (λ (x : Question). AreValuesOf c.args.values x.root x.pools path vs) inv.plan (rw (c.schema-in-loop-field.ensures, c.pools.ensures) at c.in_ok-found.ensures.values) in
+    let found : AreValuesOf c.args.values q path vs =
+    subst (λ (x : Question). AreValuesOf c.args.values x path vs) inv.plan (rw (c.schema-in-loop-field.ensures, c.pools.ensures, c.limit.ensures) at c.in_ok-found.ensures.values) in
     let paths = ap (λ t. map text_of (take i fs) ++ t ∷ []) c.as_str-path.ensures ∙ sym (next_paths fs i c.field-item.result (omega arith) (sym c.field-item.is)) in
     record {
       plan = c.in_ok-plan-2.ensures.plan ∙ now;

@@ -31,7 +31,7 @@ pub returns-clause-steps : goal.returns-clause-steps
 returns-clause-steps g c = λ w wide.
     let l = lent g c in
     let items = c.lend_page.new.taker.items.items in
-    let more = subst (λ r. IsWidth r.pools r.root w → c.lend_page.new.meter ≤ c.past.new.meter + length l.items * delay r.limit w) (started g c).0 (l.steps w) wide in
+    let more = subst (λ r. IsWidth r w → c.lend_page.new.meter ≤ c.past.new.meter + length l.items * delay r.limit w) (started g c).0 (l.steps w) wide in
     let counted : length l.items ≡ length items = sym (ap length (taken g c)) ∙ length-map items (λ u. data_of u) in
     let spent = subst (λ n. c.lend_page.new.meter ≤ c.past.new.meter + n * delay c.args.plan.now.limit w) counted more in
     omega (arith, c.past.ensures.steps w wide, spent)

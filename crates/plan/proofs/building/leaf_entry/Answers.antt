@@ -12,7 +12,7 @@ returns g c = λ sites i keys values here takes.
     let fixed = option_map (λ ts. trees_of ts.now) c.args.fixed in
     let s : Site = record { node = N; keys = keys; path = c.args.path.now; fixed = fixed } in
     let v = c.args.arena.now.values in
-    let are : AreCandidates c.args.pools.now s (candidates_of v c.in_ok-leaf.leaf) = c.in_ok-leaf.ensures s values refl refl refl c.requires.leaf in
+    let are : AreCandidates c.args.pools.now c.args.arena.now.limit s (candidates_of v c.in_ok-leaf.leaf) = c.in_ok-leaf.ensures s values refl refl refl c.requires.leaf in
     record {
       sizes = rw here (c.leaf_sizes-sizes.ensures c.args.pools.now s are);
       nullable = rw here (sym takes);

@@ -13,6 +13,6 @@ returns c =
     let N = node_of c.args.node.now in
     let P = c.args.pools.now in
     let s = plain P c.args.path.now N in
-    IfOk-weaker c.copies.result (λ vs. trees_of vs.items ≡ candidates_of c.in_ok-values.values c.in_ok-leaf.leaf) (λ vs. sort_at N ≡ LeafSort → AreCandidates P s (trees_of vs.items))
-    (λ vs e leaf. subst (AreCandidates P s) (sym e) (c.in_ok-leaf.ensures s c.in_ok-values.ensures refl refl (sym c.fixed_at.ensures) (leaf_any s.fixed (sort_at N) leaf)))
+    IfOk-weaker c.copies.result (λ vs. trees_of vs.items ≡ candidates_of c.in_ok-values.values c.in_ok-leaf.leaf) (λ vs. sort_at N ≡ LeafSort → AreCandidates P c.args.limit s (trees_of vs.items))
+    (λ vs e leaf. subst (AreCandidates P c.args.limit s) (sym e) (c.in_ok-leaf.ensures s c.in_ok-values.ensures refl refl (sym c.fixed_at-fixed.ensures) (leaf_any s.fixed (sort_at N) leaf)))
     c.copies.ensures

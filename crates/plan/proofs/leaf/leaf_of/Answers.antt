@@ -10,6 +10,6 @@ use Rattle.plan.proofs.leaf.leaf_of.Goals as goal
 pub returns : goal.returns
 returns c = λ s are is at fixed leaf.
     let here : where_fixed s.fixed Leaf (sort_at (node_of c.args.node.now)) ≡ Leaf = rw (← is) leaf in
-    candidates_from c.parts_one_level.ensures c.args.pools.now s s.fixed (base_of c.args.values.now c.in_ok-base.base) _ refl leaf
+    candidates_from c.parts_one_level.ensures c.args.pools.now c.args.limit s s.fixed (base_of c.args.values.now c.in_ok-base.base) _ refl leaf
     (rw (is, at, fixed) (c.in_ok-base.ensures c.args.values.now are (rw fixed at here)))
     (rw is (c.in_ok-places.ensures are.kinds c.args.values.now.null))

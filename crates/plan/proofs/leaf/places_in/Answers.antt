@@ -1,4 +1,4 @@
-use Rattle.std.proofs.Common.{◌≡◌}
+use Rattle.std.proofs.Common.{◌≡◌, arith}
 use Rattle.jtree.specs.declared.value.Tree.{Tree}
 use Rattle.schema.specs.Nodes.View.{node_of}
 use Rattle.plan.specs.Internal.Values.{trees_of, at_places, AreStored, of_kind, places_of, AreKinds}
@@ -13,5 +13,5 @@ returns-in-Scalars-Some c =
     let kinds = c.args.values.now.kinds in
     let kind = c.in-Scalars-Some.kind in
     rw c.in-Scalars-Some.is-0
-    (ok_so c.from_slice.result (λ places. places.items ≡ c.places.result.now) (λ places. AreKinds ts kinds → (past : Tree) → AreStored N (trees_of ts) (at_places past ts places.items)) c.from_slice.ensures.items
-    (λ places same are past. rw (same, c.places.ensures) (stored_alike (of_kind kind) N (trees_of ts) (at_places past ts (places_of kinds kind)) c.in-Scalars-Some.ensures (are kind past))))
+    (ok_so c.from_slice.result (λ places. places.items ≡ c.places.result.now) (λ places. AreKinds ts kinds → (past : Tree) → AreStored c.args.limit N (trees_of ts) (at_places past ts places.items)) c.from_slice.ensures.items
+    (λ places same are past. rw (same, c.places.ensures) (stored_alike c.args.limit (of_kind kind) N (trees_of ts) (at_places past ts (places_of kinds kind)) (omega (arith, c.if-limit-gt0.true)) c.in-Scalars-Some.ensures.alike c.in-Scalars-Some.ensures.one (are kind past))))

@@ -15,7 +15,7 @@ invariant-pages g l = record {
   question : l.live.question ≡ l.plan;
   envelope : option_copied l.block.envelope ≡ option_copied l.envelope;
   failures : g.W.Sink.failures l.out ≡ g.W.Sink.failures l.fn.out;
-  steps : (w : ℕ) → IsWidth l.plan.pools l.plan.root w → l.meter ≤ l.fn.meter + (l.so_far.lines + 1) * delay l.plan.limit w;
+  steps : (w : ℕ) → IsWidth l.plan w → l.meter ≤ l.fn.meter + (l.so_far.lines + 1) * delay l.plan.limit w;
 }
 
 abbrev pub decreases-pages : goal.decreases-pages

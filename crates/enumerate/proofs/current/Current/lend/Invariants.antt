@@ -13,7 +13,7 @@ invariant-samples g l = record {
   lent : IsLent l.walk.plan.now (Some (data_of l.initial.self.tree)) l.count l.lent (g.T.Taker.has_taken l.initial.taker l.taker) (Some (data_of l.self.tree));
   before : CanChange (g.T.Taker.has_taken l.initial.taker l.taker) (data_of l.self.tree) l.self.change;
   short : l.lent ≤ l.count;
-  steps : (w : ℕ) → IsWidth l.walk.plan.now.pools l.walk.plan.now.root w → l.meter ≤ l.initial.meter + l.lent * delay l.walk.plan.now.limit w;
+  steps : (w : ℕ) → IsWidth l.walk.plan.now w → l.meter ≤ l.initial.meter + l.lent * delay l.walk.plan.now.limit w;
 }
 
 abbrev pub decreases-samples : goal.decreases-samples

@@ -32,7 +32,7 @@ abbrev pub invariant-next_members-loop-place : goal.invariant-next_members-loop-
 invariant-next_members-loop-place g l = record {
   within : l.place ≤ length (slots_from l.self.plan.now l.node 0);
   walked : (gs : List (Option Data)) → AreInSlots l.self.plan.now.pools (slots_from l.self.plan.now l.node 0) (demand_of l.self.plan.now l.node (used_rows l.used) gs) l.initial.members.items gs → IsWalkedTo l.self.plan.now l.node l.place l.removed (used_rows l.used) l.members.items gs;
-  steps : (w : ℕ) → IsWidth l.self.plan.now.pools l.self.plan.now.root w → l.meter + l.place ≤ l.initial.meter + length (slots_from l.self.plan.now l.node 0) + (w + 1) * (2 * l.removed.room);
+  steps : (w : ℕ) → IsWidth l.self.plan.now w → l.meter + l.place ≤ l.initial.meter + length (slots_from l.self.plan.now l.node 0) + (w + 1) * (2 * l.removed.room);
 }
 
 abbrev pub decreases-next_members-loop-place : goal.decreases-next_members-loop-place

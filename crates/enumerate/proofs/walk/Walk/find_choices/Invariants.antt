@@ -6,7 +6,7 @@ use Rattle.enumerate.proofs.walk.Walk.find_choices.Given as goal
 
 abbrev pub invariant-loop-place : goal.invariant-loop-place
 invariant-loop-place g l = record {
-  chosen : Chosen l.self.plan.now l.node (IsChoice l.self.plan.now l.node l.size (resume_point l.after) l.used) (λ u c. c.part.part) (stack_of l.scratch.following.items) l.place;
+  chosen : Chosen l.self.plan.now l.node (IsChoice l.self.plan.now l.node l.size (resume_point l.after) l.used) (stack_of l.scratch.following.items) l.place;
   within : l.place ≤ l.initial.place;
   room : vec_len l.scratch.following + l.place ≤ vec_capacity l.scratch.following;
   steps : l.meter + l.place ≤ l.initial.meter + l.initial.place;

@@ -6,7 +6,7 @@ use Rattle.jtree.specs.View.{data_of}
 use Rattle.jtree.specs.Internal.OrderLaws.{tree_same}
 use Rattle.plan.specs.Samples.Part.{IsPart}
 use Rattle.plan.specs.Samples.Candidates.{HasCount}
-use Rattle.enumerate.specs.Internal.Nodes.{site}
+use Rattle.enumerate.specs.Internal.Nodes.{site, IsCandidateOf}
 use Rattle.enumerate.proofs.walks.Least.{tree_order}
 use Rattle.enumerate.proofs.leaves.Lemmas.{candidate_part, count_within, none_after, none_at_all}
 use Rattle.enumerate.proofs.walk.Walk.is_candidate.Goals as goal
@@ -22,7 +22,7 @@ returns-then-eq-clause-is g c =
 
 pub returns-then-eq-clause-steps : goal.returns-then-eq-clause-steps
 returns-then-eq-clause-steps g c w width =
-    let within = count_within c.args.self.now.plan.now c.args.node c.requires.node c.requires.sort c.count-place-end.result c.count-place-end.ensures w width in
+    let within = count_within c.args.self.now.plan.now c.args.node c.requires.node.node c.requires.node.sort c.count-place-end.result c.count-place-end.ensures w width in
     omega (arith, within, c.loop-place.invariant.steps, c.candidate.ensures.step)
 
 pub loop-place-preserved : goal.loop-place-preserved
@@ -30,7 +30,7 @@ loop-place-preserved g c =
     let q = c.args.self.now.plan.now in
     let i = c.args.node in
     record {
-      none = none_after q i (λ u. IsPart q.pools (site q i) u × (u ≡ data_of c.args.tree.now)) (λ u h. h.0) c.loop-place.place _ c.candidate.ensures.candidate c.loop-place.invariant.none
+      none = none_after q i (λ u. IsCandidateOf q i u × (u ≡ data_of c.args.tree.now)) c.loop-place.place _ c.candidate.ensures.candidate c.loop-place.invariant.none
           (elim c.match-candidate.branch [
             | in-Some+else-eq w ↦ λ v at h.
                 let both = rw w.in-Some.is at at in
@@ -51,11 +51,11 @@ returns-clause-is g c =
     let i = c.args.node in
     let all : c.count-place-end.result ≡ c.loop-place.place = omega arith in (
       λ no. cc,
-      λ part. absurd (none_at_all q i (λ u. IsPart q.pools (site q i) u × (u ≡ data_of c.args.tree.now)) (λ u h. h.0) c.loop-place.place
-          (subst (HasCount q.pools (site q i)) all c.count-place-end.ensures) c.loop-place.invariant.none (data_of c.args.tree.now) (part, refl)),
+      λ part. absurd (none_at_all q i (λ u. IsCandidateOf q i u × (u ≡ data_of c.args.tree.now)) (λ u h. h.0) c.loop-place.place
+          (subst (HasCount (IsCandidateOf q i)) all c.count-place-end.ensures) c.loop-place.invariant.none (data_of c.args.tree.now) ((part, c.requires.limit), refl)),
     )
 
 pub returns-clause-steps : goal.returns-clause-steps
 returns-clause-steps g c w width =
-    let within = count_within c.args.self.now.plan.now c.args.node c.requires.node c.requires.sort c.count-place-end.result c.count-place-end.ensures w width in
+    let within = count_within c.args.self.now.plan.now c.args.node c.requires.node.node c.requires.node.sort c.count-place-end.result c.count-place-end.ensures w width in
     omega (arith, within, c.loop-place.invariant.steps)

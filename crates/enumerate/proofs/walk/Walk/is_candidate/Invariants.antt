@@ -1,12 +1,11 @@
 use Rattle.std.proofs.Common.{◌≡◌, ◌+◌, ◌≤◌}
 use Rattle.jtree.specs.View.{data_of}
-use Rattle.plan.specs.Samples.Part.{IsPart}
-use Rattle.enumerate.specs.Internal.Nodes.{site}
+use Rattle.enumerate.specs.Internal.Nodes.{IsCandidateOf}
 use Rattle.enumerate.proofs.leaves.Lemmas.{NoneBefore}
 use Rattle.enumerate.proofs.walk.Walk.is_candidate.Given as goal
 
 abbrev pub invariant-loop-place : goal.invariant-loop-place
 invariant-loop-place g l = record {
-  none : NoneBefore l.self.plan.now l.node (λ u. IsPart l.self.plan.now.pools (site l.self.plan.now l.node) u × (u ≡ data_of l.tree)) (λ u c. c.0) l.place;
+  none : NoneBefore l.self.plan.now l.node (λ u. IsCandidateOf l.self.plan.now l.node u × (u ≡ data_of l.tree)) l.place;
   steps : l.meter ≤ l.initial.meter + l.place;
 }

@@ -14,6 +14,6 @@ returns-then-branch-clause-following g c =
     let v = data_of c.args.tree in
     let used = c.args.used.now in
     let put = c.in_ok-put_first.ensures.some c.if-branch.true in
-    let size : c.nodes-size.result ≡ node_count v = omega (arith, c.nodes-size.ensures) in
+    let size : c.nodes-size.result ≡ node_count v = omega (arith, c.nodes-size.ensures, c.requires.limit, c.reveal_limit.ensures) in
     subst (λ n. Continue (λ u. IsPartOf q c.args.node n u × IsFree used u) (data_of c.put_first.new.tree) (stack_of c.put_first.new.choices.items)) size
     (kept_choices q c.args.node c.nodes-size.result (Some v) used _ put.0 _ _ put.1 c.in_ok-put_first.ensures.kept c.in_ok-find_choices.ensures.ok)

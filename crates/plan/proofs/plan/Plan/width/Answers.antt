@@ -4,13 +4,13 @@ use Rattle.plan.proofs.WidthLemmas.{widest_none, widest_more, width_in}
 use Rattle.plan.proofs.plan.Plan.width.Goals as goal
 
 pub loop-entry-init : goal.loop-entry-init
-loop-entry-init g c = λ P limit v sites right. widest_none P sites
+loop-entry-init g c = λ P limit v sites right. widest_none P limit sites
 
 pub loop-entry-preserved : goal.loop-entry-preserved
 loop-entry-preserved g c = λ P limit v sites right.
     let i = c.loop-entry.entry-index in
     let e = c.entry-item.result in
-    rw c.max-width.ensures (widest_more P sites i c.loop-entry.width c.width.result (c.loop-entry.invariant P limit v sites right) (c.width.ensures P limit v sites i (rw (← c.entry-item.is) at (right i e c.loop-entry-test.true))))
+    rw c.max-width.ensures (widest_more P limit sites i c.loop-entry.width c.width.result (c.loop-entry.invariant P limit v sites right) (c.width.ensures P limit v sites i (rw (← c.entry-item.is) at (right i e c.loop-entry-test.true))))
 
 pub returns : goal.returns
 returns g c =

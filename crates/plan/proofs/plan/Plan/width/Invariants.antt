@@ -7,4 +7,4 @@ use Rattle.plan.specs.declared.values.Values.{Values}
 use Rattle.plan.proofs.plan.Plan.width.Given as goal
 
 abbrev pub invariant-loop-entry : goal.invariant-loop-entry
-invariant-loop-entry g l = (P : Pools) (limit : ℕ) (v : Values) (sites : List Site) → AreRight g.Z.SizeSet.holds limit P v sites l.entry-items → IsWidest P sites l.entry-index l.width
+invariant-loop-entry g l = (P : Pools) (limit : ℕ) (v : Values) (sites : List Site) → AreRight g.Z.SizeSet.holds limit P v sites l.entry-items → IsWidest P limit sites l.entry-index l.width

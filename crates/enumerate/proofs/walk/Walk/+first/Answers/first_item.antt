@@ -30,6 +30,7 @@ first_unused-requires g t c =
     let q = c.args.self.now.plan.now in
     record {
       node = record { node = omega (arith, c.requires.list.child, c.requires.list.node); sort = (c.laws_of.ensures.sound.set (site q c.args.list.now.child) c.requires.first.item (sym c.distinct.ensures ∙ c.in-Whole.is)).leaf };
+      limit = c.requires.limit;
       free =
           set_free q c.args.list.now.node c.args.list.now.child (record { rule = c.laws_of.ensures.rule; ends = c.laws_of.ensures.completed; item = c.requires.first.item }) c.args.size c.args.items.now c.requires.first
           (c.laws_of.ensures.sound.set (site q c.args.list.now.child) c.requires.first.item (sym c.distinct.ensures ∙ c.in-Whole.is)) c.requires.size c.requires.more.0 c.requires.more.1;

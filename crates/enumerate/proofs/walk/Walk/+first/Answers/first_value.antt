@@ -33,6 +33,7 @@ first_key-requires g t c =
     let k = key_here g t (goal.at.first_value-first_key-requires g t c).Then-here in
     record {
       node = record { node = omega (arith, c.requires.here.slot.below, c.requires.here.node); sort = ap (λ x. sort_of x) k.node ∙ k.slot.leaf };
+      limit = c.requires.limit;
       free =
           let size = subst (λ x. HasSize q.pools x c.args.size) k.node c.requires.size in
           let free = subst (λ ss. HasFree q.pools (filter is_key ss) (used_keys ss used) []) c.requires.here.slot.first c.requires.free in

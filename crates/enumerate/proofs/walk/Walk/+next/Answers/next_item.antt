@@ -52,7 +52,7 @@ next_unused-requires g t c =
             let whole : distinct_of (site q i) ≡ distinct.Whole = sym c.distinct.ensures ∙ c.in-Whole.is in
             (c.laws_of.ensures.sound.set (site q k) c.requires.first.item whole).leaf;
       };
-      limit = omega (arith, c.requires.within, c.laws_of.ensures.limit);
+      limit = omega (arith, c.requires.within);
     }
 
 pub returns-in-Free : goal.next_item-returns-in-Free

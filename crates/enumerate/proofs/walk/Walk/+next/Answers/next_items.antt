@@ -58,7 +58,7 @@ walked_here g t c st now grown =
     front_walked q i k (record { rule = c.laws_of.ensures.rule; ends = c.laws_of.ensures.completed; item = c.requires.item }) old c.requires.part within top c.loop-item.room c.loop-item.items.items c.pop.new.self.items c.in-Some.item c.in-Some.ensures.items c.loop-item.invariant.last last.0 st c.in-Last.size now last.1 grown
 
 -- a move of the item leaves as much as it takes to grow other items in its place
-item_cost : (g : Over) (t : ℕ) (c : next_items-After-next_item g t) (w : ℕ) → IsWidth c.args.self.now.plan.now.pools c.args.self.now.plan.now.root w → c.next_item.new.meter + (w + 1) * c.loop-item.room ≤ c.args.meter.now + (w + 1) * (3 * items_count (items_of c.args.items.now.items))
+item_cost : (g : Over) (t : ℕ) (c : next_items-After-next_item g t) (w : ℕ) → IsWidth c.args.self.now.plan.now w → c.next_item.new.meter + (w + 1) * c.loop-item.room ≤ c.args.meter.now + (w + 1) * (3 * items_count (items_of c.args.items.now.items))
 item_cost g t c w wide =
     let n = node_count (data_of c.in-Some.item) in
     let room = c.loop-item.room in
@@ -67,7 +67,7 @@ item_cost g t c w wide =
     omega (arith, cost_within w (3 * n + (2 * room + room)) (3 * all) (omega (arith, nodes)), split_cost w (3 * n) (2 * room + room) (3 * n + (2 * room + room)) refl, split_cost w (2 * room) room (2 * room + room) refl, c.loop-item.invariant.steps w wide, c.next_item.ensures.steps.0 w wide)
 
 -- where it has none, so much was spent on it and those after it
-last_cost : (g : Over) (t : ℕ) (c : next_items-In-Last g t) (w : ℕ) → IsWidth c.args.self.now.plan.now.pools c.args.self.now.plan.now.root w → c.next_item.new.meter ≤ c.args.meter.now + (w + 1) * (2 * (c.loop-item.room + c.in-Last.size))
+last_cost : (g : Over) (t : ℕ) (c : next_items-In-Last g t) (w : ℕ) → IsWidth c.args.self.now.plan.now w → c.next_item.new.meter ≤ c.args.meter.now + (w + 1) * (2 * (c.loop-item.room + c.in-Last.size))
 last_cost g t c w wide =
     let q = c.args.self.now.plan.now in
     let n = node_count (data_of c.in-Some.item) in
@@ -77,7 +77,7 @@ last_cost g t c w wide =
     omega (arith, cost_within w (2 * room + (2 * n - 1)) (2 * (room + c.in-Last.size)) (omega (arith, last.1)), split_cost w (2 * room) (2 * n - 1) (2 * room + (2 * n - 1)) refl, c.loop-item.invariant.steps w wide, cost w wide)
 
 -- and what grows in their place
-grown_cost : (g : Over) (t : ℕ) (c : next_items-In-Last g t) (after w : ℕ) → IsWidth c.args.self.now.plan.now.pools c.args.self.now.plan.now.root w → after ≤ c.next_item.new.meter + (w + 1) * (c.loop-item.room + c.in-Last.size) → after ≤ c.args.meter.now + (w + 1) * (3 * items_count (items_of c.args.items.now.items))
+grown_cost : (g : Over) (t : ℕ) (c : next_items-In-Last g t) (after w : ℕ) → IsWidth c.args.self.now.plan.now w → after ≤ c.next_item.new.meter + (w + 1) * (c.loop-item.room + c.in-Last.size) → after ≤ c.args.meter.now + (w + 1) * (3 * items_count (items_of c.args.items.now.items))
 grown_cost g t c after w wide grown =
     let room = c.loop-item.room + c.in-Last.size in
     let all = items_count (items_of c.args.items.now.items) in

@@ -31,7 +31,7 @@ next_key-requires g t c =
     let k = key_here g t (goal.at.next_value-next_key-requires g t c).Then-here in
     record {
       node = record { node = omega (arith, c.requires.here.slot.below, c.requires.here.node); sort = ap (λ x. sort_of x) k.node ∙ k.slot.leaf };
-      limit = omega (arith, c.requires.limit, c.laws_of.ensures.limit);
+      limit = c.requires.limit;
     }
 
 pub returns-then-here : goal.next_value-returns-then-here
