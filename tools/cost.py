@@ -59,8 +59,9 @@ LIMITED = [
     Row("cover of 10000 fields beside 1000 fixed paths", 5, 65536, "cover 11-by-1000-integers v1 --large --pools 1000-fixed-fields"),
     Row("cover --values of 15 objects of 32 int-or-string fields over 64-integers-and-strings", 5, 65536,
         "cover --values 15-by-32-int-or-strings v1 --pools 64-integers-and-strings"),
-    # a fixed set whose items do not ascend
+    # fixed values with more nodes than the limit, which are not judged: a set whose items do not ascend, and a list of which much is asked
     Row("samples of a fixed set of 80000 descending integers", 1, 65536, "sample set v1 --pools descending-pools --limit 1"),
+    Row("samples of a fixed list of 80000 integers with 500 branches each", 1, 65536, "sample 500-branches v1 --pools integers-pools --limit 8"),
 ]
 
 

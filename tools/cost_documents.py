@@ -61,6 +61,12 @@ def enums(branches: int) -> Json:
     return define(object_of({"a": {**INTEGER, "enum": values, "anyOf": any_of}}))
 
 
+def branches(count: int) -> Json:
+    """A definition of a list of integers, each of which so many branches have to hold for, with an enum of 64 each."""
+    all_of: list[Json] = [{"enum": [*range(64)]} for _ in range(count)]
+    return field_of({"type": "array", "items": {**INTEGER, "allOf": all_of}})
+
+
 def keywords(count: int) -> Json:
     """A definition of a field with so many keywords that no kind has."""
     unknown: Schema = {f"k{number:05}": 1 for number in range(count)}
@@ -162,6 +168,7 @@ LARGE_OBJECTS: Documents = {
 
 SCHEMAS_OF_OBJECTS: Documents = {
     "set": lambda: field_of(SET),
+    "500-branches": lambda: branches(500),
     "list": lambda: field_of({"type": "array", "items": INTEGER}),
     "map-list": lambda: field_of(map_list([*"abcd"], {key: INTEGER for key in "abcd"})),
     "map": lambda: field_of({"type": "object", "additionalProperties": INTEGER}),
@@ -197,6 +204,7 @@ POOLS: Documents = {
     "listed-pools": lambda: {"paths": {f"/a{outer}/b{inner}": [*range(64)] for outer in range(4) for inner in range(16)}},
     "small-pools": lambda: {"integers": [1], "strings": ["a"], "names": ["k"]},
     "descending-pools": lambda: {"fixed": {"/x": [[*reversed(range(80000))]]}},
+    "integers-pools": lambda: {"fixed": {"/x": [[number % 64 for number in range(80000)]]}},
     "two": lambda: {"integers": [0, 1]},
     "four": lambda: {"strings": [*"abcd"], "integers": [*range(4)]},
     "nine": lambda: {"integers": [*range(9)]},
