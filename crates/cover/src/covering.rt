@@ -74,8 +74,9 @@ impl<Z: SizeSet> Model for Covering<Z> {
 }
 
 impl<Z: SizeSet> Covering<Z> {
-    ghost use Rattle.std.specs.Prelude.{◌≡◌, ◌≤◌, IfOk, Decides, length};
+    ghost use Rattle.std.specs.Prelude.{◌≡◌, ◌≤◌, true, IfOk, Decides, length};
     ghost use Rattle.plan.specs.Pools.PlanFault.{HasGoodPaths};
+    ghost use Rattle.cover.specs.Cover.{IsWholeCover};
     ghost use Rattle.cover.specs.Covering.{IsBegun, IsAdvanced};
     ghost use Rattle.cover.specs.View.{covered_of};
 
@@ -135,7 +136,8 @@ impl<Z: SizeSet> Covering<Z> {
 
     /// Whether all paths are covered.
     pub fn is_done(&self) -> bool
-        ensures { Decides result (length self.now.fields ≤ self.now.count) }
+        ensures done { Decides result (length self.now.fields ≤ self.now.count) }
+        ensures whole { result ≡ true → IsWholeCover self.now.values self.now.question self.now.covered }
     {
         self.next >= self.listing.fields().len()
     }

@@ -15,7 +15,7 @@ use crate::running::answer::{json_line, json_text, json_tree};
 use crate::running::causes::Cause;
 use crate::running::explanation::Explanation;
 use crate::running::reporting::{newlines, put_text};
-use crate::running::sampling::{WORD, sample_inputs};
+use crate::running::sampling::{SampleInputs, WORD, sample_inputs};
 use crate::sink::Sink;
 use crate::walk::{Envelope, with_envelope};
 use cover::{Covered, Covering, Line};
@@ -69,9 +69,16 @@ fn cover_with<Z: SizeSet, I: Inputs, W: Sink>(
       failed_writes = W.failures out.new;
     }) arguments.now result }
 {
-    let inputs = sample_inputs::<Z, I>(alloc, &arguments.samples, inputs, explanation)?;
-    let envelope = inputs.envelope.as_ref();
-    let covered = match write_cover(alloc, inputs.plan, arguments.values, envelope, out) {
+    let found = match sample_inputs::<Z, I>(alloc, &arguments.samples, inputs, explanation) {
+        Ok(found) => found,
+        Err(cause) => return Err(cause),
+    };
+    let SampleInputs {
+        plan,
+        after: _,
+        envelope,
+    } = found;
+    let covered = match write_cover(alloc, plan, arguments.values, envelope.as_ref(), out) {
         Ok(covered) => covered,
         Err(cause) => return Err(cause),
     };
@@ -122,9 +129,9 @@ fn write_lines<W: Sink>(
 ) -> Result<usize, Cause>
     requires written { written ≤ length lines.now }
     ensures all { IfOk result (λ n. n ≡ length lines.now) }
-    ensures out { OnOk result (Appends (W.taken out.old) (W.taken out.new) (lines_of (option_copied envelope.entry) (map (λ l. data_of l.tree) (drop written.entry lines.now)))) }
+    ensures out { OnOk result (Appends (W.taken out.old) (W.taken out.new) (lines_of (option_copied envelope.entry) (map (λ l. data_of l.tree) (drop written lines.now)))) }
     ensures unfailed { OnOk result (W.failures out.new ≡ W.failures out.old) }
-    ensures cause { IfErr result (IsCutText (lines_of (option_copied envelope.entry) (map (λ l. data_of l.tree) (drop written.entry lines.now)))
+    ensures cause { IfErr result (IsCutText (lines_of (option_copied envelope.entry) (map (λ l. data_of l.tree) (drop written lines.now)))
         (W.taken out.old) (W.taken out.new) (W.failures out.old) (W.failures out.new)) }
 {
     let text = lines_text(alloc, &lines[written..], envelope)?;
