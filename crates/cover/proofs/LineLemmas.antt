@@ -1,6 +1,6 @@
 -- What a path adds to the lines.
-use Rattle.std.proofs.Common.{append_assoc, ◌≡◌, ◌+◌, ◌≤◌, ◌<◌, ℕ, List, [], ◌∷◌, ◌++◌, true, false, Some, None, refl, sym, ap, subst, ◌∙◌, arith, All, Contains, map, length, get_or, take, drop}
-use Rattle.std.proofs.lemmas.List.{get_or-map, map-append, length-map, take_more, take_all, take-append-drop}
+use Rattle.std.proofs.Common.{append_assoc, ◌≡◌, ◌+◌, ◌<◌, ℕ, List, [], ◌∷◌, ◌++◌, true, false, Some, None, refl, sym, ap, subst, ◌∙◌, arith, All, Contains, map, length, get_or, take}
+use Rattle.std.proofs.lemmas.List.{get_or-map, map-append, length-map, take_more}
 use Rattle.std.proofs.lemmas.List.Elements.{All-map, All-weaker, All-contains}
 use Rattle.jtree.specs.Data.{Data}
 use Rattle.jtree.specs.View.{data_of}
@@ -24,14 +24,9 @@ use Rattle.cover.specs.declared.covering.Line.{Line as CodeLine}
 use Rattle.cover.specs.declared.covering.Covered.{Covered as CodeCovered}
 use Rattle.cover.specs.declared.covering.Wanted.{Wanted as CodeWanted}
 use Rattle.cover.proofs.CoverLemmas.{is_cover, lines_samples}
-use Rattle.plan.specs.Samples.Site.{below}
-use Rattle.cover.specs.Internal.Ways.{step_of, path_of}
-use Rattle.plan.specs.declared.path_step.PathStep.{PathStep}
-use Rattle.cover.proofs.PathLemmas.{OneText, text_below}
+use Rattle.cover.proofs.PathLemmas.{OneText}
 use Rattle.cover.proofs.ThereLemmas.{there_before}
 use Rattle.cover.proofs.SampleLemmas.{has_text, text_there, first_has}
-
--- ---- faults
 
 -- ---- lines
 
@@ -90,16 +85,6 @@ steps_declared one root p text e d = subst (IsDeclared root) (one d.0 p (d.1 ∙
 abbrev pub text_of : CodeField → List ℕ
 text_of f = (field_of f).path
 
-texts_of : (fs : List CodeField) → map text_of fs ≡ map (λ f. f.path) (map field_of fs)
-texts_of [] = refl
-texts_of (f ∷ fs) = ap (λ ps. text_of f ∷ ps) (texts_of fs)
-
-pub next_paths : (fs : List CodeField) (i : ℕ) (f : CodeField) → i < length fs → get_or fs i f ≡ f → map text_of (take (i + 1) fs) ≡ map text_of (take i fs) ++ text_of f ∷ []
-next_paths fs i f lt is = ap (map text_of) (take_more fs i f lt) ∙ (map-append text_of (take i fs) (get_or fs i f ∷ []) ∙ ap (λ g. map text_of (take i fs) ++ text_of g ∷ []) is)
-
-pub all_paths : (fs : List CodeField) (i : ℕ) → length fs ≤ i → map text_of (take i fs) ≡ map (λ f. f.path) (map field_of fs)
-all_paths fs i long = ap (map text_of) (take_all i fs long) ∙ texts_of fs
-
 pub declared_field : (root : Node) (listing : List Field) (fs : List CodeField) (i : ℕ) (f : CodeField) → AreFields root listing → map field_of fs ≡ listing → i < length fs → f ≡ get_or fs i f
     → IsTextOf (IsDeclared root) (text_of f)
 declared_field root listing fs i f a same lt is =
@@ -150,17 +135,3 @@ added_below one q wanted w p a b e split c d x covered has named kept pushed =
     let nowhere = All-contains (λ t. (v : Data) → ¬ Has q t v) (map wanted_of c.missed.items) (with_any (path_text a)) (is_cover q wanted (covered_of c) covered).missed has in
     more wanted (covered_of c) w (covered_of d) covered (missed_more q w c d x kept pushed named
     (λ v h. nowhere v (has_text q (with_any (path_text a)) a v refl h.0 (there_before w.value a b v (subst (λ x. is_there w.value x v ≡ true) split (text_there one q w p v e h))))))
-
--- ---- the beginnings of a path in the code
-
-more_steps : (xs : List PathStep) (i : ℕ) (x : PathStep) → i < length xs → x ≡ get_or xs i x → path_of (take (i + 1) xs) ≡ path_of (take i xs) ++ step_of x ∷ []
-more_steps xs i x lt is = ap path_of (take_more xs i x lt ∙ ap (λ y. take i xs ++ y ∷ []) (sym is)) ∙ map-append step_of (take i xs) (x ∷ [])
-
-pub next_beginning : (xs : List PathStep) (i : ℕ) (x : PathStep) (front next : List ℕ) → i < length xs → x ≡ get_or xs i x → front ≡ path_text (path_of (take i xs)) → next ≡ below front (step_of x)
-    → next ≡ path_text (path_of (take (i + 1) xs))
-next_beginning xs i x front next lt is e n =
-    let step = more_steps xs i x lt is in
-    n ∙ (ap (λ t. below t (step_of x)) e ∙ (text_below (path_of (take i xs)) (step_of x) ∙ sym (ap path_text step)))
-
-pub path_split : (xs : List PathStep) (n : ℕ) → path_of xs ≡ path_of (take n xs) ++ path_of (drop n xs)
-path_split xs n = ap path_of (sym (take-append-drop n xs)) ∙ map-append step_of (take n xs) (drop n xs)

@@ -1,10 +1,12 @@
 -- Where paths lead from a node.
-use Rattle.std.proofs.Common.{◌≡◌, ◌≢◌, ℕ, List, [], ◌∷◌, ◌++◌, Bool, false, Option, Some, sym, subst, ◌∙◌, inl, inr, append_assoc, append-nil, All}
+use Rattle.std.proofs.Common.{◌≡◌, ◌≢◌, ◌==◌, ℕ, List, length, ap, [], ◌∷◌, ◌++◌, Bool, false, Option, Some, sym, subst, ◌∙◌, inl, inr, append_assoc, append-nil, All}
 use Rattle.std.specs.Prelude.{option_map, option_and_then}
 use Rattle.std.specs.Str.{bytes_eq}
+use Rattle.std.proofs.lemmas.Bool.{eqb-false}
+use Rattle.std.proofs.lemmas.List.{append_cancel_left}
 use Rattle.std.proofs.lemmas.List.Elements.{All-head, All-tail}
 use Rattle.jtree.specs.View.{data_of}
-use Rattle.jtree.specs.Internal.Lookups.{bool_cases, option_cases, same_name, own_name}
+use Rattle.jtree.specs.Internal.Lookups.{bool_cases, option_cases, same_name}
 use Rattle.schema.specs.Nodes.Node.{Node, node, scalar, object, map, list, open_, Fields, Validations}
 use Rattle.schema.specs.Nodes.ByPlace.{Declared, field_at, node_at}
 use Rattle.schema.specs.Nodes.View.{node_of, fields_of}
@@ -70,5 +72,9 @@ none_lead front text (g ∷ fs) none k f found = elim (bool_cases (bytes_eq k g.
   | inr other ↦ none_lead front text fs (All-tail (λ f. LeadsNowhere (below front (field f.name)) (node_of f.node) text) g fs none) k f (rw other at found)
 ]
 
-pub other_text : (front text : List ℕ) → bytes_eq front text ≡ false → front ≢ text
-other_text front text other same = let true_too = own_name text in let f = subst (λ x. bytes_eq x text ≡ false) same other in cc
+pub some_text : (text : List ℕ) → (length text == 0) ≡ false → [] ≢ text
+some_text text e empty = eqb-false (length text) 0 e (ap length (sym empty))
+
+-- a path that begins with a step has the text of the step before the rest of its text
+pub after_text : (s : FieldStep) (N : Node) (text rest : List ℕ) → text ≡ step_text s ++ rest → LeadsNowhere [] N rest → LeadsNowhere (step_text s) N text
+after_text s N text rest is none p M leads e = none p M leads (append_cancel_left (step_text s) (path_text p) rest (e ∙ is))

@@ -2,5 +2,6 @@
 pub mod There
 pub mod Wanted
 pub mod Cover
+pub mod Covering
 pub mod View
 pub mod Internal

@@ -25,6 +25,18 @@ pub(crate) struct Aim<'a> {
     pub steps: &'a [PathStep],
 }
 
+impl<'a> Aim<'a> {
+    ghost use Rattle.std.specs.Prelude.{◌≡◌, None};
+
+    /// That the path is there, with any value.
+    pub(crate) fn with_any(path: &'a str, steps: &'a [PathStep]) -> Aim<'a>
+        ensures { (result.path ≡ path.entry) × (result.steps ≡ steps.entry) × (result.value ≡ None) }
+    {
+        let value: Option<&'a Tree> = None;
+        Aim { path, value, steps }
+    }
+}
+
 /// The first sample that has what is wanted, `None` where there is none; and the plan.
 pub(crate) fn find_first<Z: SizeSet>(
     alloc: Global,

@@ -9,6 +9,7 @@
 -- Answers: `CheckLemmas` has those of `check`, `ObjectLemmas` those of `validate`, `prune`, `default` and `leaves`, `LineLemmas` texts
 -- and choices as they are printed.
 -- `LineAnswerLemmas` has the answers to lines, one after the other. `ObjectInputLemmas` has the documents on lines, and over lines.
+-- `CoverLemmas` has the lines of a cover that are out.
 -- Runs: `RunLemmas` says, by the documents at hand, why a run has no answer, and which result the run has with each cause; `PoolsLemmas`
 -- says it of `pools`.
 pub mod PageLemmas
@@ -18,6 +19,7 @@ pub mod WalkLemmas
 pub mod ObjectLemmas
 pub mod LineLemmas
 pub mod LineAnswerLemmas
+pub mod CoverLemmas
 pub mod RunLemmas
 pub mod PoolsLemmas
 pub mod ObjectInputLemmas

@@ -1,6 +1,8 @@
 -- How the causes of a run and its status go together with what is asked of the documents at hand.
 use Rattle.std.proofs.Common.{◌≡◌, ◌≢◌, ◌⊎◌, ◌≤◌, ◌<◌, ℕ, List, [], ◌∷◌, Option, Some, None, Bor, Ok, Err, refl, subst, inl, inr, take, map, string_bytes, IsSomeAnd, Bool, true, arith, length, append-nil, ◌∙◌}
-use Rattle.std.specs.Prelude.{IfSome, IfOk, IfErr, OnOk, OnErr, Result}
+use Rattle.std.specs.Global.{Global}
+use Rattle.std.specs.Prelude.{IfSome, IfOk, IfErr, OnOk, OnErr, Result, String}
+use Rattle.cover.specs.Cover.{objects_of}
 use Rattle.std.specs.Io.KnownBytes.{Appends, Keeps}
 use Rattle.jtree.specs.Data.{Data}
 use Rattle.jtree.specs.Internal.Rising.{contained}
@@ -14,14 +16,14 @@ use Rattle.schema.specs.Document.ReadFault.{IsReadFault}
 use Rattle.schema.specs.declared.fault.SFault.{SFault}
 use Rattle.schema.specs.declared.fault.SFault.TheVariants as s
 use Rattle.schema.specs.declared.violation.Violation.{Violation}
-use Rattle.crdx.specs.Program.RunResult.{Effects, WritesNothing, IsRunResult, answered, refused, read_failed, write_failed, no_memory, IsInputRefused, IsAnswer, fields, object, samples, no_sample, no_cover, HasBreaks, IsCutByMemory, IsCutByWrite}
+use Rattle.crdx.specs.Program.RunResult.{Effects, WritesNothing, IsRunResult, answered, refused, read_failed, write_failed, no_memory, IsInputRefused, IsAnswer, fields, object, samples, covers, no_sample, no_cover, HasBreaks, IsCutByMemory, IsCutByWrite}
 use Rattle.crdx.specs.Output.Line.{lines}
 use Rattle.crdx.specs.Output.PartialOutput.{IsPartialOutput}
 use Rattle.crdx.specs.Output.Walk.{WritesPage}
 use Rattle.crdx.specs.Program.Requested.{limits_of, pool_limits_of, total_of, IsRequested, IsRequestedCrd, IsRequestedSchema, IsRequestedRoot, HasAcceptedSchema, IsCrdRefused, ArePools, AreRootAndPools}
 use Rattle.crdx.specs.Program.Documents.{Documents, file_name, AreAmong}
 use Rattle.crdx.specs.Internal.ExitStatus.{status, cause_of_reading, cause_of_refusal, cause_of_pools, cause_of_walk, IsWritten}
-use Rattle.crdx.specs.Internal.Cause.{IsReadFailure, IsReadCause, IsBrokenCause, IsSchemaCause, IsPoolsCause, IsPlanCause, IsTextCause, IsSamplingCause, IsFieldCause, IsObjectCause, IsDocumentCause, IsInputCause, IsSampleCause, IsSampleResult, IsWalkCause}
+use Rattle.crdx.specs.Internal.Cause.{IsReadFailure, IsReadCause, IsBrokenCause, IsSchemaCause, IsPoolsCause, IsPlanCause, IsTextCause, IsSamplingCause, IsFieldCause, IsObjectCause, IsDocumentCause, IsInputCause, IsSampleCause, IsSampleResult, IsWalkCause, IsCoveringCause, IsCoverCause, IsCoverResult}
 use Rattle.plan.specs.Pools.Pools.{Pools}
 use Rattle.plan.specs.Pools.PoolsFault.{IsPoolsFault}
 use Rattle.plan.specs.Pools.PlanFault.{HasGoodPaths, IsPlanFault}
@@ -191,6 +193,7 @@ module _ (has : Documents) (unread read : ℕ) (arguments : SampleArguments) (N 
 module _ (run : Effects) (request : Request) where
   kept : Keeps run.output_before run.output → (r : Request) → IsCutByMemory run r
   kept keeps (Sample a) = inl keeps
+  kept keeps (Cover a) = inl keeps
   kept keeps _ = keeps
 
   -- memory ran out, and nothing is out
@@ -317,3 +320,30 @@ cover_input has unread read arguments (Line n fault) why = absurd why
 cover_input has unread read arguments NotASample why = why
 cover_input has unread read arguments (Write n) why = why
 cover_input has unread read arguments NoMemory why = why
+
+module _ (run : Effects) (arguments : CoverArguments) where
+  abbrev IsCoveringCauseOf : Question → Option Envelope → Cause → Type 0
+  IsCoveringCauseOf q e = IsCoveringCause arguments.values q e run.output_before run.output run.failed_writes_before run.failed_writes
+
+  cover_cut_by_memory : (q : Question) (after : Option Data) (e : Option Envelope) → IsRequested run.documents arguments.samples q after e → IsCoveringCauseOf q e NoMemory → IsCutByMemory run (Cover arguments)
+  cover_cut_by_memory q after e asked (same, inl keeps) = inl keeps
+  cover_cut_by_memory q after e asked (same, inr out) = inr (q, after, e, asked, out)
+
+  result_of_covering : (q : Question) (after : Option Data) (e : Option Envelope) (cause : Cause) (code : ℕ) → IsRequested run.documents arguments.samples q after e → IsCoveringCauseOf q e cause
+      → (code ≡ status cause) ⊎ (code ≡ 5) → IsRunResult run (Cover arguments) code
+  result_of_covering q after e (Write n) code asked why is = write_failed code is why.0 (q, after, e, asked, why.1)
+  result_of_covering q after e NoMemory code asked why (inl five) = rw five (no_memory (cover_cut_by_memory q after e asked why) why.0)
+  result_of_covering q after e NoMemory code asked why (inr five) = rw five (no_memory (cover_cut_by_memory q after e asked why) why.0)
+  result_of_covering q after e _ code asked why is = absurd why
+
+  cover_result_of_cause : (cause : Cause) (code : ℕ) → IsCoverCause run arguments cause → (code ≡ status cause) ⊎ (code ≡ 5) → IsRunResult run (Cover arguments) code
+  cover_result_of_cause cause code (inl why) is = result_of_input run (Cover arguments) cause code why.0 why.1 is
+  cover_result_of_cause cause code (inr (q, after, e, asked, why)) is = result_of_covering q after e cause code asked why is
+
+  -- the schema was covered, or it was said why not
+  pub result_of_cover : (r : Result (String Global) Cause) (code : ℕ)
+      → IsCoverResult run arguments r → OnOk r (code ≡ 0) → IfErr r (λ cause. (code ≡ status cause) ⊎ (code ≡ 5)) → IsRunResult run (Cover arguments) code
+  result_of_cover (Ok said) code is done why =
+      let (q, after, e, c, asked, whole, out) = is.covered in
+      rw done (answered 0 (lines e (objects_of c)) (covers arguments q after e c asked whole) out is.unfailed)
+  result_of_cover (Err cause) code is done why = cover_result_of_cause cause code is.cause why

@@ -92,9 +92,8 @@ pub fn run<I: Inputs, W: Sink, E: Sink>(
         }
         Request::Cover(arguments) => {
             let mut explanation = Explanation::new(arguments.samples.common.why);
-            let mut said = String::new(alloc);
-            let answer = cover_paths(alloc, &arguments, inputs, &mut explanation, &mut said);
-            finish_cover(alloc, &answer, &said, &explanation, out, err)
+            let covered = cover_paths(alloc, &arguments, inputs, &mut explanation, out);
+            finish_cover(alloc, &covered, &explanation, err)
         }
         Request::Help(text) => write_answer(alloc, &Answer { status: 0, text }, out, err),
         Request::UsageError(text) => {

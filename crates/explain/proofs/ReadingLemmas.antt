@@ -1,5 +1,5 @@
 -- The reading accepts exactly the texts of paths.
-use Rattle.std.proofs.Common.{◌≡◌, ◌≢◌, ◌+◌, ◌<◌, ◌==◌, ℕ, List, [], ◌∷◌, ◌++◌, true, false, flat_map, length, take, drop, get_or, Decides, refl, sym, ap, subst, ◌∙◌, inl, inr, append_assoc}
+use Rattle.std.proofs.Common.{◌≡◌, ◌≢◌, ◌+◌, ◌<◌, ◌==◌, ℕ, List, [], ◌∷◌, ◌++◌, true, false, flat_map, length, take, drop, get_or, Bor, Option, None, Some, Decides, MatchOption, refl, sym, ap, subst, ◌∙◌, inl, inr, append_assoc}
 use Rattle.std.proofs.lemmas.Bool.{eqb-true}
 use Rattle.std.proofs.lemmas.Grind.{flat_map-append}
 use Rattle.std.proofs.lemmas.List.{append_cancel_left, drop_more, take-append-drop}
@@ -10,7 +10,7 @@ use Rattle.explain.specs.declared.reading.Stage.{Stage}
 use Rattle.explain.specs.declared.reading.Stage.TheVariants.{Between, Step, Name, Escape, Item, Value, Wrong}
 use Rattle.explain.specs.Internal.Reading.{IsPathText, in_name, after_byte, is_read, IsEnd, IsAfterStep}
 use Rattle.explain.proofs.ListLemmas.{tails}
-use Rattle.explain.proofs.LetterLemmas.{IsPlain, letter_cases, escaped_plain, begins}
+use Rattle.explain.proofs.LetterLemmas.{IsPlain, letter_cases, escaped_plain, begins, path_end}
 
 -- ---- what is read is the text of a path
 
@@ -163,3 +163,9 @@ other_letter text k rest i within sofar other t after =
 -- the name is read, and the reading continues
 pub longer_name : (text k rest : List ℕ) → text ≡ step_text (field k) ++ rest → (IsEnd rest → ⊥) → (t : List ℕ) → IsAfterStep (field k) text t → ⊥
 longer_name text k rest sofar other t after = other (subst IsEnd (append_cancel_left (step_text (field k)) t rest (sym after.1 ∙ sofar)) after.0)
+
+-- the rest after a step that a name begins is that of a path
+pub after_field : (text k : List ℕ) (found : Option (Bor (List ℕ))) → MatchOption found ((rest : List ℕ) → IsAfterStep (field k) text rest → ⊥) (λ rest. IsAfterStep (field k) text rest.now)
+    → MatchOption found ((p : FieldPath) → text ≢ step_text (field k) ++ path_text p) (λ rest. text ≡ step_text (field k) ++ rest.now)
+after_field text k None none = λ p e. none (path_text p) (path_end p, e)
+after_field text k (Some rest) some = some.1

@@ -26,4 +26,5 @@ pub use fault::XFault;
 pub use field::Field;
 pub use listing::Listing;
 pub use path_text::{Step, path_below};
+pub use reading::after_step;
 pub use resolving::resolve;

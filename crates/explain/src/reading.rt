@@ -1,9 +1,12 @@
 //! The reading of the texts of paths.
 ghost use Rattle.std.specs.Prelude.{◌≡◌, ◌≢◌, ◌++◌, ℕ, List, Decides, MatchOption};
-ghost use Rattle.explain.specs.Paths.FieldPath.{field};
-ghost use Rattle.explain.specs.Paths.PathText.{escaped};
+ghost use Rattle.explain.specs.Paths.FieldPath.{field, FieldPath};
+ghost use Rattle.explain.specs.Paths.PathText.{escaped, step_text, path_text};
+ghost use Rattle.explain.specs.Paths.StepView.{step_of};
 ghost use Rattle.explain.specs.Internal.Reading;
 ghost use Rattle.explain.specs.Internal.Reading.{IsPathText, IsEnd, IsAfterStep};
+
+use crate::path_text::Step;
 
 /// How far a text is read.
 #[derive(Clone, Copy, Drop)]
@@ -68,6 +71,18 @@ fn may_end(stage: Stage) -> bool
     match stage {
         Stage::Between | Stage::Step | Stage::Name => true,
         _ => false,
+    }
+}
+
+/// The rest of the text of a path after its first step, where that is this one; `None` where the text is of no path that begins so. It
+/// does not allocate.
+pub fn after_step<'a>(text: &'a [u8], step: Step<'_>) -> Option<&'a [u8]>
+    ensures { MatchOption result ((p : FieldPath) → text.now ≢ step_text (step_of step.entry) ++ path_text p) (λ rest. text.now ≡ step_text (step_of step.entry) ++ rest.now) }
+{
+    match step {
+        Step::Field(name) => after_name(text, name.as_bytes()),
+        Step::Item => after(text, b"/[]"),
+        Step::Value => after(text, b"/{}"),
     }
 }
 

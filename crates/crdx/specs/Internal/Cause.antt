@@ -1,13 +1,16 @@
 -- Why a run has no answer, said of the documents at hand; the counts are those of the reads that failed, before and now.
-use Rattle.std.specs.Prelude.{◌≡◌, ◌≢◌, ◌⊎◌, ℕ, List, [], Bool, true, Option, IfSome, map, IsSomeAnd, Result, Ok, Err, IfOk, OnOk, IfErr, string_bytes}
+use Rattle.std.specs.Global.{Global}
+use Rattle.std.specs.Prelude.{◌≡◌, ◌≢◌, ◌⊎◌, ℕ, List, [], take, String, Bool, true, Option, IfSome, map, IsSomeAnd, Result, Ok, Err, IfOk, OnOk, IfErr, string_bytes}
 use Rattle.std.specs.Borrow.{Bor}
-use Rattle.std.specs.Io.KnownBytes.{Keeps}
+use Rattle.std.specs.Io.KnownBytes.{Appends, Keeps}
 use Rattle.jtree.specs.Data.{Data}
 use Rattle.schema.specs.Nodes.Node.{Node}
 use Rattle.schema.specs.Nodes.ByPlace.{AreNodesOf}
 use Rattle.schema.specs.Rules.Breaks.{AreViolations}
 use Rattle.schema.specs.declared.fault.SFault.TheVariants as s
 use Rattle.stored.specs.Schemas.Accepted.{IsBroken}
+use Rattle.cover.specs.Cover.{Covered, IsWholeCover, objects_of}
+use Rattle.crdx.specs.Output.Line.{lines}
 use Rattle.crdx.specs.Output.PartialOutput.{IsCutBetweenLines, IsCutByFailure}
 use Rattle.crdx.specs.Output.Walk.{WritesPage}
 use Rattle.jtree.specs.Failures.{HasFailed}
@@ -20,7 +23,7 @@ use Rattle.crdx.specs.Program.FieldAnswer.{IsFieldAnswer}
 use Rattle.crdx.specs.Program.ObjectAnswer.{IsObjectAnswer}
 use Rattle.crdx.specs.Program.Requested.{IsRequestedSchema, HasReadFault, HasPoolsFault, IsAcceptedSchema, IsRequested, pool_limits_of, total_of}
 use Rattle.crdx.specs.Program.Objects.{HasInput, IsNoText, IsBrokenAt}
-use Rattle.crdx.specs.Program.RunResult.{IsAnswer, IsInputRefused, IsWanted, Effects, WritesNothing, lines_of}
+use Rattle.crdx.specs.Program.RunResult.{IsAnswer, IsCoverBegunOut, IsCoverCut, IsInputRefused, IsWanted, Effects, WritesNothing, lines_of}
 use Rattle.crdx.specs.Program.Requested.{IsRequestedRoot}
 use Rattle.crdx.specs.Internal.LineProgress.{IsLinesCause}
 use Rattle.plan.specs.Pools.Pools.{Pools as PoolsData}
@@ -33,8 +36,9 @@ use Rattle.crdx.specs.Program.InputFault.{IsOfBytes}
 use Rattle.crdx.specs.declared.walk.line.Envelope.{Envelope}
 use Rattle.crdx.specs.declared.walk.walking.Walked.{Walked}
 use Rattle.crdx.specs.declared.arguments.request.Request.{Request}
-use Rattle.crdx.specs.declared.arguments.request.Request.TheVariants.{ObjectLines, Sample, SuggestPools}
+use Rattle.crdx.specs.declared.arguments.request.Request.TheVariants.{Cover, ObjectLines, Sample, SuggestPools}
 use Rattle.crdx.specs.declared.arguments.request.CommonArguments.{CommonArguments}
+use Rattle.crdx.specs.declared.arguments.request.CoverArguments.{CoverArguments}
 use Rattle.crdx.specs.declared.arguments.request.ObjectArguments.{ObjectArguments}
 use Rattle.crdx.specs.declared.arguments.request.ObjectCommand.{ObjectCommand}
 use Rattle.crdx.specs.declared.arguments.request.PoolsArguments.{PoolsArguments}
@@ -154,6 +158,32 @@ pub record IsSampleResult (run : Effects) (arguments : SampleArguments) (result 
       × IfSome after (IsSampleOf q) × WritesPage q after (total_of arguments) e walked.lines walked.end run.output_before run.output)
   pub unfailed : OnOk result (run.failed_writes ≡ run.failed_writes_before)
   pub cause : IfErr result (IsSampleCause run arguments)
+
+-- why a text is not out, or not whole
+abbrev pub IsCutText : List ℕ → Option (List ℕ) → Option (List ℕ) → ℕ → ℕ → Cause → Type 0
+IsCutText text old new before now (Write n) = HasFailed before now × (m : ℕ) × Appends old new (take m text)
+IsCutText text old new before now NoMemory = (now ≡ before) × Keeps old new
+IsCutText text old new before now _ = ⊥
+
+-- why not all lines of the cover of a question are out
+abbrev pub IsCoveringCause : Bool → Question → Option Envelope → Option (List ℕ) → Option (List ℕ) → ℕ → ℕ → Cause → Type 0
+IsCoveringCause values q e old new before now (Write n) = HasFailed before now × IsCoverCut values q e old new
+IsCoveringCause values q e old new before now NoMemory = (now ≡ before) × (Keeps old new ⊎ IsCoverBegunOut values q e old new)
+IsCoveringCause values q e old new before now _ = ⊥
+
+-- why `cover` has no answer
+abbrev pub IsCoverCause : Effects → CoverArguments → Cause → Type 0
+IsCoverCause run arguments cause =
+    (IsInputCause run.documents run.failed_reads_before run.failed_reads (Cover arguments) cause × WritesNothing run)
+    ⊎ ((q : Question) × (after : Option Data) × (e : Option Envelope) × IsRequested run.documents arguments.samples q after e
+    × IsCoveringCause arguments.values q e run.output_before run.output run.failed_writes_before run.failed_writes cause)
+
+-- what `cover` comes to: the lines of the cover are out, and nothing failed, or why not
+pub record IsCoverResult (run : Effects) (arguments : CoverArguments) (result : Result (String Global) Cause) : Type 0 where
+  pub covered : OnOk result ((q : Question) × (after : Option Data) × (e : Option Envelope) × (c : Covered) × IsRequested run.documents arguments.samples q after e
+      × IsWholeCover arguments.values q c × Appends run.output_before run.output (lines e (objects_of c)))
+  pub unfailed : OnOk result (run.failed_writes ≡ run.failed_writes_before)
+  pub cause : IfErr result (IsCoverCause run arguments)
 
 -- why not all lines of the input that is asked about have an answer
 abbrev pub IsObjectsCause : Effects → ObjectArguments → Cause → Type 0

@@ -28,10 +28,7 @@ use Rattle.plan.specs.Pools.Pools.{Pools}
 use Rattle.plan.specs.Pools.PlanFault.{HasGoodPaths, IsFirstBadPath}
 use Rattle.plan.specs.Samples.Question.{Question}
 use Rattle.enumerate.specs.Page.{IsPage, IsSampleOf}
-use Rattle.explain.specs.Fields.Declared.{AreFields}
-use Rattle.explain.specs.Fields.Field.{Field}
-use Rattle.cover.specs.Cover.{Covered, AreCovered}
-use Rattle.cover.specs.Wanted.{Wanted, AreWanted}
+use Rattle.cover.specs.Cover.{Covered, IsWholeCover, IsCoverBegun, objects_of}
 use Rattle.crdx.specs.declared.walk.line.Envelope.{Envelope}
 use Rattle.crdx.specs.declared.arguments.request.CommonArguments.{CommonArguments}
 use Rattle.crdx.specs.declared.arguments.request.CoverArguments.{CoverArguments}
@@ -71,9 +68,8 @@ pub data IsAnswer (has : Documents) : Request → ℕ → List ℕ → Type 0 wh
   no_samples : (arguments : SampleArguments) (breaks : List Break) → HasBreaks has arguments.common breaks → IsAnswer has (Sample arguments) 1 []
   -- for each path, in the order of `explain`, the first sample in which it is there, where it is there in none of those before; and where
   -- values are asked for, then the same for each of its values
-  covers : (arguments : CoverArguments) (q : Question) (after : Option Data) (e : Option Envelope) (fields : List Field) (wanted : List Wanted) (c : Covered)
-      → IsRequested has arguments.samples q after e → AreFields q.root fields → AreWanted arguments.values q (map (λ f. f.path) fields) wanted → AreCovered q wanted c
-      → IsAnswer has (Cover arguments) 0 (lines e (map (λ l. l.object) c.lines))
+  covers : (arguments : CoverArguments) (q : Question) (after : Option Data) (e : Option Envelope) (c : Covered) → IsRequested has arguments.samples q after e
+      → IsWholeCover arguments.values q c → IsAnswer has (Cover arguments) 0 (lines e (objects_of c))
   -- nothing is covered where no samples are listed
   no_cover : (arguments : CoverArguments) → IsAnswer has (Sample arguments.samples) 1 [] → IsAnswer has (Cover arguments) 1 []
   help : (said : String Global) → IsAnswer has (Help said) 0 (string_bytes said)
@@ -115,18 +111,31 @@ pub record WritesNothing (run : Effects) : Type 0 where
   pub kept : Keeps run.output_before run.output
   pub unfailed : run.failed_writes ≡ run.failed_writes_before
 
--- what is out where standard output failed: a beginning of the answer, as a walk past a sample, or past nothing, leaves it
+-- the lines of a cover of the first declared paths are out, and nothing else
+abbrev pub IsCoverBegunOut : Bool → Question → Option Envelope → Option (List ℕ) → Option (List ℕ) → Type 0
+IsCoverBegunOut values q e old new = (n : ℕ) × (c : Covered) × IsCoverBegun values q n c × Appends old new (lines e (objects_of c))
+
+-- a beginning of them is out
+abbrev pub IsCoverCut : Bool → Question → Option Envelope → Option (List ℕ) → Option (List ℕ) → Type 0
+IsCoverCut values q e old new = (n : ℕ) × (c : Covered) × IsCoverBegun values q n c × (m : ℕ) × Appends old new (take m (lines e (objects_of c)))
+
+-- what is out where standard output failed: a beginning of the answer, as a walk past a sample, or past nothing, or a cover leaves it
 abbrev pub IsCutByWrite : Effects → Request → Type 0
 IsCutByWrite run (Sample arguments) =
     (q : Question) × (after : Option Data) × (e : Option Envelope) × IsRequested run.documents arguments q after e × IfSome after (IsSampleOf q)
     × ((items : List Data) (end : Bool) → IsPage q after (total_of arguments) items end → IsCutByFailure e items run.output_before run.output)
+IsCutByWrite run (Cover arguments) = (q : Question) × (after : Option Data) × (e : Option Envelope) × IsRequested run.documents arguments.samples q after e
+    × IsCoverCut arguments.values q e run.output_before run.output
 IsCutByWrite run request = (status : ℕ) × (answer : List ℕ) × IsAnswer run.documents request status answer × (n : ℕ) × Appends run.output_before run.output (take n answer)
 
--- what is out where memory ran out: nothing, or whole lines of samples, as a walk past a sample, or past nothing, leaves them
+-- what is out where memory ran out: nothing, or whole lines of samples, as a walk past a sample, or past nothing, or a cover leaves them
 abbrev pub IsCutByMemory : Effects → Request → Type 0
 IsCutByMemory run (Sample arguments) = Keeps run.output_before run.output
     ⊎ ((q : Question) × (after : Option Data) × (e : Option Envelope) × IsRequested run.documents arguments q after e × IfSome after (IsSampleOf q)
     × (n : ℕ) × ((items : List Data) (end : Bool) → IsPage q after (total_of arguments) items end → IsCutBetweenLines e items n run.output_before run.output))
+IsCutByMemory run (Cover arguments) = Keeps run.output_before run.output
+    ⊎ ((q : Question) × (after : Option Data) × (e : Option Envelope) × IsRequested run.documents arguments.samples q after e
+    × IsCoverBegunOut arguments.values q e run.output_before run.output)
 IsCutByMemory run request = Keeps run.output_before run.output
 
 -- The lines of the input that is asked about.

@@ -1,67 +1,145 @@
-//! What `cover` answers.
-ghost use Rattle.std.specs.Prelude.{◌≡◌, ◌<◌, IfOk, IfErr, map, string_bytes};
+//! What `cover` writes.
+ghost use Rattle.std.specs.Prelude.{◌≡◌, ◌<◌, ◌≤◌, IfOk, IfErr, OnOk, drop, length, map, string_bytes};
+ghost use Rattle.std.specs.Io.KnownBytes.{Appends};
 ghost use Rattle.std.specs.Option.{option_copied};
 ghost use Rattle.jtree.specs.View.{data_of};
-ghost use Rattle.crdx.specs.Internal.Cause.{IsInputCause};
+ghost use Rattle.plan.specs.Pools.PlanFault.{HasGoodPaths};
+ghost use Rattle.cover.specs.Cover.{IsWholeCover, objects_of};
+ghost use Rattle.cover.specs.View.{covered_of};
+ghost use Rattle.crdx.specs.Internal.Cause.{IsCoverResult, IsCoveringCause, IsCutText};
 ghost use Rattle.crdx.specs.Output.Line.{line as line_of, lines as lines_of};
-ghost use Rattle.crdx.specs.Program.RunResult.{IsAnswer};
-ghost use Rattle.crdx.specs.declared.arguments.request.Request.TheVariants.{Cover};
 
 use crate::arguments::{CoverArguments, SampleArguments};
 use crate::inputs::Inputs;
-use crate::running::answer::{Answer, json_line, json_text, json_tree};
+use crate::running::answer::{json_line, json_text, json_tree};
 use crate::running::causes::Cause;
 use crate::running::explanation::Explanation;
+use crate::running::reporting::{newlines, put_text};
 use crate::running::sampling::{SampleInputs, WORD, sample_inputs};
+use crate::sink::Sink;
 use crate::walk::{Envelope, with_envelope};
-use cover::{Covered, Line, cover};
+use cover::{Covered, Covering, Line};
 use jtree::Tree;
-use plan::SizeSet;
+use plan::{Plan, SizeSet};
 use std::alloc::{AllocError, Global};
 
-/// The samples that cover a schema. What is to be said of what none of them has is added to `said`.
-pub(crate) fn cover_paths<I: Inputs>(
+/// Writes the samples that cover a schema, each when it is there, and answers what is to be said of what none of them has.
+pub(crate) fn cover_paths<I: Inputs, W: Sink>(
     alloc: Global,
     arguments: &CoverArguments<'_>,
     inputs: &mut I,
     explanation: &mut Explanation,
-    said: &mut String,
-) -> Result<Answer, Cause>
-    ensures answer { IfOk result (λ a. IsAnswer (I.has inputs.old) (Cover arguments.now) a.status (string_bytes a.text)) }
-    ensures cause { IfErr result (IsInputCause (I.has inputs.old) (I.failures inputs.old) (I.failures inputs.new) (Cover arguments.now)) }
+    out: &mut W,
+) -> Result<String, Cause>
+    ensures { IsCoverResult (record {
+      documents = I.has inputs.old;
+      lines = I.lines inputs.old;
+      failed_reads_before = I.failures inputs.old;
+      failed_reads = I.failures inputs.new;
+      output_before = W.taken out.old;
+      output = W.taken out.new;
+      failed_writes_before = W.failures out.old;
+      failed_writes = W.failures out.new;
+    }) arguments.now result }
 {
     if arguments.samples.limit < WORD {
-        cover_with::<u64, I>(alloc, arguments, inputs, explanation, said)
+        cover_with::<u64, I, W>(alloc, arguments, inputs, explanation, out)
     } else {
-        cover_with::<u128, I>(alloc, arguments, inputs, explanation, said)
+        cover_with::<u128, I, W>(alloc, arguments, inputs, explanation, out)
     }
 }
 
 /// As `cover_paths`, by plans over these sets of sizes.
-fn cover_with<Z: SizeSet, I: Inputs>(
+fn cover_with<Z: SizeSet, I: Inputs, W: Sink>(
     alloc: Global,
     arguments: &CoverArguments<'_>,
     inputs: &mut I,
     explanation: &mut Explanation,
-    said: &mut String,
-) -> Result<Answer, Cause>
+    out: &mut W,
+) -> Result<String, Cause>
     requires { arguments.now.samples.limit < Z.BITS }
-    ensures answer { IfOk result (λ a. IsAnswer (I.has inputs.old) (Cover arguments.now) a.status (string_bytes a.text)) }
-    ensures cause { IfErr result (IsInputCause (I.has inputs.old) (I.failures inputs.old) (I.failures inputs.new) (Cover arguments.now)) }
+    ensures { IsCoverResult (record {
+      documents = I.has inputs.old;
+      lines = I.lines inputs.old;
+      failed_reads_before = I.failures inputs.old;
+      failed_reads = I.failures inputs.new;
+      output_before = W.taken out.old;
+      output = W.taken out.new;
+      failed_writes_before = W.failures out.old;
+      failed_writes = W.failures out.new;
+    }) arguments.now result }
 {
-    match sample_inputs::<Z, I>(alloc, &arguments.samples, inputs, explanation) {
-        Ok(found) => {
-            let SampleInputs {
-                plan,
-                after: _,
-                envelope,
-            } = found;
-            let covered = cover(alloc, plan, arguments.values)?;
-            let text = lines_text(alloc, covered.lines.as_slice(), envelope.as_ref())?;
-            say_missed(alloc, &covered, arguments, said)?;
-            Ok(Answer { status: 0, text })
-        }
-        Err(cause) => Err(cause),
+    let found = match sample_inputs::<Z, I>(alloc, &arguments.samples, inputs, explanation) {
+        Ok(found) => found,
+        Err(cause) => return Err(cause),
+    };
+    let SampleInputs {
+        plan,
+        after: _,
+        envelope,
+    } = found;
+    let covered = match write_cover(alloc, plan, arguments.values, envelope.as_ref(), out) {
+        Ok(covered) => covered,
+        Err(cause) => return Err(cause),
+    };
+    explanation.withdraw();
+    match missed_lines(alloc, &covered, arguments) {
+        Ok(said) => Ok(said),
+        Err(_) => Err(Cause::NoMemory),
+    }
+}
+
+/// Writes the lines of the cover of the plan's schema, and flushes those of a path before the next one is looked at; and answers what
+/// is covered.
+fn write_cover<Z: SizeSet, W: Sink>(
+    alloc: Global,
+    plan: Plan<Z>,
+    values: bool,
+    envelope: Option<&Envelope>,
+    out: &mut W,
+) -> Result<Covered, Cause>
+    requires paths { HasGoodPaths plan.root plan.pools }
+    ensures covered { IfOk result (λ c. IsWholeCover values plan (covered_of c)
+        × Appends (W.taken out.old) (W.taken out.new) (lines_of (option_copied envelope.entry) (objects_of (covered_of c)))) }
+    ensures unfailed { OnOk result (W.failures out.new ≡ W.failures out.old) }
+    ensures cause { IfErr result (IsCoveringCause values plan (option_copied envelope.entry) (W.taken out.old) (W.taken out.new) (W.failures out.old) (W.failures out.new)) }
+{
+    let mut covering = Covering::new(alloc, plan, values)?;
+    let mut written = 0;
+    'path: while !covering.is_done() {
+        covering = match covering.advance() {
+            Ok(covering) => covering,
+            Err(_) => return Err(Cause::NoMemory),
+        };
+        written = match write_lines(alloc, &covering.covered().lines, written, envelope, out) {
+            Ok(written) => written,
+            Err(cause) => return Err(cause),
+        };
+    }
+    Ok(covering.into_covered())
+}
+
+/// Writes the lines behind the first ones, of which so many are written, and flushes; and answers how many are written.
+fn write_lines<W: Sink>(
+    alloc: Global,
+    lines: &[Line],
+    written: usize,
+    envelope: Option<&Envelope>,
+    out: &mut W,
+) -> Result<usize, Cause>
+    requires written { written ≤ length lines.now }
+    ensures all { IfOk result (λ n. n ≡ length lines.now) }
+    ensures out { OnOk result (Appends (W.taken out.old) (W.taken out.new) (lines_of (option_copied envelope.entry) (map (λ l. data_of l.tree) (drop written lines.now)))) }
+    ensures unfailed { OnOk result (W.failures out.new ≡ W.failures out.old) }
+    ensures cause { IfErr result (IsCutText (lines_of (option_copied envelope.entry) (map (λ l. data_of l.tree) (drop written lines.now)))
+        (W.taken out.old) (W.taken out.new) (W.failures out.old) (W.failures out.new)) }
+{
+    let text = lines_text(alloc, &lines[written..], envelope)?;
+    match put_text(out, text.as_bytes()) {
+        Ok(()) => Ok(lines.len()),
+        Err(taken) => Err(Cause::Write(
+            (written as u64).saturating_add(newlines(&text.as_bytes()[..taken])),
+        )),
     }
 }
 
@@ -91,17 +169,18 @@ fn line_text(alloc: Global, tree: &Tree, envelope: Option<&Envelope>) -> Result<
 }
 
 /// How many paths, and how many values, no sample has, and with `--why` which ones.
-fn say_missed(
+fn missed_lines(
     alloc: Global,
     covered: &Covered,
     arguments: &CoverArguments<'_>,
-    said: &mut String,
-) -> Result<(), AllocError> {
+) -> Result<String, AllocError> {
     if arguments.values && covered.missed.is_empty() {
-        return said.push_str("crdx: all paths and values are in some sample\n");
+        return String::from_str(alloc, "crdx: all paths and values are in some sample\n");
     }
-    say_paths(alloc, covered, &arguments.samples, said)?;
-    say_values(alloc, covered, &arguments.samples, said)
+    let mut said = String::new(alloc);
+    say_paths(alloc, covered, &arguments.samples, &mut said)?;
+    say_values(alloc, covered, &arguments.samples, &mut said)?;
+    Ok(said)
 }
 
 fn say_paths(

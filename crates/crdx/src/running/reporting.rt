@@ -1,6 +1,7 @@
 //! What is said on the standard streams, and the exit status.
-ghost use Rattle.std.specs.Prelude.{◌≡◌, ◌⊎◌, IfOk, IfErr, OnOk, OnErr};
-ghost use Rattle.std.specs.Io.KnownBytes.{Keeps};
+ghost use Rattle.std.specs.Prelude.{◌≡◌, ◌⊎◌, ◌≤◌, IfOk, IfErr, OnOk, OnErr, length, take};
+ghost use Rattle.std.specs.Io.KnownBytes.{Appends, Keeps};
+ghost use Rattle.jtree.specs.Failures.{HasFailed};
 ghost use Rattle.crdx.specs.Internal.ExitStatus.{status, IsWritten};
 
 use crate::running::answer::{Answer, json_text};
@@ -31,27 +32,6 @@ pub(crate) fn finish<W: Sink, E: Sink>(
     }
 }
 
-/// As `finish`, of `cover`: where the answer is written, `said` follows on `err`.
-pub(crate) fn finish_cover<W: Sink, E: Sink>(
-    alloc: Global,
-    answer: &Result<Answer, Cause>,
-    said: &str,
-    explanation: &Explanation,
-    out: &mut W,
-    err: &mut E,
-) -> u8
-    ensures written { IfOk answer.now (λ a. IsWritten a (W.taken out.old) (W.taken out.new) (W.failures out.old) (W.failures out.new) result) }
-    ensures said { IfErr answer.now (λ cause. (result ≡ status cause) ⊎ (result ≡ 5)) }
-    ensures kept { OnErr answer.now (Keeps (W.taken out.old) (W.taken out.new)) }
-    ensures unfailed { OnErr answer.now (W.failures out.new ≡ W.failures out.old) }
-{
-    let status = finish(alloc, answer, explanation, out, err);
-    if status == 0 {
-        let _ = put_all(err, said.as_bytes());
-    }
-    status
-}
-
 /// Writes an answer and answers its status; where standard output fails, the status of that.
 pub(crate) fn write_answer<W: Sink, E: Sink>(
     alloc: Global,
@@ -62,14 +42,25 @@ pub(crate) fn write_answer<W: Sink, E: Sink>(
     ensures { IsWritten answer.now (W.taken out.old) (W.taken out.new) (W.failures out.old) (W.failures out.new) result }
 {
     let text = answer.text.as_bytes();
-    let taken = match put_all(out, text) {
-        Ok(()) => match out.flush() {
-            Ok(()) => return answer.status,
-            Err(_) => text.len(),
-        },
-        Err(taken) => taken,
-    };
-    report_alone(alloc, &Cause::Write(newlines(&text[..taken])), err)
+    match put_text(out, text) {
+        Ok(()) => answer.status,
+        Err(taken) => report_alone(alloc, &Cause::Write(newlines(&text[..taken])), err),
+    }
+}
+
+/// Puts out the bytes and flushes; on an error, how many were taken.
+pub(crate) fn put_text<W: Sink>(out: &mut W, text: &[u8]) -> Result<(), usize>
+    ensures ok { OnOk result (Appends (W.taken out.old) (W.taken out.new) text.now) }
+    ensures unfailed { OnOk result (W.failures out.new ≡ W.failures out.old) }
+    ensures within { IfErr result (λ n. n ≤ length text.now) }
+    ensures part { IfErr result (λ n. Appends (W.taken out.old) (W.taken out.new) (take n text.now)) }
+    ensures failed { IfErr result (λ _. HasFailed (W.failures out.old) (W.failures out.new)) }
+{
+    put_all(out, text)?;
+    match out.flush() {
+        Ok(()) => Ok(()),
+        Err(_) => Err(text.len()),
+    }
 }
 
 /// How many lines end in the text, of whatever was written, so that of each command the first lines can be kept.
@@ -131,6 +122,25 @@ pub(crate) fn finish_samples<E: Sink>(
             if let Ok(Some(lines)) = explanation.lines() {
                 let _ = put_all(err, lines.as_bytes());
             }
+            0
+        }
+        Err(cause) => report(alloc, cause, explanation, err),
+    }
+}
+
+/// Says on `err` what no line of a cover has, or why the cover ended early, and answers the exit status.
+pub(crate) fn finish_cover<E: Sink>(
+    alloc: Global,
+    covered: &Result<String, Cause>,
+    explanation: &Explanation,
+    err: &mut E,
+) -> u8
+    ensures done { OnOk covered.now (result ≡ 0) }
+    ensures said { IfErr covered.now (λ cause. (result ≡ status cause) ⊎ (result ≡ 5)) }
+{
+    match covered {
+        Ok(said) => {
+            let _ = put_all(err, said.as_bytes());
             0
         }
         Err(cause) => report(alloc, cause, explanation, err),

@@ -2,7 +2,7 @@ use Rattle.std.proofs.Common.{◌≡◌, [], refl, inl, inr}
 use Rattle.std.proofs.KnownBytes.{Keeps-refl, Appends-nil}
 use Rattle.crdx.specs.Program.RunResult.{answered, help, usage_error}
 use Rattle.crdx.specs.declared.arguments.request.Request.TheVariants.{Check, Explain, Object, ObjectLines, SuggestPools, Sample, Cover, Help, UsageError, NoMemory}
-use Rattle.crdx.proofs.RunLemmas.{result_of_finished, result_of_written, result_of_sample, result_of_nothing}
+use Rattle.crdx.proofs.RunLemmas.{result_of_finished, result_of_written, result_of_sample, result_of_cover, result_of_nothing}
 use Rattle.crdx.proofs.LineAnswerLemmas.{result_of_lines}
 use Rattle.crdx.proofs.PoolsLemmas.{result_of_pools}
 use Rattle.crdx.proofs.running.run.Goals as goal
@@ -62,11 +62,10 @@ returns-in-Sample g c =
 
 pub returns-in-Cover : goal.returns-in-Cover
 returns-in-Cover g c =
-    let request = Cover c.in-Cover.arguments in (
-      request,
+    let arguments = c.in-Cover.arguments in (
+      Cover arguments,
       c.in-Cover.ensures,
-      result_of_finished _ request c.cover_paths-answer.result c.finish_cover.result c.cover_paths-answer.ensures.answer c.cover_paths-answer.ensures.cause (λ status text is n out. (status, text, is, n, out))
-          c.finish_cover.ensures.written c.finish_cover.ensures.said c.finish_cover.ensures.kept c.finish_cover.ensures.unfailed,
+      result_of_cover _ arguments c.cover_paths-covered.result c.finish_cover.result c.cover_paths-covered.ensures c.finish_cover.ensures.done c.finish_cover.ensures.said,
     )
 
 pub returns-in-Help : goal.returns-in-Help
