@@ -311,8 +311,8 @@ input=$folder/stored-lines row 'default of lines of the standard input' lines 0 
 row 'leaves of lines' lines 1 "$folder/line-leaves" /dev/null leaves "$folder/crd.json" v1 "$folder/stored-lines" --lines
 row 'prune of a line that is no document, explained' both 3 "$folder/pruned-beside" "$folder/broken-line" \
     prune "$folder/crd.json" v1 "$folder/broken-lines" --lines --why
-row 'cover of a map list' nothing 0 "$folder/covering" "$folder/covered" cover "$folder/map-list.json" v1 --pools "$folder/pools.json"
-row 'cover with missed paths, named' nothing 0 "$folder/covering-of-2-nodes" "$folder/missed" \
+row 'cover of a map list' lines 0 "$folder/covering" "$folder/covered" cover "$folder/map-list.json" v1 --pools "$folder/pools.json"
+row 'cover with missed paths, named' lines 0 "$folder/covering-of-2-nodes" "$folder/missed" \
     cover "$folder/map-list.json" v1 --pools "$folder/pools.json" --limit 2 --why
 row 'validate by a schema that breaks rules' nothing 1 /dev/null "$folder/broken" validate "$folder/broken.json" v1
 

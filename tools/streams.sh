@@ -65,26 +65,29 @@ head -n "$lines" "$folder/whole" >"$folder/joined"
     --after "$(tail -n 1 "$folder/joined")" >>"$folder/joined" 2>"$folder/err"
 cmp -s "$folder/joined" "$folder/whole" || stop 'the walk that goes on does not write what is missing'
 
-# the same of a listing that has no end in a lifetime, 65^9 lines, and of 10,000 answers: the run ends by itself
-echo "{\"integers\":[$(seq -s , 64)]}" >"$folder/many.json"
-all=("$program" sample "$folder/optional.json" v1 --pools "$folder/many.json" --limit 63 --all)
-answers=("$program" default "$folder/optional.json" v1 --lines "$folder/whole")
-for name in all answers; do
-    declare -n run=$name
+# the same of a listing that has no end in a lifetime, 65^9 lines, and of 10,000 answers: the run ends by itself; and of a large cover,
+# which takes longer than its seconds: a line is there before the next path is looked at
+into_head() {
+    local name=$1 seconds=$2 first=$3 ended=0 lines
+    shift 3
     {
-        ended=0
         (
-            ulimit -t 10
-            exec "${run[@]}"
+            ulimit -t "$seconds"
+            exec "$program" "$@"
         ) 2>"$folder/err" || ended=$?
         echo "$ended" >"$folder/status"
     } | head -n 3 >"$folder/first"
     ended=$(cat "$folder/status")
-    [ "$(sed -n '1p;$=' "$folder/first")" = $'{}\n3' ] || stop "$name into head: not three lines from {} on"
+    [ "$(sed -n '1p;$=' "$folder/first")" = "$first"$'\n3' ] || stop "$name into head: not three lines from $first on"
     lines=$(sed -n 's/^crdx: write failed after \([0-9]*\) lines$/\1/p' "$folder/err")
     says "$name into head" 4 "crdx: write failed after ${lines:-N} lines"
     [ "$lines" -ge 3 ] || stop "$name into head: $lines whole lines were taken"
-done
+}
+echo "{\"integers\":[$(seq -s , 64)]}" >"$folder/many.json"
+into_head 'all samples' 10 '{}' sample "$folder/optional.json" v1 --pools "$folder/many.json" --limit 63 --all
+into_head 'answers to lines' 10 '{}' default "$folder/optional.json" v1 --lines "$folder/whole"
+tools/large_schema.py 16000 117 >"$folder/large.json"
+into_head 'a large cover' 1 '{"spec":{}}' cover "$folder/large.json" v1 --large
 
 # a pipe that nobody reads
 exec 3> >(:)
