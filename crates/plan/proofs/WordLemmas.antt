@@ -2,6 +2,7 @@
 use Rattle.std.specs.Prelude.{◌≡◌, ℕ, ◌+◌, ◌-◌, ◌*◌, ◌/◌, ◌%◌, ◌^◌, ◌≤◌, ◌<◌, ◌⊎◌, ◌↔◌, ◌≢◌}
 use Rattle.std.proofs.Common.{refl, inl, inr, arith, bit_and, bit_or}
 use Rattle.std.specs.Int.{Width, bit_at, trailing_zeros}
+use Rattle.std.proofs.lemmas.Bool.{cases_lt}
 use Rattle.std.proofs.lemmas.Nat.{one_shl, shr-shr, and_mask, shr_le, pow_pos}
 use Rattle.std.proofs.lemmas.Nat.Bits.{bit_at_and, bit_at_or, bit_at-lt, bit_at-zero, bit_at-pow_same, bit_at-pow_other, bit_at_ones, bit_at_ones_above, bit_at_above, bit_at_cat_low, bit_at_cat_high, ones_shr, bit_at-trailing_zeros}
 use Rattle.plan.specs.Sets.{HasBit, IsSum, IsLeastFrom, IsEmptyFrom}
@@ -54,10 +55,10 @@ pub record IsSumsBelow (w a b k s : ℕ) : Type 0 where
 pub sums_none : {w a b : ℕ} → IsSumsBelow w a b 0 0
 sums_none = record { sound = λ n h. grind (arith, bit_at-zero); whole = λ i j n. grind arith }
 
-pub sums_skip : {w a b k s : ℕ} → IsSumsBelow w a b k s → ¬ HasBit w a k → IsSumsBelow w a b (k + 1) s
-sums_skip h lacks = record { sound = h.sound; whole = λ i j n. grind (arith, h.whole i j n) }
+sums_skip : {w a b k n s : ℕ} → IsSumsBelow w a b k s → ((i : ℕ) → k ≤ i → i < n → ¬ HasBit w a i) → IsSumsBelow w a b n s
+sums_skip {k = k} h none = record { sound = h.sound; whole = λ i j m below p q sum fits. elim (cases_lt i k) [ | inl less ↦ h.whole i j m less p q sum fits | inr more ↦ absurd (none i more below p) ] }
 
-pub sums_more : {w a b k s : ℕ} → IsSumsBelow w a b k s → HasBit w a k → IsSumsBelow w a b (k + 1) (bit_or s (b * 2 ^ k % 2 ^ w))
+sums_more : {w a b k s : ℕ} → IsSumsBelow w a b k s → HasBit w a k → IsSumsBelow w a b (k + 1) (bit_or s (b * 2 ^ k % 2 ^ w))
 sums_more {w = w} {b = b} {k = k} {s = s} h here =
     let both = union_bits w s (b * 2 ^ k % 2 ^ w) in
     let moved = shifted_left w k b in
@@ -69,6 +70,13 @@ sums_more {w = w} {b = b} {k = k} {s = s} h here =
           ];
       whole = λ i j n. grind (arith, both n, moved n, h.whole i j n);
     }
+
+-- with the next member, and where there is none
+pub sums_next : {w a b k n s : ℕ} → IsSumsBelow w a b k s → IsLeastFrom (HasBit w a) k n → IsSumsBelow w a b (n + 1) (bit_or s (b * 2 ^ n % 2 ^ w))
+sums_next h least = sums_more (sums_skip h least.2) least.1
+
+pub sums_last : {w a b k s : ℕ} → IsSumsBelow w a b k s → IsEmptyFrom (HasBit w a) k → IsSumsBelow w a b w s
+sums_last h empty = sums_skip h (λ i above below. empty i above)
 
 pub sums_limited : {w a b k s limit : ℕ} → IsSumsBelow w a b k s → w ≤ k → limit < w → (n : ℕ) → HasBit w (bit_and s ((2 ^ w - 1) / 2 ^ (w - 1 - limit))) n ↔ ((n ≤ limit) × IsSum (HasBit w a) (HasBit w b) n)
 sums_limited {w = w} {s = s} {limit = limit} h past within n =

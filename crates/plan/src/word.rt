@@ -7,10 +7,10 @@ use crate::SizeSet;
 macro_rules! word_sums {
     ($set:expr, $other:expr, $limit:expr) => {{
         let mut sums = 0;
-        for n in 0..Self::BITS {
-            if $set.has(n) {
-                sums |= $other << n;
-            }
+        let mut from = 0;
+        'members: while let Some(n) = $set.next(from) {
+            sums |= $other << n;
+            from = n + 1;
         }
         sums & Self::MAX >> (Self::BITS - 1 - $limit)
     }};

@@ -1,5 +1,9 @@
+use Rattle.std.proofs.Common.{◌-◌}
 use Rattle.plan.proofs.WordLemmas.{IsSumsBelow}
 use Rattle.plan.proofs.word.U64SizeSet.sums.Given as goal
 
-abbrev pub invariant-loop-n : goal.invariant-loop-n
-invariant-loop-n l = IsSumsBelow 64 l.self l.other l.n l.sums
+abbrev pub invariant-members : goal.invariant-members
+invariant-members l = IsSumsBelow 64 l.self l.other l.from l.sums
+
+abbrev pub decreases-members : goal.decreases-members
+decreases-members l = 64 - l.from
