@@ -114,14 +114,31 @@ fn add_wanted<Z: SizeSet>(
         → AreCovered q (wanted ++ record { path = aim.entry.path.now; value = option_map (λ v. data_of v.now) aim.entry.value } ∷ []) (covered_of covered.new)) }
 {
     explain::laws::paths_have_one_text();
-    let lacking = lines_without(covered.lines.as_slice(), aim.value, aim.steps, above.lacking);
+    let lacking = lines_without(
+        covered.lines.as_slice(),
+        aim.value,
+        aim.steps,
+        above.lacking,
+    );
     if lacking < covered.lines.len() {
-        return Ok((plan, Known { lacking, missed: false }));
+        return Ok((
+            plan,
+            Known {
+                lacking,
+                missed: false,
+            },
+        ));
     }
     let wanted = wanted_of(alloc, aim.path, aim.value)?;
     if above.missed {
         covered.missed.push(wanted)?;
-        return Ok((plan, Known { lacking, missed: true }));
+        return Ok((
+            plan,
+            Known {
+                lacking,
+                missed: true,
+            },
+        ));
     }
     let (plan, tree) = find_first(alloc, plan, aim)?;
     let missed = tree.is_none();
@@ -145,12 +162,7 @@ fn wanted_of(alloc: Global, path: &str, value: Option<&Tree>) -> Result<Wanted, 
 }
 
 /// How many of the first lines do not have the path of the steps, with the value where one is wanted: at least `from` of them.
-fn lines_without(
-    lines: &[Line],
-    value: Option<&Tree>,
-    steps: &[PathStep],
-    from: usize,
-) -> usize
+fn lines_without(lines: &[Line], value: Option<&Tree>, steps: &[PathStep], from: usize) -> usize
     requires from { from ≤ length lines.now }
     requires without { All (λ l. is_there_of (option_map (λ v. data_of v.now) value) (path_of steps.now) (data_of l.tree) ≡ false) (take from lines.now) }
     ensures within { result ≤ length lines.now }

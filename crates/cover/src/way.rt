@@ -9,10 +9,9 @@ ghost use Rattle.explain.specs.Paths.StepView as explain_step;
 ghost use Rattle.plan.specs.Samples.Site.{below as below_of};
 ghost use Rattle.cover.specs.Internal.Ways.{step_of, path_of, LeadsNowhere, NoneLeads};
 
-pub(crate) use plan::PathStep;
-
 use explain::{Step, after_step};
 use jtree::Text;
+pub(crate) use plan::PathStep;
 use schema::{Fields, Node, Sort};
 use std::alloc::{AllocError, Global};
 use stored::Schema;

@@ -56,7 +56,7 @@ pub sums_none : {w a b : ℕ} → IsSumsBelow w a b 0 0
 sums_none = record { sound = λ n h. grind (arith, bit_at-zero); whole = λ i j n. grind arith }
 
 sums_skip : {w a b k n s : ℕ} → IsSumsBelow w a b k s → ((i : ℕ) → k ≤ i → i < n → ¬ HasBit w a i) → IsSumsBelow w a b n s
-sums_skip {k = k} h none = record { sound = h.sound; whole = λ i j m below p q sum fits. elim (cases_lt i k) [ | inl less ↦ h.whole i j m less p q sum fits | inr more ↦ absurd (none i more below p) ] }
+sums_skip {k = k} h none = record { sound = h.sound; whole = λ i j m below p q sum fits. elim (cases_lt i k) [ inl less ↦ h.whole i j m less p q sum fits | inr more ↦ absurd (none i more below p) ] }
 
 sums_more : {w a b k s : ℕ} → IsSumsBelow w a b k s → HasBit w a k → IsSumsBelow w a b (k + 1) (bit_or s (b * 2 ^ k % 2 ^ w))
 sums_more {w = w} {b = b} {k = k} {s = s} h here =

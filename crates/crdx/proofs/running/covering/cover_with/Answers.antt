@@ -11,9 +11,9 @@ returns-in-Err g c = record {
   covered = tt;
   unfailed = tt;
   cause = inl (
-        cover_input (g.I.Inputs.has c.args.inputs.now) (g.I.Inputs.failures c.args.inputs.now) (g.I.Inputs.failures c.sample_inputs.new.inputs) c.args.arguments.now c.in-Err.cause c.in-Err.ensures.cause,
-        record { kept = Keeps-refl (g.W.Sink.taken c.args.out.now); unfailed = refl },
-      );
+    cover_input (g.I.Inputs.has c.args.inputs.now) (g.I.Inputs.failures c.args.inputs.now) (g.I.Inputs.failures c.sample_inputs.new.inputs) c.args.arguments.now c.in-Err.cause c.in-Err.ensures.cause,
+    record { kept = Keeps-refl (g.W.Sink.taken c.args.out.now); unfailed = refl },
+  );
 }
 
 pub returns-in-Err-write_cover : goal.returns-in-Err-write_cover
@@ -45,10 +45,10 @@ returns g c =
       covered = tt;
       unfailed = tt;
       cause = inr (
-            found.plan,
-            option_map data_of found.after,
-            found.envelope,
-            c.in-Ok.ensures.requested,
-            (c.in-Ok-write_cover.ensures.unfailed, inr (begun.0, covered_of c.in-Ok-write_cover.covered, begun.1, rw (← c.as_ref.ensures.value) covered.1)),
-          );
+        found.plan,
+        option_map data_of found.after,
+        found.envelope,
+        c.in-Ok.ensures.requested,
+        (c.in-Ok-write_cover.ensures.unfailed, inr (begun.0, covered_of c.in-Ok-write_cover.covered, begun.1, rw (← c.as_ref.ensures.value) covered.1)),
+      );
     }
