@@ -1,5 +1,6 @@
 //! Tests of `jtree`.
 mod line_cases;
+mod member_cases;
 mod order_cases;
 mod part_cases;
 mod pointer_cases;

@@ -5,6 +5,7 @@
 -- Order: `OrderSteps` has the steps of the comparison, `OrderWords` that the comparison agrees with the order in words.
 -- The last node: `LastNode` is about the tree with its last node replaced, `LastText` says that the texts then differ only there,
 -- `PartText` is about the text from one of the last parts on.
+-- Members: `MemberPlaces` is about the place of a name among them.
 -- Pointers: `Escapes` is about the characters that a pointer writes unchanged.
 pub mod Escapes
 pub mod LastNode
@@ -18,3 +19,4 @@ pub mod Reading
 pub mod ReadBack
 pub mod Sources
 pub mod LineLemmas
+pub mod MemberPlaces

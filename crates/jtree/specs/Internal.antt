@@ -1,6 +1,7 @@
 -- What proofs need: the laws of lookups and of the orders, and what the code's types need as data.
 pub mod Lookups
 pub mod PathLaws
+pub mod MemberLaws
 pub mod Rising
 pub mod OrderLaws
 pub mod Code

@@ -8,6 +8,7 @@ pub mod Order
 pub mod PathOrder
 pub mod Before
 pub mod Text
+pub mod MemberPlace
 pub mod Last
 pub mod PartText
 pub mod Overwriting

@@ -54,6 +54,13 @@ impl Tree {
         Ok(copy_tree(self, alloc)?)
     }
 
+    /// An equal tree, as `copy` makes it. `AllocError` where an allocation fails.
+    pub fn try_clone(&self, alloc: Global) -> Result<Tree, AllocError>
+        ensures { IfOk result (λ t. t ≡ self.now) }
+    {
+        copy_tree(self, alloc)
+    }
+
     /// Makes it equal to `value`. Where both are strings, the capacity of the string is reused; else a copy replaces it.
     /// `AllocError` where an allocation fails, and it is then unchanged.
     #[inline(always)]

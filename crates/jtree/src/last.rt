@@ -2,7 +2,8 @@
 //!
 //! It is for those who make trees one after the other that mostly differ in their last node, as an enumeration of samples does: to
 //! replace that node, and its text, takes a third of the time that a new tree and its text take.
-ghost use Rattle.std.specs.Prelude.{◌≡◌, ◌+◌, ◌-◌, ◌^◌, ◌≤◌, ◌++◌, ◌↔◌, ℕ, List, length, min, true, false, IsTrue, IfOk, OnOk, OnErr, option_map};
+ghost use Rattle.std.specs.Prelude.{◌≡◌, ◌+◌, ◌-◌, ◌^◌, ◌≤◌, ◌++◌, ◌↔◌};
+ghost use Rattle.std.specs.Prelude.{ℕ, List, length, min, true, false, IsTrue, IfOk, OnOk, OnErr, option_map};
 ghost use Rattle.jtree.specs.Data.{Data, Items, Members, list, object, IsTree};
 ghost use Rattle.jtree.specs.Nodes.{node_count};
 ghost use Rattle.jtree.specs.Text.{compact};

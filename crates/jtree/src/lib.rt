@@ -18,6 +18,7 @@ mod fault;
 mod last;
 pub mod laws;
 pub mod lines;
+mod members;
 mod nodes;
 mod order;
 mod other_number;
@@ -30,6 +31,7 @@ mod value;
 mod write;
 
 pub use fault::JFault;
+pub use members::search;
 pub use pointer::{push_index, push_name};
 pub use read::{MOST_BYTES, MOST_DEPTH};
 pub use refusal::Refusal;

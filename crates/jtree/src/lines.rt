@@ -1,6 +1,7 @@
 //! Documents one line each (JSON Lines).
 
-ghost use Rattle.std.specs.Prelude.{◌≡◌, ◌≢◌, ◌≤◌, ◌<◌, ◌⊎◌, ℕ, List, [], length, drop, true, false, Option, Err, IfOk, IfErr, OnOk, All};
+ghost use Rattle.std.specs.Prelude.{◌≡◌, ◌≢◌, ◌≤◌, ◌<◌, ◌⊎◌, []};
+ghost use Rattle.std.specs.Prelude.{ℕ, List, length, drop, true, false, Option, Err, IfOk, IfErr, OnOk, All};
 ghost use Rattle.std.specs.Io.KnownBytes.{Consumes, IsAtEnd, Keeps};
 ghost use Rattle.jtree.specs.Failures.{HasFailed};
 ghost use Rattle.jtree.specs.Lines.{AreLines, TakesLine, TakesLongLine, newline};
