@@ -133,7 +133,7 @@ fn copied_items(alloc: Global, items: &Items) -> Result<Items, AllocError>
 {
     let mut copies = Vec::with_capacity(alloc, items.items.len())?;
     for item in &items.items {
-        copies.push_reserved(copied_tree(alloc, item)?);
+        copies.push_reserved(item.try_clone(alloc)?);
     }
     Ok(Items { items: copies })
 }
@@ -165,13 +165,7 @@ pub(crate) fn copied_default(
     ensures { IfOk result (λ d. d ≡ default.now) }
 {
     match default {
-        Some(tree) => Ok(Some(copied_tree(alloc, tree)?)),
+        Some(tree) => Ok(Some(tree.try_clone(alloc)?)),
         None => Ok(None),
     }
-}
-
-fn copied_tree(alloc: Global, tree: &Tree) -> Result<Tree, AllocError>
-    ensures { IfOk result (λ t. t ≡ tree.now) }
-{
-    tree.copy(alloc).map_err(|_| AllocError)
 }

@@ -46,8 +46,8 @@ pub(crate) fn list_below(walk: &mut Walk, node: &Node) -> Result<(), AllocError>
 {
     match &node.sort {
         Sort::Object(object) => list_fields(walk, &object.fields),
-        Sort::Map(map) => list_part(walk, Step::Value, &map.value.node, false, None),
-        Sort::List(list) => list_part(walk, Step::Item, &list.item.node, false, None),
+        Sort::Map(map) => list_step(walk, Step::Value, &map.value.node, false, None),
+        Sort::List(list) => list_step(walk, Step::Item, &list.item.node, false, None),
         Sort::Scalar(_) | Sort::Open => Ok(()),
     }
 }
@@ -69,12 +69,12 @@ fn list_field(walk: &mut Walk, field: &schema::Field) -> Result<(), AllocError>
 {
     let default = copied_default(*walk.path.allocator(), &field.default)?;
     let step = Step::Field(field.name.as_str());
-    list_part(walk, step, &field.node, field.required, default)
+    list_step(walk, step, &field.node, field.required, default)
 }
 
 /// Lists the field to which a step leads, and the fields below it.
 #[cycle(list)]
-fn list_part(
+fn list_step(
     walk: &mut Walk,
     step: Step<'_>,
     node: &Node,

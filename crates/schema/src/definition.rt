@@ -17,7 +17,6 @@ use crate::laws;
 use crate::limits::Limits;
 use crate::listing::list_places;
 use crate::raw::RawSchema;
-use crate::reading::copy_tree;
 use crate::refusal::Part;
 use crate::versions::select;
 use jtree::{Items, Text, Tree};
@@ -98,7 +97,7 @@ pub fn read_crd_within(
         group: Text::from_str(alloc, definition.group)?,
         kind: Text::from_str(alloc, definition.kind)?,
         version: Text::from_str(alloc, version)?,
-        raw: RawSchema::new(copy_tree(alloc, definition.schema)?, limits),
+        raw: RawSchema::new(definition.schema.try_clone(alloc)?, limits),
     })
 }
 

@@ -47,7 +47,7 @@ pub use fault::SFault;
 pub use forms::Form;
 pub use judging::breaks;
 pub use limits::{Excess, Limited, Limits};
-pub use names::Names;
+pub use names::{Names, is_among};
 pub use node::{
     Below, Bounds, Branches, Constraints, Field, Fields, ListNode, ListType, MapNode, MapType,
     Node, ObjectNode, ScalarKind, ScalarNode, Sort, Validations,

@@ -116,13 +116,17 @@ fn branch<'a>(junctor: Junctor, index: u64) -> Step<'a>
     }
 }
 
-fn below<'a>(alloc: Global, place: &[Step<'a>], step: Step<'a>) -> Result<Vec<Step<'a>>, AllocError>
+fn place_below<'a>(
+    alloc: Global,
+    place: &[Step<'a>],
+    step: Step<'a>,
+) -> Result<Vec<Step<'a>>, AllocError>
     ensures { IfOk result (λ v. place_of v.items ≡ place_of place.now ++ (step_of step.entry ∷ [])) }
 {
-    let mut below = Vec::with_capacity(alloc, place.len() + 1)?;
-    below.extend_from_slice(place)?;
-    below.push(step)?;
-    Ok(below)
+    let mut longer = Vec::with_capacity(alloc, place.len() + 1)?;
+    longer.extend_from_slice(place)?;
+    longer.push(step)?;
+    Ok(longer)
 }
 
 /// Refuses a place after as many others as there may be, or with too many steps.
@@ -355,7 +359,7 @@ fn list_part<'a>(
 {
     match (part, tree) {
         (Part::Schema(step), Tree::Object(members)) => {
-            let place = below(alloc, position.place, step)?;
+            let place = place_below(alloc, position.place, step)?;
             let next = Position {
                 limits: position.limits,
                 place: place.as_slice(),

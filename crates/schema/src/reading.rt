@@ -59,13 +59,6 @@ pub(crate) fn bounds(schema: &Tree, least: &str, most: &str) -> Bounds
     }
 }
 
-/// As `Tree::copy`, which fails for memory alone.
-pub(crate) fn copy_tree(alloc: Global, tree: &Tree) -> Result<Tree, AllocError>
-    ensures { IfOk result (λ t. t ≡ tree.now) }
-{
-    tree.copy(alloc).map_err(|_| AllocError)
-}
-
 /// A copy of the string under a keyword.
 pub(crate) fn copy_text(
     alloc: Global,
@@ -98,7 +91,7 @@ pub(crate) fn copy_list(
 fn copied_items(alloc: Global, tree: &Tree) -> Result<Option<Items>, AllocError>
     ensures { IfOk result (λ t. t ≡ items_of (data_of tree.now)) }
 {
-    match copy_tree(alloc, tree)? {
+    match tree.try_clone(alloc)? {
         Tree::List(items) => Ok(Some(items)),
         _ => Ok(None),
     }

@@ -24,7 +24,7 @@ use crate::node::{
 };
 use crate::places::is_envelope_name;
 use crate::raw::RawSchema;
-use crate::reading::{bounds, copy_text, copy_texts, copy_tree, flag, text};
+use crate::reading::{bounds, copy_text, copy_texts, flag, text};
 use crate::refused::Refused;
 use crate::shaped::Shape;
 use crate::validations::{read_object_junctors, read_validations};
@@ -240,7 +240,7 @@ fn copy_default(alloc: Global, property: &Tree) -> Result<Option<Tree>, AllocErr
     ensures { IfOk result (λ o. option_map data_of o ≡ under (data_of property.now) (codes "default")) }
 {
     match property.get("default") {
-        Some(tree) => Ok(Some(copy_tree(alloc, tree)?)),
+        Some(tree) => Ok(Some(tree.try_clone(alloc)?)),
         None => Ok(None),
     }
 }

@@ -53,27 +53,29 @@ pub(crate) fn read_object_junctors(alloc: Global, schema: &Tree) -> Result<Valid
     ensures { IfOk result (λ c. AreObjectJunctorsOf (validations_of c) (data_of schema.now)) }
 {
     let mut validations = read_validations(alloc, schema)?;
-    validations.constraints = no_constraints(alloc);
+    validations.constraints = Constraints::none(alloc);
     Ok(validations)
 }
 
-/// Constraints that ask nothing.
-fn no_constraints(alloc: Global) -> Constraints
-    ensures { result ≡ presence [] }
-{
-    Constraints {
-        choices: None,
-        minimum: None,
-        maximum: None,
-        exclusive_minimum: false,
-        exclusive_maximum: false,
-        lengths: Bounds {
-            least: None,
-            most: None,
-        },
-        required: Names {
-            names: Vec::new(alloc),
-        },
+impl Constraints {
+    /// Constraints that ask nothing.
+    pub fn none(alloc: Global) -> Constraints
+        ensures { result ≡ presence [] }
+    {
+        Constraints {
+            choices: None,
+            minimum: None,
+            maximum: None,
+            exclusive_minimum: false,
+            exclusive_maximum: false,
+            lengths: Bounds {
+                least: None,
+                most: None,
+            },
+            required: Names {
+                names: Vec::new(alloc),
+            },
+        }
     }
 }
 

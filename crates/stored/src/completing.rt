@@ -10,7 +10,7 @@ ghost use Rattle.stored.specs.Objects.Parts.{Leading};
 ghost use Rattle.stored.specs.Objects.Becomes.{Becomes, IsPruned, IsCompleted};
 ghost use Rattle.stored.specs.Schemas.Defaults.{HasGoodDefaults};
 
-use crate::defaulting::{copy_tree, fill};
+use crate::defaulting::fill;
 use crate::pruning::prune;
 use jtree::Tree;
 use schema::Node;
@@ -27,7 +27,7 @@ pub fn complete(alloc: Global, node: &Node, tree: &Tree) -> Result<Tree, AllocEr
     ensures again { let N = node_of node.now in IfOk result (λ t. (root : Nodes.Node) (p : Place) (w : Data) → HasGoodDefaults root → node_at root p ≡ Some N → IsTree w → (IsPruned N (data_of t) w ↔ (w ≡ data_of t)) × (IsCompleted N (data_of t) w ↔ (w ≡ data_of t))) }
 {
     // one copy, pruned in place and filled by moving its parts: besides it only defaults are copied
-    let mut pruned = copy_tree(alloc, tree)?;
+    let mut pruned = tree.try_clone(alloc)?;
     prune(node, &mut pruned);
     pruned.reveal_invariant();
     let completed = fill(alloc, node, pruned)?;

@@ -132,7 +132,7 @@ fn fill_default(alloc: Global, field: &Field) -> Result<Option<Member>, AllocErr
     let Some(default) = &field.default else {
         return Ok(None);
     };
-    let tree = fill(alloc, &field.node, copy_tree(alloc, default)?)?;
+    let tree = fill(alloc, &field.node, default.try_clone(alloc)?)?;
     tree.reveal_invariant();
     let name = field.name.copy(alloc)?;
     Ok(Some(Member { name, tree }))
@@ -151,15 +151,6 @@ fn admit(node: &Node, tree: Tree) -> Option<Tree>
             }
         }
         tree => Some(tree),
-    }
-}
-
-pub(crate) fn copy_tree(alloc: Global, tree: &Tree) -> Result<Tree, AllocError>
-    ensures { IfOk result (λ t. t ≡ tree.now) }
-{
-    match tree.copy(alloc) {
-        Ok(copy) => Ok(copy),
-        Err(_) => Err(AllocError),
     }
 }
 

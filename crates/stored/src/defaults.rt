@@ -9,7 +9,7 @@ ghost use Rattle.stored.specs.Schemas.Defaults.{IsGoodDefault};
 ghost use Rattle.stored.specs.Internal.DefaultList.{own_default, defaults_of, defaults_in_fields, defaults_in_field, AreAdded};
 
 use crate::all_faults::faults;
-use crate::defaulting::{copy_tree, fill};
+use crate::defaulting::fill;
 use crate::is_pruned::is_pruned;
 use jtree::{Tree, push_name};
 use schema::{Below, Field, Fields, Node, Rule, Sort, Violation};
@@ -46,7 +46,7 @@ fn find_bad_below(
 ) -> Result<(), AllocError>
     ensures { OnOk result (AreAdded (pointer.now ++ name_token keyword.now) (defaults_of node.now) (map reported found.old.items) (map reported found.new.items)) }
 {
-    let place = below(alloc, pointer, keyword)?;
+    let place = pointer_below(alloc, pointer, keyword)?;
     find_bad(alloc, &node.node, place.as_str(), found)
 }
 
@@ -74,8 +74,8 @@ fn find_bad_field(
 ) -> Result<(), AllocError>
     ensures { OnOk result (AreAdded pointer.now (defaults_in_field field.now) (map reported found.old.items) (map reported found.new.items)) }
 {
-    let properties = below(alloc, pointer, "properties")?;
-    let place = below(alloc, properties.as_str(), field.name.as_str())?;
+    let properties = pointer_below(alloc, pointer, "properties")?;
+    let place = pointer_below(alloc, properties.as_str(), field.name.as_str())?;
     add_bad(alloc, field, place.as_str(), found)?;
     find_bad(alloc, &field.node, place.as_str(), found)
 }
@@ -107,7 +107,7 @@ fn is_good(alloc: Global, node: &Node, default: &Tree) -> Result<bool, AllocErro
     if !is_pruned(node, default) {
         return Ok(false);
     }
-    let value = fill(alloc, node, copy_tree(alloc, default)?)?;
+    let value = fill(alloc, node, default.try_clone(alloc)?)?;
     value.reveal_invariant();
     Ok(is_faultless(alloc, node, &value)?)
 }
@@ -120,12 +120,12 @@ pub(crate) fn is_faultless(alloc: Global, node: &Node, tree: &Tree) -> Result<bo
 }
 
 /// The pointer of a member, by the pointer of its object.
-fn below(alloc: Global, pointer: &str, name: &str) -> Result<String, AllocError>
+fn pointer_below(alloc: Global, pointer: &str, name: &str) -> Result<String, AllocError>
     ensures { IfOk result (λ s. string_bytes s ≡ pointer.now ++ name_token name.now) }
 {
-    let mut below = String::from_str(alloc, pointer)?;
-    match push_name(&mut below, name) {
-        Ok(()) => Ok(below),
+    let mut longer = String::from_str(alloc, pointer)?;
+    match push_name(&mut longer, name) {
+        Ok(()) => Ok(longer),
         Err(_fault) => Err(AllocError),
     }
 }

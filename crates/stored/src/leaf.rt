@@ -2,13 +2,11 @@
 ghost use Rattle.std.specs.Prelude.{◌≡◌, ◌++◌, IfOk};
 ghost use Rattle.jtree.specs.Text.{compact};
 ghost use Rattle.jtree.specs.View.{data_of};
-ghost use Rattle.schema.specs.Document.Texts.{is_among};
 ghost use Rattle.stored.specs.Objects.Leaves;
 ghost use Rattle.stored.specs.Objects.Leaves.{members_among};
 
-use crate::defaulting::copy_tree;
 use jtree::{Member, Members, Text, Tree};
-use schema::{ListNode, ListType};
+use schema::{ListNode, ListType, is_among};
 use std::alloc::{AllocError, Global};
 
 /// A leaf of an object.
@@ -58,30 +56,18 @@ fn members_among(alloc: Global, names: &[Text], members: &Members) -> Result<Mem
     members.reveal_invariant();
     let mut copies = Vec::new(alloc);
     for member in &members.members {
-        if is_among(&member.name, names) {
+        if is_among(member.name.as_str(), names) {
             copies.push(copy_member(alloc, member)?)?;
         }
     }
     Ok(Members { members: copies })
 }
 
-/// Whether a name is one of these.
-fn is_among(name: &Text, names: &[Text]) -> bool
-    ensures { result ≡ is_among name.now names.now }
-{
-    for other in names {
-        if name == other {
-            return true;
-        }
-    }
-    false
-}
-
 fn copy_member(alloc: Global, member: &Member) -> Result<Member, AllocError>
     ensures { IfOk result (λ m. m ≡ member.now) }
 {
     let name = member.name.copy(alloc)?;
-    let tree = copy_tree(alloc, &member.tree)?;
+    let tree = member.tree.try_clone(alloc)?;
     Ok(Member { name, tree })
 }
 

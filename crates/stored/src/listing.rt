@@ -196,14 +196,14 @@ fn list_named(
     let depth = walk.way.len();
     walk.way
         .push(text_element(alloc, "f:", member.name.as_str())?)?;
-    list_part(alloc, walk, &member.tree, node)?;
+    list_value(alloc, walk, &member.tree, node)?;
     walk.way.truncate(depth);
     Ok(())
 }
 
 /// Adds the leaves of a value with a node, or the value as one leaf.
 #[cycle(list)]
-fn list_part(
+fn list_value(
     alloc: Global,
     walk: &mut Walk,
     tree: &Tree,

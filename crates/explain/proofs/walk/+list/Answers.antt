@@ -7,8 +7,8 @@ use Rattle.explain.specs.Paths.StepView.{step_of}
 use Rattle.explain.proofs.WalkLemmas.{left}
 use Rattle.explain.proofs.walk.+list.Goals as goal
 
-pub list_part-returns : goal.list_part-returns
-list_part-returns t c =
+pub list_step-returns : goal.list_step-returns
+list_step-returns t c =
     let old = c.args.walk.now in
     let N = node_of c.args.node.now in
     let default = option_map data_of c.args.default in

@@ -17,13 +17,13 @@ returns-in-Err-check_schema-clause-err c =
     read_fault c.args.limits (data_of c.args.document.now) c.args.version.now (data_of found.schema.now) c.in-Err-check_schema.fault (found.group.now, found.kind.now, c.in-Ok.ensures.ok) c.in-Err-check_schema.ensures.err
 
 pub new-requires-clause-forms : goal.new-requires-clause-forms
-new-requires-clause-forms c = subst (λ t. HasForms (data_of t)) (sym c.in_ok-copy_tree.ensures) c.in-Ok-check_schema.ensures.forms
+new-requires-clause-forms c = subst (λ t. HasForms (data_of t)) (sym c.in_ok-try_clone.ensures) c.in-Ok-check_schema.ensures.forms
 
 pub new-requires-clause-within : goal.new-requires-clause-within
-new-requires-clause-within c = subst (λ t. IsWithinLimits c.args.limits (data_of t)) (sym c.in_ok-copy_tree.ensures) c.in-Ok-check_schema.ensures.within
+new-requires-clause-within c = subst (λ t. IsWithinLimits c.args.limits (data_of t)) (sym c.in_ok-try_clone.ensures) c.in-Ok-check_schema.ensures.within
 
 pub returns-clause-within : goal.returns-clause-within
-returns-clause-within c = subst (IsWithinLimits c.args.limits) (sym c.new.ensures) (subst (λ t. IsWithinLimits c.args.limits (data_of t)) (sym c.in_ok-copy_tree.ensures) c.in-Ok-check_schema.ensures.within)
+returns-clause-within c = subst (IsWithinLimits c.args.limits) (sym c.new.ensures) (subst (λ t. IsWithinLimits c.args.limits (data_of t)) (sym c.in_ok-try_clone.ensures) c.in-Ok-check_schema.ensures.within)
 
 pub returns-clause-forms : goal.returns-clause-forms
-returns-clause-forms c = subst HasForms (sym c.new.ensures) (subst (λ t. HasForms (data_of t)) (sym c.in_ok-copy_tree.ensures) c.in-Ok-check_schema.ensures.forms)
+returns-clause-forms c = subst HasForms (sym c.new.ensures) (subst (λ t. HasForms (data_of t)) (sym c.in_ok-try_clone.ensures) c.in-Ok-check_schema.ensures.forms)

@@ -83,4 +83,4 @@ fill_fields-loop-field-preserved t c =
 
 pub fill_default-returns : goal.fill_default-returns
 fill_default-returns t c =
-    rw c.in-Some.is record { becomes = rw (← c.in_ok-copy_tree.ensures) c.in_ok-tree.ensures; member = (c.in_ok-name.ensures, c.reveal_invariant.ensures) }
+    rw c.in-Some.is record { becomes = rw (← c.in_ok-try_clone.ensures) c.in_ok-tree.ensures; member = (c.in_ok-name.ensures, c.reveal_invariant.ensures) }

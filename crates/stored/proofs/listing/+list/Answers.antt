@@ -50,9 +50,9 @@ list_named-returns t c =
     let old = c.args.walk.now in
     let k = c.args.member.now.name in
     part_listed old.way.items c.push.new.self.items (map elements_of old.leaves.items) (name k) c.in_ok-text_element.field-0 (codes "f:" ++ k)
-    (part_leaves (option_map (λ n. node_of n.now) c.args.node) (data_of c.args.member.now.tree)) (walked c.list_part.new.walk) c.len-depth.result c.truncate.new.self.items
+    (part_leaves (option_map (λ n. node_of n.now) c.args.node) (data_of c.args.member.now.tree)) (walked c.list_value.new.walk) c.len-depth.result c.truncate.new.self.items
     (rw c.as_str.ensures at c.in_ok-text_element.ensures)
     c.in_ok-push.ensures.items
-    c.in_ok-list_part.ensures
+    c.in_ok-list_value.ensures
     (omega (arith, c.len-depth.ensures, old.way.ok.0))
     c.truncate.ensures.items
