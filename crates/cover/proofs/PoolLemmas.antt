@@ -1,22 +1,19 @@
 -- What the narrowed pools ask for, and what they fix.
 use Rattle.std.proofs.Common.{◌≡◌, ◌≢◌, ◌⊎◌, ℕ, List, [], ◌∷◌, ◌++◌, Bool, true, false, Option, Some, None, refl, sym, ap, subst, ◌∙◌, inl, inr, append-nil, append_assoc}
-use Rattle.std.specs.Prelude.{◌||◌, is_some, option_and_then, if◌then◌else◌}
-use Rattle.std.specs.Ordering.{ordering_reverse}
+use Rattle.std.specs.Prelude.{◌||◌, is_some, option_and_then}
 use Rattle.std.specs.Str.{bytes_eq}
-use Rattle.std.specs.declared.cmp.Ordering.TheVariants.{Less, Greater}
-use Rattle.std.proofs.lemmas.Cmp.{nat_list_cmp_total}
 use Rattle.std.proofs.lemmas.List.{append_cancel_left}
-use Rattle.std.proofs.lemmas.Map.Lookups.{exact_bytes}
-use Rattle.jtree.specs.Data.{Data, list, Members, no_members, member}
-use Rattle.jtree.specs.Order.{text_cmp}
+use Rattle.jtree.specs.Data.{Data, list}
 use Rattle.jtree.specs.Path.{member_at}
-use Rattle.jtree.specs.Internal.Lookups.{bool_cases, option_cases, ordering_cases, same_name, earlier_name}
+use Rattle.jtree.specs.Internal.Lookups.{bool_cases, option_cases, same_name}
+use Rattle.jtree.specs.Internal.MemberLaws.{with_member_at}
+use Rattle.jtree.specs.MemberPlace.{with_member}
 use Rattle.schema.specs.Document.Texts.{is_among}
 use Rattle.schema.specs.Nodes.Node.{Node}
 use Rattle.schema.specs.Nodes.ByPlace.{node_at}
 use Rattle.explain.specs.Paths.FieldPath.{FieldStep, FieldPath, place_of}
 use Rattle.explain.specs.Paths.PathText.{step_text, path_text}
-use Rattle.plan.specs.Pools.Along.{beginnings, with_list, with_lists, DifferAlong}
+use Rattle.plan.specs.Pools.Along.{beginnings, with_lists, DifferAlong}
 use Rattle.plan.specs.Pools.Pools.{Pools, items_list, entries_in, fixed_at, is_present}
 use Rattle.plan.specs.Pools.PlanFault.{HasName}
 use Rattle.plan.specs.Samples.Candidates.{sort_at}
@@ -34,29 +31,6 @@ among_append text (x ∷ xs) ys = elim (bool_cases (bytes_eq text x)) [
 
 pub asked_more : (P : Pools) (o : Option Data) (p : FieldPath) (text : List ℕ) → is_present text (narrowed P o p) ≡ (is_present text P || is_some (rest_at [] p text))
 asked_more P o p text = among_append text P.present (beginnings [] p) ∙ ap (λ b. is_present text P || b) (among_beginnings [] p text)
-
--- ---- the value under a name
-
-before_of : (k l : List ℕ) → text_cmp k l ≡ Greater → text_cmp l k ≡ Less
-before_of k l past = nat_list_cmp_total.antisymm l k ∙ ap ordering_reverse past
-
-pub more_at : (k : List ℕ) (e : Data) (ms : Members) (j : List ℕ) → member_at j (with_list k (Some e) ms) ≡ (if bytes_eq j k then Some e else member_at j ms)
-more_at k e no_members j = refl
-more_at k e (member l d ms) j = elim (ordering_cases (text_cmp k l)) [
-  | inl first ↦ rw first refl
-  | inr (inl same) ↦
-      let is = exact_bytes k l same in
-      rw same (elim (bool_cases (bytes_eq j k)) [
-        | inl t ↦ rw t refl
-        | inr f ↦ rw f (sym (rw (subst (λ n. bytes_eq j n ≡ false) is f) refl))
-      ])
-  | inr (inr past) ↦ rw past (elim (bool_cases (bytes_eq j l)) [
-    | inl t ↦
-        let other : bytes_eq j k ≡ false = earlier_name j k (subst (λ n. text_cmp n k ≡ Less) (sym (same_name j l t)) (before_of k l past)) in
-        rw (t, other) refl
-    | inr f ↦ rw f (more_at k e ms j)
-  ])
-]
 
 -- ---- what is fixed
 
@@ -96,7 +70,7 @@ lists_at one P o front (s ∷ p) text = elim (option_cases (kept_fixed o (Some p
   ])
   | inr some ↦
       let rest = with_lists (changes o P (below front s) p) P.fixed in
-      rw some.1 (ap (option_and_then entries_in) (more_at (below front s) (list (as_items some.0)) rest text) ∙ elim (bool_cases (bytes_eq text (below front s))) [
+      rw some.1 (ap (option_and_then entries_in) (with_member_at (below front s) (list (as_items some.0)) rest text) ∙ elim (bool_cases (bytes_eq text (below front s))) [
         | inl same ↦
             let is = same_name text (below front s) same in
             let whole : kept_fixed o (Some p) (fixed_at text P) ≡ Some some.0 = subst (λ t. kept_fixed o (Some p) (fixed_at t P) ≡ Some some.0) (sym is) some.1 in
@@ -133,9 +107,9 @@ list_name P o front (s ∷ p) text has =
       | inl none ↦ later (rw none at has)
       | inr some ↦
           let rest = with_lists (changes o P (below front s) p) P.fixed in
-          let there : HasName (with_list (below front s) (Some (list (as_items some.0))) rest) text = rw some.1 at has in
+          let there : HasName (with_member (below front s) (list (as_items some.0)) rest) text = rw some.1 at has in
           elim (bool_cases (bytes_eq text (below front s))) [
-            | inr other ↦ later (there.0, rw other at (sym (more_at (below front s) (list (as_items some.0)) rest text) ∙ there.1))
+            | inr other ↦ later (there.0, rw other at (sym (with_member_at (below front s) (list (as_items some.0)) rest text) ∙ there.1))
             | inl same ↦
                 let is = same_name text (below front s) same in
                 elim (option_cases (fixed_at (below front s) P)) [

@@ -1,5 +1,6 @@
 //! What a wanted thing adds to a cover.
-ghost use Rattle.std.specs.Prelude.{◌≡◌, ◌≤◌, ◌<◌, ◌++◌, ◌∷◌, [], false, true, Some, None, IfOk, OnOk, List, length, take, All, Contains, map, option_map};
+ghost use Rattle.std.specs.Prelude.{◌≡◌, ◌≤◌, ◌<◌, ◌++◌, ◌∷◌, []};
+ghost use Rattle.std.specs.Prelude.{false, true, Some, None, IfOk, OnOk, List, length, take, All, Contains, map, option_map};
 ghost use Rattle.jtree.specs.View.{data_of};
 ghost use Rattle.explain.specs.Fields.Declared.{IsDeclared};
 ghost use Rattle.explain.specs.Fields.PathFault.{IsTextOf};
@@ -7,8 +8,9 @@ ghost use Rattle.explain.specs.Paths.PathText.{path_text};
 ghost use Rattle.plan.specs.Pools.PlanFault.{HasGoodPaths};
 ghost use Rattle.plan.specs.Samples.Question.{Question};
 ghost use Rattle.cover.specs.Cover.{AreCovered};
-ghost use Rattle.cover.specs.There.{is_there as is_there_of};
-ghost use Rattle.cover.specs.View.{covered_of, wanted_of as wanted_data_of};
+ghost use Rattle.cover.specs.There;
+ghost use Rattle.cover.specs.View.{covered_of};
+ghost use Rattle.cover.specs.View;
 ghost use Rattle.cover.specs.Wanted.{AreValuesOf, Wanted as WantedData, with_any, with_value};
 ghost use Rattle.cover.specs.Internal.Known.{AreKnown, IsKnown, IsKnownAbove, IsGrown};
 ghost use Rattle.cover.specs.Internal.Narrowed.{MayBeWanted};
@@ -18,7 +20,6 @@ ghost use Rattle.cover.specs.declared.covering.Line.{Line as CodeLine};
 use crate::covering::{Covered, Line, Wanted};
 use crate::first::{Aim, find_first};
 use crate::known::{Front, Known, known_above};
-use crate::narrowing::copy_of;
 use crate::there::is_there;
 use crate::values::values_of;
 use crate::way::{PathStep, steps_of};
@@ -151,11 +152,11 @@ fn add_wanted<Z: SizeSet>(
 
 /// That the path of this text is there, or that it is there with the value.
 fn wanted_of(alloc: Global, path: &str, value: Option<&Tree>) -> Result<Wanted, AllocError>
-    ensures { IfOk result (λ w. wanted_data_of w ≡ record { path = path.now; value = option_map (λ v. data_of v.now) value.entry }) }
+    ensures { IfOk result (λ w. View.wanted_of w ≡ record { path = path.now; value = option_map (λ v. data_of v.now) value.entry }) }
 {
     let path = Text::from_str(alloc, path)?;
     let value = match value {
-        Some(value) => Some(copy_of(alloc, value)?),
+        Some(value) => Some(value.try_clone(alloc)?),
         None => None,
     };
     Ok(Wanted { path, value })
@@ -164,10 +165,10 @@ fn wanted_of(alloc: Global, path: &str, value: Option<&Tree>) -> Result<Wanted, 
 /// How many of the first lines do not have the path of the steps, with the value where one is wanted: at least `from` of them.
 fn lines_without(lines: &[Line], value: Option<&Tree>, steps: &[PathStep], from: usize) -> usize
     requires from { from ≤ length lines.now }
-    requires without { All (λ l. is_there_of (option_map (λ v. data_of v.now) value) (path_of steps.now) (data_of l.tree) ≡ false) (take from lines.now) }
+    requires without { All (λ l. There.is_there (option_map (λ v. data_of v.now) value) (path_of steps.now) (data_of l.tree) ≡ false) (take from lines.now) }
     ensures within { result ≤ length lines.now }
-    ensures without { All (λ l. is_there_of (option_map (λ v. data_of v.now) value.entry) (path_of steps.now) (data_of l.tree) ≡ false) (take result lines.now) }
-    ensures next { result < length lines.now → (l : CodeLine) × (Contains lines.now l × (is_there_of (option_map (λ v. data_of v.now) value.entry) (path_of steps.now) (data_of l.tree) ≡ true)) }
+    ensures without { All (λ l. There.is_there (option_map (λ v. data_of v.now) value.entry) (path_of steps.now) (data_of l.tree) ≡ false) (take result lines.now) }
+    ensures next { result < length lines.now → (l : CodeLine) × (Contains lines.now l × (There.is_there (option_map (λ v. data_of v.now) value.entry) (path_of steps.now) (data_of l.tree) ≡ true)) }
 {
     let mut at = from;
     while at < lines.len() {

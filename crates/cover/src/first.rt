@@ -10,7 +10,7 @@ ghost use Rattle.cover.specs.Internal.First.{IsFirstSample};
 ghost use Rattle.cover.specs.Internal.Narrowed.{MayBeWanted};
 ghost use Rattle.cover.specs.Internal.Ways.{path_of};
 
-use crate::narrowing::{copy_of, lists_along};
+use crate::narrowing::lists_along;
 use crate::way::PathStep;
 use enumerate::Live;
 use jtree::Tree;
@@ -67,7 +67,7 @@ fn first_of<Z: SizeSet>(alloc: Global, plan: &mut Plan<Z>) -> Result<Option<Tree
     let mut meter = plan.meter();
     match Live::first(alloc, plan, &mut meter) {
         Ok(Some(live)) => match live.tree() {
-            Some(tree) => Ok(Some(copy_of(alloc, tree)?)),
+            Some(tree) => Ok(Some(tree.try_clone(alloc)?)),
             None => Ok(None),
         },
         Ok(None) => Ok(None),

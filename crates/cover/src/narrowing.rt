@@ -5,12 +5,12 @@ ghost use Rattle.jtree.specs.Data.{Data, list, item, no_items};
 ghost use Rattle.jtree.specs.View.{data_of};
 ghost use Rattle.explain.specs.Paths.FieldPath.{FieldPath};
 ghost use Rattle.plan.specs.Pools.Along.{lists_of};
-ghost use Rattle.cover.specs.There.{is_there as is_there_of};
+ghost use Rattle.cover.specs.There;
 ghost use Rattle.cover.specs.Internal.Ways.{path_of};
 ghost use Rattle.cover.specs.Internal.Narrowed.{changes, change_at, as_items, kept_of, kept_fixed, end_alone};
 
 use crate::there::is_there;
-use crate::way::{PathStep, below};
+use crate::way::PathStep;
 use jtree::{Items, Text, Tree};
 use plan::{ListAt, Pools};
 use std::alloc::{AllocError, Global};
@@ -44,7 +44,7 @@ fn push_lists(
     let [step, rest @ ..] = steps else {
         return Ok(());
     };
-    let path = below(alloc, front, step)?;
+    let path = step.below(alloc, front)?;
     let list = kept_list(alloc, value, rest, pools.fixed_at(&path))?;
     push_list(alloc, &path, list, lists)?;
     push_lists(alloc, pools, value, &path, rest, lists)
@@ -107,13 +107,13 @@ fn kept_items(
     steps: &[PathStep],
     trees: &[Tree],
 ) -> Result<Items, AllocError>
-    ensures { IfOk result (λ ds. ds ≡ as_items (kept_of (is_there_of (option_map (λ w. data_of w.now) value.entry) (path_of steps.now)) (map data_of trees.now))) }
+    ensures { IfOk result (λ ds. ds ≡ as_items (kept_of (There.is_there (option_map (λ w. data_of w.now) value.entry) (path_of steps.now)) (map data_of trees.now))) }
 {
     let mut kept = Vec::new(alloc);
     for tree in trees {
         tree.reveal_invariant();
         if is_there(value, steps, tree) {
-            kept.push(copy_of(alloc, tree)?)?;
+            kept.push(tree.try_clone(alloc)?)?;
         }
     }
     Ok(Items { items: kept })
@@ -124,13 +124,6 @@ fn list_of_one(alloc: Global, tree: &Tree) -> Result<Items, AllocError>
     ensures { IfOk result (λ ds. ds ≡ item (data_of tree.now) no_items) }
 {
     tree.reveal_invariant();
-    let items = vec![in alloc; copy_of(alloc, tree)?]?;
+    let items = vec![in alloc; tree.try_clone(alloc)?]?;
     Ok(Items { items })
-}
-
-/// An equal tree.
-pub(crate) fn copy_of(alloc: Global, tree: &Tree) -> Result<Tree, AllocError>
-    ensures { IfOk result (λ t. t ≡ tree.now) }
-{
-    tree.copy(alloc).map_err(|_| AllocError)
 }

@@ -1,7 +1,8 @@
 //! Whether a path is there in a value.
 ghost use Rattle.std.specs.Prelude.{◌≡◌, List, option_map};
 ghost use Rattle.jtree.specs.View.{data_of};
-ghost use Rattle.cover.specs.There.{is_there as is_there_of, is_one as is_one_of, has_items, has_values};
+ghost use Rattle.cover.specs.There.{has_items, has_values};
+ghost use Rattle.cover.specs.There;
 ghost use Rattle.cover.specs.Internal.Ways.{path_of};
 
 use crate::way::PathStep;
@@ -11,7 +12,7 @@ use jtree::{Items, Members, Tree};
 /// path in every one. Where a value is wanted, each value at the end of the path is that one.
 #[cycle(there)]
 pub(crate) fn is_there(value: Option<&Tree>, steps: &[PathStep], tree: &Tree) -> bool
-    ensures { result ≡ is_there_of (option_map (λ w. data_of w.now) value.entry) (path_of steps.now) (data_of tree.now) }
+    ensures { result ≡ There.is_there (option_map (λ w. data_of w.now) value.entry) (path_of steps.now) (data_of tree.now) }
 {
     let [step, rest @ ..] = steps else {
         return is_one(value, tree);
@@ -29,7 +30,7 @@ pub(crate) fn is_there(value: Option<&Tree>, steps: &[PathStep], tree: &Tree) ->
 
 /// Whether any value is wanted, or this one.
 fn is_one(value: Option<&Tree>, tree: &Tree) -> bool
-    ensures { result ≡ is_one_of (option_map (λ w. data_of w.now) value.entry) (data_of tree.now) }
+    ensures { result ≡ There.is_one (option_map (λ w. data_of w.now) value.entry) (data_of tree.now) }
 {
     match value {
         Some(value) => tree == value,
@@ -39,7 +40,7 @@ fn is_one(value: Option<&Tree>, tree: &Tree) -> bool
 
 #[cycle(there)]
 fn is_in_items(value: Option<&Tree>, rest: &[PathStep], items: &Items) -> bool
-    ensures { result ≡ has_items (is_there_of (option_map (λ w. data_of w.now) value.entry) (path_of rest.now)) items.now }
+    ensures { result ≡ has_items (There.is_there (option_map (λ w. data_of w.now) value.entry) (path_of rest.now)) items.now }
 {
     for item in &items.items {
         if !is_there(value, rest, item) {
@@ -51,7 +52,7 @@ fn is_in_items(value: Option<&Tree>, rest: &[PathStep], items: &Items) -> bool
 
 #[cycle(there)]
 fn is_in_values(value: Option<&Tree>, rest: &[PathStep], members: &Members) -> bool
-    ensures { result ≡ has_values (is_there_of (option_map (λ w. data_of w.now) value.entry) (path_of rest.now)) members.now }
+    ensures { result ≡ has_values (There.is_there (option_map (λ w. data_of w.now) value.entry) (path_of rest.now)) members.now }
 {
     for member in &members.members {
         if !is_there(value, rest, &member.tree) {

@@ -1,12 +1,11 @@
 //! The steps of a path, found by its text.
-ghost use Rattle.std.specs.Prelude.{◌≡◌, ◌++◌, true, false, [], IfOk, string_bytes};
+ghost use Rattle.std.specs.Prelude.{◌≡◌, ◌++◌, true, false, [], IfOk};
 ghost use Rattle.schema.specs.Nodes.View.{node_of};
 ghost use Rattle.explain.specs.Fields.Declared.{IsDeclared};
 ghost use Rattle.explain.specs.Fields.PathFault.{IsTextOf};
 ghost use Rattle.explain.specs.Paths.FieldPath.{FieldPath};
 ghost use Rattle.explain.specs.Paths.PathText.{step_text, path_text};
 ghost use Rattle.explain.specs.Paths.StepView as explain_step;
-ghost use Rattle.plan.specs.Samples.Site.{below as below_of};
 ghost use Rattle.cover.specs.Internal.Ways.{step_of, path_of, LeadsNowhere, NoneLeads};
 
 use explain::{Step, after_step};
@@ -15,13 +14,6 @@ pub(crate) use plan::PathStep;
 use schema::{Fields, Node, Sort};
 use std::alloc::{AllocError, Global};
 use stored::Schema;
-
-/// The text of the path of this text extended by a step.
-pub(crate) fn below(alloc: Global, front: &str, step: &PathStep) -> Result<String, AllocError>
-    ensures { IfOk result (λ s. string_bytes s ≡ below_of front.now (step_of step.now)) }
-{
-    step.below(alloc, front)
-}
 
 /// The steps of the declared path of this text.
 pub(crate) fn steps_of(

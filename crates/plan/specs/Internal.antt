@@ -15,4 +15,3 @@ pub mod Widest
 pub mod Frame
 pub mod Way
 pub mod Renewed
-pub mod MemberPlace

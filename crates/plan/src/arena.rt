@@ -3,10 +3,10 @@ ghost use Rattle.std.specs.Prelude.{◌≡◌, ◌<◌, ◌≤◌, ◌+◌, ◌+
 ghost use Rattle.plan.specs.Pools.Pools.{Pools};
 ghost use Rattle.plan.specs.Samples.Sites.{Site};
 ghost use Rattle.plan.specs.Samples.Candidates.{sort_of, HasCount, IsCandidate};
-ghost use Rattle.plan.specs.Internal.Arena.{AreRightBelow};
+ghost use Rattle.plan.specs.Internal.Arena.{AreRightIn};
 ghost use Rattle.plan.specs.Samples.Sites.{site_at};
 ghost use Rattle.plan.specs.declared.values.Values.{Values};
-ghost use Rattle.plan.specs.declared.sort.Sort.TheVariants.{Leaf as LeafSort};
+ghost use Rattle.plan.specs.declared.sort.Sort.TheVariants as sort;
 
 use crate::leaf::Leaf;
 use crate::values::Values;
@@ -133,7 +133,7 @@ impl<Z: SizeSet> Entry<Z> {
 
     /// How many candidates the leaf has; 0 where the node is not a leaf.
     fn count(&self) -> u64
-        ensures { (P : Pools) (limit : ℕ) (v : Values) (sites : List Site) (i : ℕ) → IsRight Z.holds limit P v sites i self.now → sort_of (site_at sites i) ≡ LeafSort → HasCount (IsCandidate P limit (site_at sites i)) result }
+        ensures { (P : Pools) (limit : ℕ) (v : Values) (sites : List Site) (i : ℕ) → IsRight Z.holds limit P v sites i self.now → sort_of (site_at sites i) ≡ sort.Leaf → HasCount (IsCandidate P limit (site_at sites i)) result }
     {
         match &self.content {
             Content::Leaf(leaf) => leaf.places.len() as u64,
@@ -228,8 +228,8 @@ impl<Z: SizeSet> Arena<Z> {
 
     /// How many candidates the leaf has; 0 where the node is not a leaf of the arena.
     pub(crate) fn count(&self, node: PlanNode) -> u64
-        ensures { (P : Pools) (sites : List Site) (i : ℕ) → AreRightBelow Z.holds self.now.limit P self.now.values sites i self.now.entries.items → node < i → i ≤ length self.now.entries.items
-            → sort_of (site_at sites node) ≡ LeafSort → HasCount (IsCandidate P self.now.limit (site_at sites node)) result }
+        ensures { (P : Pools) (sites : List Site) (i : ℕ) → AreRightIn Z.holds self.now P sites i → node < i → i ≤ length self.now.entries.items
+            → sort_of (site_at sites node) ≡ sort.Leaf → HasCount (IsCandidate P self.now.limit (site_at sites node)) result }
     {
         match self.find(node) {
             Some(entry) => entry.count(),

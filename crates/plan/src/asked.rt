@@ -4,9 +4,9 @@ ghost use Rattle.schema.specs.Nodes.View.{node_of};
 ghost use Rattle.explain.specs.Paths.StepView.{step_of};
 ghost use Rattle.plan.specs.Pools.Pools.{is_present};
 ghost use Rattle.plan.specs.Samples.Site.{below};
-ghost use Rattle.plan.specs.Samples.Over.{asks_field as asks_field_of, asks_below as asks_below_of};
-ghost use Rattle.plan.specs.Samples.Sizes.{raised as raised_of};
-ghost use Rattle.plan.specs.Samples.RuleOfParts.{takes_null as takes_null_of};
+ghost use Rattle.plan.specs.Samples.Over;
+ghost use Rattle.plan.specs.Samples.Sizes;
+ghost use Rattle.plan.specs.Samples.RuleOfParts;
 
 use crate::Pools;
 use explain::{Step, path_below};
@@ -20,7 +20,7 @@ pub(crate) fn takes_null(
     path: &str,
     node: &Node,
 ) -> Result<bool, AllocError>
-    ensures { IfOk result (λ takes. takes ≡ takes_null_of pools.now path.now (node_of node.now)) }
+    ensures { IfOk result (λ takes. takes ≡ RuleOfParts.takes_null pools.now path.now (node_of node.now)) }
 {
     if node.nullable {
         Ok(!asks_below(alloc, pools, path, node)?)
@@ -31,7 +31,7 @@ pub(crate) fn takes_null(
 
 /// Whether the pools ask for something directly below a node with this path.
 fn asks_below(alloc: Global, pools: &Pools, path: &str, node: &Node) -> Result<bool, AllocError>
-    ensures { IfOk result (λ asks. asks ≡ asks_below_of pools.now path.now (node_of node.now)) }
+    ensures { IfOk result (λ asks. asks ≡ Over.asks_below pools.now path.now (node_of node.now)) }
 {
     match &node.sort {
         Sort::Object(object) => asks_field(alloc, pools, path, &object.fields),
@@ -42,7 +42,7 @@ fn asks_below(alloc: Global, pools: &Pools, path: &str, node: &Node) -> Result<b
 }
 
 fn asks_field(alloc: Global, pools: &Pools, path: &str, fields: &Fields) -> Result<bool, AllocError>
-    ensures { IfOk result (λ asks. asks ≡ asks_field_of pools.now path.now fields.now) }
+    ensures { IfOk result (λ asks. asks ≡ Over.asks_field pools.now path.now fields.now) }
 {
     for field in &fields.fields {
         if asks_step(alloc, pools, path, Step::Field(field.name.as_str()))? {
@@ -62,7 +62,7 @@ fn asks_step(alloc: Global, pools: &Pools, path: &str, step: Step<'_>) -> Result
 
 /// The bounds with at least one, where that is asked.
 pub(crate) fn raised(bounds: Bounds, asked: bool) -> Bounds
-    ensures { result ≡ raised_of asked bounds }
+    ensures { result ≡ Sizes.raised asked bounds }
 {
     if !asked {
         return bounds;

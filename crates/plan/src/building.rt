@@ -1,34 +1,34 @@
 //! The entries of a schema's nodes, those below a node before it.
 ghost use Rattle.std.specs.Prelude.{◌≡◌, ℕ, ◌≤◌, ◌<◌, ◌+◌, ◌^◌, List, [], Bool, Option, None, length, IfOk};
-ghost use Rattle.schema.specs.Nodes.Node.{Node as NodeData, node as node_with};
+ghost use Rattle.schema.specs.Nodes.Node as nodes;
 ghost use Rattle.schema.specs.Nodes.View.{node_of, object_of, map_of, list_of};
-ghost use Rattle.schema.specs.Document.Texts.{is_among};
 ghost use Rattle.jtree.specs.View.{data_of};
 ghost use Rattle.std.specs.Prelude.{option_map, All, map as map_list};
-ghost use Rattle.explain.specs.Paths.FieldPath.{field as field_step, value as value_step};
-ghost use Rattle.plan.specs.Samples.Sites.{Site, plain, below, where_fixed, value_slot, item_keys, fixed_item as fixed_item_of};
+ghost use Rattle.explain.specs.Paths.FieldPath;
+ghost use Rattle.plan.specs.Samples.Sites.{Site, plain, below, where_fixed, value_slot, item_keys};
+ghost use Rattle.plan.specs.Samples.Sites;
 ghost use Rattle.plan.specs.Pools.Pools.{Pools as PoolsData, fixed_at};
 ghost use Rattle.plan.specs.Internal.Values.{trees_of, AreValues};
 ghost use Rattle.plan.specs.Samples.Candidates.{sort_at};
-ghost use Rattle.plan.specs.Samples.RuleOfParts.{takes_null as takes_null_at};
+ghost use Rattle.plan.specs.Samples.RuleOfParts;
 ghost use Rattle.plan.specs.declared.sort.Sort.TheVariants.{Leaf};
-ghost use Rattle.plan.specs.Internal.Arena.{AreSlots, IsLimit, IsKept, IsRight};
+ghost use Rattle.plan.specs.Internal.Arena.{AreSlots, IsLimit, IsKept, IsRightIn};
 ghost use Rattle.plan.specs.Samples.Sites.{site_at};
-ghost use Rattle.plan.specs.declared.arena.SlotEntry.{SlotEntry as SlotDeclared};
+ghost use Rattle.plan.specs.declared.arena.SlotEntry.{SlotEntry};
 ghost use Rattle.schema.specs.Nodes.Junctors.{most_named};
 ghost use Rattle.plan.specs.Internal.Tables.{IsClosed};
-ghost use Rattle.plan.specs.Internal.Building.{IsBuilt, AreBuilt, IsFieldSlot};
+ghost use Rattle.plan.specs.Internal.Building.{Builds, BuildsSort, BuildsFields, IsFieldSlot};
 
 use crate::arena::{Arena, Content, Entry, PlanNode, SlotEntry, SlotName};
 use crate::asked::{raised, takes_null};
 use crate::entries::row_entry;
 use crate::leaf::{leaf_of, leaf_sizes};
 use crate::list_entries::list_entry;
-use crate::presence::{bit_of, ends, named_fields};
+use crate::presence::{bit_of, ends_for, named_fields};
 use crate::{Pools, SizeSet};
 use explain::{Step, path_below};
 use jtree::{Text, Tree};
-use schema::{Below, Field, Fields, ListNode, ListType, MapNode, Node, ObjectNode, Sort};
+use schema::{Below, Field, Fields, ListNode, ListType, MapNode, Node, ObjectNode, Sort, is_among};
 use std::alloc::{AllocError, Global};
 
 /// Adds the entries of a node and of all nodes below it, of which a node whose values are fixed has none; `path` is the text of its
@@ -45,7 +45,7 @@ pub(crate) fn build<Z: SizeSet>(
 ) -> Result<PlanNode, AllocError>
     requires limit { IsLimit Z.BITS arena.old.limit }
     ensures kept { IsKept arena.old arena.new }
-    ensures built { IfOk result (λ n. IsBuilt Z.holds arena.old.limit pools.now arena.old.values arena.old.entries.items arena.new.entries.items (option_map (λ ts. trees_of ts.now) fixed.entry) path.now (node_of node.now) keys.now n) }
+    ensures built { IfOk result (λ n. Builds Z.holds arena.old arena.new pools.now (option_map (λ ts. trees_of ts.now) fixed.entry) path.now (node_of node.now) keys.now n) }
 {
     let nullable = takes_null(alloc, pools, path, node)?;
     if fixed.is_some() {
@@ -73,13 +73,12 @@ fn build_object<Z: SizeSet>(
 ) -> Result<PlanNode, AllocError>
     requires limit { IsLimit Z.BITS arena.old.limit }
     ensures kept { IsKept arena.old arena.new }
-    ensures built { IfOk result (λ n. (m : Bool) (d : Option (List ℕ)) → takes_null_at pools.now path.now (node_with m d (object_of object.now)) ≡ nullable
-        → IsBuilt Z.holds arena.old.limit pools.now arena.old.values arena.old.entries.items arena.new.entries.items None path.now (node_with m d (object_of object.now)) keys.now n) }
+    ensures built { IfOk result (BuildsSort Z.holds arena.old arena.new pools.now path.now (object_of object.now) keys.now nullable) }
 {
     object.fields.reveal_invariant();
     let named = named_fields(alloc, &object.junctors)?;
     let slots = build_fields(arena, alloc, pools, path, &object.fields, keys, &named)?;
-    let ends = ends(alloc, &object.junctors, &named)?;
+    let ends = ends_for(alloc, &object.junctors, &named)?;
     let entry = row_entry(arena, alloc, slots, object.bounds, &ends, nullable)?;
     arena.add(entry)
 }
@@ -98,7 +97,7 @@ fn build_fields<Z: SizeSet>(
     requires limit { IsLimit Z.BITS arena.old.limit }
     requires few { length named.now ≤ most_named }
     ensures kept { IsKept arena.old arena.new }
-    ensures built { IfOk result (λ slots. AreBuilt Z.holds arena.old.limit pools.now arena.old.values arena.old.entries.items arena.new.entries.items path.now fields.now keys.now named.now slots.items) }
+    ensures built { IfOk result (λ slots. BuildsFields Z.holds arena.old arena.new pools.now path.now fields.now keys.now named.now slots.items) }
 {
     let mut slots = Vec::with_capacity(alloc, fields.fields.len())?;
     for field in &fields.fields {
@@ -121,7 +120,7 @@ fn build_field<Z: SizeSet>(
     requires limit { IsLimit Z.BITS arena.old.limit }
     requires few { length named.now ≤ most_named }
     ensures kept { IsKept arena.old arena.new }
-    ensures built { IfOk result (λ s. IsBuilt Z.holds arena.old.limit pools.now arena.old.values arena.old.entries.items arena.new.entries.items (fixed_at (below path.now (field_step field.now.name)) pools.now) (below path.now (field_step field.now.name)) (node_of field.now.node) [] s.node) }
+    ensures built { IfOk result (λ s. Builds Z.holds arena.old arena.new pools.now (fixed_at (below path.now (FieldPath.field field.now.name)) pools.now) (below path.now (FieldPath.field field.now.name)) (node_of field.now.node) [] s.node) }
     ensures slot { IfOk result (λ s. IsFieldSlot pools.now path.now keys.now named.now field.now.name field.now.required (option_map data_of field.now.default) s) }
     ensures bit { IfOk result (λ s. IsClosed (2 ^ length named.now) s.bit) }
 {
@@ -139,7 +138,7 @@ fn build_field<Z: SizeSet>(
         name: SlotName::Field(field.name.copy(alloc)?),
         node,
         must: field.required || field.default.is_some() || pools.is_present(&below),
-        key: is_key(&field.name, keys),
+        key: is_among(field.name.as_str(), keys),
         bit: bit_of(&field.name, named),
     })
 }
@@ -156,8 +155,7 @@ fn build_map<Z: SizeSet>(
 ) -> Result<PlanNode, AllocError>
     requires limit { IsLimit Z.BITS arena.old.limit }
     ensures kept { IsKept arena.old arena.new }
-    ensures built { IfOk result (λ n. (m : Bool) (d : Option (List ℕ)) → takes_null_at pools.now path.now (node_with m d (map_of map.now)) ≡ nullable
-        → IsBuilt Z.holds arena.old.limit pools.now arena.old.values arena.old.entries.items arena.new.entries.items None path.now (node_with m d (map_of map.now)) keys.now n) }
+    ensures built { IfOk result (BuildsSort Z.holds arena.old arena.new pools.now path.now (map_of map.now) keys.now nullable) }
 {
     map.value.reveal_invariant();
     let below = path_below(alloc, path, Step::Value)?;
@@ -188,8 +186,7 @@ fn build_list<Z: SizeSet>(
 ) -> Result<PlanNode, AllocError>
     requires limit { IsLimit Z.BITS arena.old.limit }
     ensures kept { IsKept arena.old arena.new }
-    ensures built { IfOk result (λ n. (m : Bool) (d : Option (List ℕ)) → takes_null_at pools.now path.now (node_with m d (list_of list.now)) ≡ nullable
-        → IsBuilt Z.holds arena.old.limit pools.now arena.old.values arena.old.entries.items arena.new.entries.items None path.now (node_with m d (list_of list.now)) keys.now n) }
+    ensures built { IfOk result (BuildsSort Z.holds arena.old arena.new pools.now path.now (list_of list.now) keys.now nullable) }
 {
     list.item.reveal_invariant();
     let below = path_below(alloc, path, Step::Item)?;
@@ -209,7 +206,7 @@ fn build_list<Z: SizeSet>(
 
 /// The values that the pools fix for the items of a list: none for those of a map list.
 fn fixed_item<'a>(pools: &'a Pools, list: &ListNode, below: &str) -> Option<&'a [Tree]>
-    ensures { option_map (λ ts. trees_of ts.now) result ≡ fixed_item_of pools.now list.now.list_type below.now }
+    ensures { option_map (λ ts. trees_of ts.now) result ≡ Sites.fixed_item pools.now list.now.list_type below.now }
 {
     match list.list_type {
         ListType::Map => None,
@@ -240,8 +237,8 @@ fn build_leaf<Z: SizeSet>(
     requires limit { arena.old.limit < Z.BITS }
     requires leaf { where_fixed (option_map (λ ts. trees_of ts.now) fixed) Leaf (sort_at (node_of node.now)) ≡ Leaf }
     ensures kept { IsKept arena.old arena.new }
-    ensures built { IfOk result (λ n. (keys : List (List ℕ)) → takes_null_at pools.now path.now (node_of node.now) ≡ nullable
-        → IsBuilt Z.holds arena.old.limit pools.now arena.old.values arena.old.entries.items arena.new.entries.items (option_map (λ ts. trees_of ts.now) fixed.entry) path.now (node_of node.now) keys n) }
+    ensures built { IfOk result (λ n. (keys : List (List ℕ)) → RuleOfParts.takes_null pools.now path.now (node_of node.now) ≡ nullable
+        → Builds Z.holds arena.old arena.new pools.now (option_map (λ ts. trees_of ts.now) fixed.entry) path.now (node_of node.now) keys n) }
 {
     let entry = leaf_entry(arena, alloc, pools, fixed, path, node, nullable)?;
     arena.add(entry)
@@ -260,7 +257,7 @@ pub(crate) fn leaf_entry<Z: SizeSet>(
     requires limit { arena.now.limit < Z.BITS }
     requires leaf { where_fixed (option_map (λ ts. trees_of ts.now) fixed) Leaf (sort_at (node_of node.now)) ≡ Leaf }
     ensures { IfOk result (λ e. (sites : List Site) (i : ℕ) (keys : List (List ℕ)) → AreValues pools.now arena.now.values → site_at sites i ≡ record { node = node_of node.now; keys = keys; path = path.now; fixed = option_map (λ ts. trees_of ts.now) fixed.entry }
-        → takes_null_at pools.now path.now (node_of node.now) ≡ nullable → IsRight Z.holds arena.now.limit pools.now arena.now.values sites i e) }
+        → RuleOfParts.takes_null pools.now path.now (node_of node.now) ≡ nullable → IsRightIn Z.holds arena.now pools.now sites i e) }
 {
     let values = &arena.values;
     let leaf = leaf_of(alloc, pools, arena.limit, values, fixed, path, node)?;
@@ -281,9 +278,9 @@ pub(crate) fn node_below(below: &Below) -> &Node
 
 /// A slot for each name of the pools, all of one node.
 fn value_slots(alloc: Global, count: usize, node: PlanNode) -> Result<Vec<SlotEntry>, AllocError>
-    ensures below { IfOk result (λ slots. All (λ (s : SlotDeclared). s.node ≡ node) slots.items) }
-    ensures bits { IfOk result (λ slots. All (λ (s : SlotDeclared). IsClosed 1 s.bit) slots.items) }
-    ensures slots { IfOk result (λ slots. (names : List (List ℕ)) (sites : List Site) (i : ℕ) (P : PoolsData) (path : List ℕ) (M : NodeData) → count ≡ length names → node < i → site_at sites node ≡ plain P (below path value_step) M
+    ensures below { IfOk result (λ slots. All (λ (s : SlotEntry). s.node ≡ node) slots.items) }
+    ensures bits { IfOk result (λ slots. All (λ (s : SlotEntry). IsClosed 1 s.bit) slots.items) }
+    ensures slots { IfOk result (λ slots. (names : List (List ℕ)) (sites : List Site) (i : ℕ) (P : PoolsData) (path : List ℕ) (M : nodes.Node) → count ≡ length names → node < i → site_at sites node ≡ plain P (below path FieldPath.value) M
         → AreSlots names sites i slots.items (map_list (value_slot P path M) names)) }
 {
     let mut slots = Vec::with_capacity(alloc, count)?;
@@ -297,15 +294,4 @@ fn value_slots(alloc: Global, count: usize, node: PlanNode) -> Result<Vec<SlotEn
         })?;
     }
     Ok(slots)
-}
-
-fn is_key(name: &Text, keys: &[Text]) -> bool
-    ensures { result ≡ is_among name.now keys.now }
-{
-    for key in keys {
-        if name == key {
-            return true;
-        }
-    }
-    false
 }

@@ -2,11 +2,12 @@
 ghost use Rattle.std.specs.Prelude.{◌≡◌, ℕ, ◌≤◌, ◌<◌, List, All, length, IfOk};
 ghost use Rattle.schema.specs.Nodes.Node.{IsNode, Validations};
 ghost use Rattle.plan.specs.Pools.Pools.{Pools};
-ghost use Rattle.plan.specs.Samples.Sites.{Site, Slot, slots as slots_of};
+ghost use Rattle.plan.specs.Samples.Sites.{Site, Slot};
+ghost use Rattle.plan.specs.Samples.Sites;
 ghost use Rattle.plan.specs.Samples.Candidates.{sort_of};
 ghost use Rattle.plan.specs.Samples.Sizes.{ending_of};
 ghost use Rattle.plan.specs.Samples.RuleOfParts.{admits_null};
-ghost use Rattle.plan.specs.Internal.Arena.{AreChosen, AreSlots, AreLater, AreRightBelow, IsRight, IsLimit};
+ghost use Rattle.plan.specs.Internal.Arena.{AreChosen, AreSlots, AreLater, AreRightIn, IsRightIn, IsLimit};
 ghost use Rattle.plan.specs.Samples.Sites.{site_at};
 ghost use Rattle.plan.specs.Internal.Tables.{IsClosed, AreMet};
 ghost use Rattle.plan.specs.declared.arena.SlotEntry.{SlotEntry};
@@ -14,14 +15,14 @@ ghost use Rattle.plan.specs.declared.sort.Sort.TheVariants.{Row};
 
 use crate::arena::{Arena, Content, Entry, RowEntry, SlotEntry};
 use crate::list_entries::tuples_from;
-use crate::rows::{Choice, tables};
+use crate::rows::{Choice, row_tables};
 use crate::sizing::whole_sizes;
 use crate::{SizeSet, laws};
 use schema::Bounds;
 use std::alloc::{AllocError, Global};
 
 /// The choices for each slot.
-fn choices<Z: SizeSet>(
+fn choices_for<Z: SizeSet>(
     arena: &Arena<Z>,
     alloc: Global,
     slots: &[SlotEntry],
@@ -48,7 +49,7 @@ fn later_tuples<Z: SizeSet>(
 ) -> Result<Vec<u64>, AllocError>
     requires { 1 ≤ arena.now.limit }
     ensures whole { IfOk result (λ later. length later.items ≡ length slots.now) }
-    ensures later { IfOk result (λ later. (P : Pools) (sites : List Site) (i : ℕ) (ss : List Slot) → AreRightBelow Z.holds arena.now.limit P arena.now.values sites i arena.now.entries.items → i ≤ length arena.now.entries.items
+    ensures later { IfOk result (λ later. (P : Pools) (sites : List Site) (i : ℕ) (ss : List Slot) → AreRightIn Z.holds arena.now P sites i → i ≤ length arena.now.entries.items
         → AreSlots arena.now.values.names.items sites i slots.now ss → AreLater P ss later.items) }
 {
     let count = slots.len();
@@ -76,14 +77,14 @@ pub(crate) fn row_entry<Z: SizeSet>(
     requires some { 0 < length ends.now }
     requires closed { All (λ (s : SlotEntry). IsClosed (length ends.now) s.bit) slots.items }
     requires few { length slots.items < 18446744073709551615 }
-    ensures { IfOk result (λ e. (P : Pools) (sites : List Site) (i : ℕ) (cs : Validations) → AreRightBelow Z.holds arena.now.limit P arena.now.values sites i arena.now.entries.items → i ≤ length arena.now.entries.items
+    ensures { IfOk result (λ e. (P : Pools) (sites : List Site) (i : ℕ) (cs : Validations) → AreRightIn Z.holds arena.now P sites i → i ≤ length arena.now.entries.items
         → IsNode (site_at sites i).node → sort_of (site_at sites i) ≡ Row → ending_of P (site_at sites i) ≡ record { bounds = bounds; asked = cs } → AreMet cs ends.now → admits_null P (site_at sites i) ≡ nullable
-        → AreSlots arena.now.values.names.items sites i slots.items (slots_of P (site_at sites i)) → IsRight Z.holds arena.now.limit P arena.now.values sites i e) }
+        → AreSlots arena.now.values.names.items sites i slots.items (Sites.slots P (site_at sites i)) → IsRightIn Z.holds arena.now P sites i e) }
 {
     laws::parts_one_level();
-    let choices = choices(arena, alloc, &slots)?;
+    let choices = choices_for(arena, alloc, &slots)?;
     let later = later_tuples(arena, alloc, &slots)?;
-    let tables = tables(alloc, &choices, bounds, ends, arena.limit)?;
+    let tables = row_tables(alloc, &choices, bounds, ends, arena.limit)?;
     let sizes = whole_sizes(tables[slots.len()][0][0], nullable, arena.limit);
     Ok(Entry {
         sizes,

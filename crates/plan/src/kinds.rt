@@ -13,9 +13,7 @@ ghost use Rattle.plan.specs.Internal.Values.{trees_of, at_places, AreStored, no_
 
 use crate::leaf::stored_places;
 use jtree::Tree;
-use schema::{
-    Bounds, Branches, Constraints, Names, Node, ScalarKind, ScalarNode, Sort, Validations,
-};
+use schema::{Bounds, Branches, Constraints, Node, ScalarKind, ScalarNode, Sort, Validations};
 use std::alloc::{AllocError, Global};
 
 /// The places, in a list of trees, of the values of each kind.
@@ -79,20 +77,7 @@ fn no_validations(alloc: Global) -> Validations
     ensures { validations_of result ≡ no_validations }
 {
     Validations {
-        constraints: Constraints {
-            choices: None,
-            minimum: None,
-            maximum: None,
-            exclusive_minimum: false,
-            exclusive_maximum: false,
-            lengths: Bounds {
-                least: None,
-                most: None,
-            },
-            required: Names {
-                names: Vec::new(alloc),
-            },
-        },
+        constraints: Constraints::none(alloc),
         all_of: no_branches(alloc),
         any_of: no_branches(alloc),
         one_of: no_branches(alloc),

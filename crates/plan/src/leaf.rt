@@ -13,9 +13,10 @@ ghost use Rattle.plan.specs.Samples.Sites.{Site, plain, where_fixed};
 ghost use Rattle.plan.specs.Samples.Over.{listed_for, listed};
 ghost use Rattle.plan.specs.Samples.Candidates.{sort_at, sort_of, AreCandidates};
 ghost use Rattle.plan.specs.Samples.Sizes.{HasSize, IsUpTo};
-ghost use Rattle.plan.specs.Internal.Values.{trees_of, IsBase, AreValues, base_of, tree_of, at_places, IsStoredWithin, AreStored, AreKinds, choices_at, candidates_of};
+ghost use Rattle.plan.specs.Internal.Values.{trees_of, IsBase, AreValues, base_of, tree_of, at_places};
+ghost use Rattle.plan.specs.Internal.Values.{IsStoredWithin, AreStored, AreKinds, choices_at, candidates_of};
 ghost use Rattle.plan.specs.declared.values.Values.{Values};
-ghost use Rattle.plan.specs.declared.sort.Sort.TheVariants.{Leaf as LeafSort};
+ghost use Rattle.plan.specs.declared.sort.Sort.TheVariants as sort;
 
 use crate::kinds::bare_kind;
 use crate::values::{Values, in_order, with_null};
@@ -51,7 +52,7 @@ pub(crate) fn leaf_of(
     path: &str,
     node: &Node,
 ) -> Result<Leaf, AllocError>
-    ensures { IfOk result (λ l. (s : Site) → AreValues pools.now values.now → s.node ≡ node_of node.now → s.path ≡ path.now → s.fixed ≡ option_map (λ ts. trees_of ts.now) fixed.entry → sort_of s ≡ LeafSort → AreCandidates pools.now limit s (candidates_of values.now l)) }
+    ensures { IfOk result (λ l. (s : Site) → AreValues pools.now values.now → s.node ≡ node_of node.now → s.path ≡ path.now → s.fixed ≡ option_map (λ ts. trees_of ts.now) fixed.entry → sort_of s ≡ sort.Leaf → AreCandidates pools.now limit s (candidates_of values.now l)) }
 {
     laws::parts_one_level();
     let base = base_for(alloc, pools, fixed, path, node)?;
@@ -87,7 +88,7 @@ pub fn candidates(
     path: &str,
     node: &Node,
 ) -> Result<Vec<Tree>, AllocError>
-    ensures { IfOk result (λ vs. sort_at (node_of node.now) ≡ LeafSort → AreCandidates pools.now limit (plain pools.now path.now (node_of node.now)) (map (λ v. data_of v) vs.items)) }
+    ensures { IfOk result (λ vs. sort_at (node_of node.now) ≡ sort.Leaf → AreCandidates pools.now limit (plain pools.now path.now (node_of node.now)) (map (λ v. data_of v) vs.items)) }
 {
     let values = Values::new(alloc, pools)?;
     let fixed = pools.fixed_at(path);
@@ -102,7 +103,7 @@ fn copies(alloc: Global, values: &Values, leaf: &Leaf) -> Result<Vec<Tree>, Allo
     let mut copies = Vec::new(alloc);
     for place in &leaf.places {
         let tree = leaf.base.tree(values, *place);
-        copies.push(tree.copy(alloc).map_err(|_| AllocError)?)?;
+        copies.push(tree.try_clone(alloc)?)?;
     }
     Ok(copies)
 }
@@ -115,7 +116,7 @@ fn base_for(
     path: &str,
     node: &Node,
 ) -> Result<Base, AllocError>
-    ensures { IfOk result (λ b. (v : Values) → AreValues pools.now v → where_fixed (option_map (λ ts. trees_of ts.now) fixed.entry) LeafSort (sort_at (node_of node.now)) ≡ LeafSort
+    ensures { IfOk result (λ b. (v : Values) → AreValues pools.now v → where_fixed (option_map (λ ts. trees_of ts.now) fixed.entry) sort.Leaf (sort_at (node_of node.now)) ≡ sort.Leaf
         → IsBase (choices_at pools.now (option_map (λ ts. trees_of ts.now) fixed.entry) path.now (node_of node.now)) (base_of v b)) }
 {
     match fixed {
@@ -126,7 +127,7 @@ fn base_for(
 
 /// The base with null and what is listed for a scalar or an open node at this path.
 fn base_at(alloc: Global, pools: &Pools, path: &str, node: &Node) -> Result<Base, AllocError>
-    ensures { IfOk result (λ b. (v : Values) → AreValues pools.now v → sort_at (node_of node.now) ≡ LeafSort → IsBase (null ∷ listed pools.now path.now (node_of node.now)) (base_of v b)) }
+    ensures { IfOk result (λ b. (v : Values) → AreValues pools.now v → sort_at (node_of node.now) ≡ sort.Leaf → IsBase (null ∷ listed pools.now path.now (node_of node.now)) (base_of v b)) }
 {
     match pools.list_at(path) {
         Some(list) => Ok(Base::Own(with_null(alloc, list)?)),
@@ -136,7 +137,7 @@ fn base_at(alloc: Global, pools: &Pools, path: &str, node: &Node) -> Result<Base
 
 /// The base with null and what is listed for each scalar or open node like this one.
 fn base_by_node(alloc: Global, node: &Node) -> Result<Base, AllocError>
-    ensures { IfOk result (λ b. (P : PoolsData) (v : Values) → AreValues P v → sort_at (node_of node.now) ≡ LeafSort → IsBase (null ∷ listed_for P (node_of node.now)) (base_of v b)) }
+    ensures { IfOk result (λ b. (P : PoolsData) (v : Values) → AreValues P v → sort_at (node_of node.now) ≡ sort.Leaf → IsBase (null ∷ listed_for P (node_of node.now)) (base_of v b)) }
 {
     match &node.sort {
         Sort::Scalar(scalar) => match &scalar.validations.constraints.choices {

@@ -1,6 +1,7 @@
 //! The entries of lists, over the nodes that were added before.
 ghost use Rattle.std.specs.Prelude.{◌≡◌, ◌<◌, ◌≤◌, ℕ, ◌∷◌, List, Bool, Option, Some, length, IfOk};
-ghost use Rattle.schema.specs.Nodes.Node.{IsNode, node as node_with};
+ghost use Rattle.schema.specs.Nodes.Node.{IsNode};
+ghost use Rattle.schema.specs.Nodes.Node as nodes;
 ghost use Rattle.schema.specs.Nodes.Items.{HasSoundItems};
 ghost use Rattle.schema.specs.Nodes.View.{list_of};
 ghost use Rattle.plan.specs.Pools.Pools.{Pools};
@@ -8,7 +9,7 @@ ghost use Rattle.plan.specs.Samples.Sites.{Site, item_site, slots, Slot};
 ghost use Rattle.plan.specs.Samples.Candidates.{sort_of, distinct_by};
 ghost use Rattle.plan.specs.Samples.Sizes.{bounds_of};
 ghost use Rattle.plan.specs.Samples.RuleOfParts.{admits_null};
-ghost use Rattle.plan.specs.Internal.Arena.{IsSlot, AreRightBelow, IsRight, IsLimit};
+ghost use Rattle.plan.specs.Internal.Arena.{IsSlot, AreRightIn, IsRightIn, IsLimit};
 ghost use Rattle.plan.specs.Samples.Sites.{site_at};
 ghost use Rattle.plan.specs.Samples.Keys.{AreKeySlots, HasTuples};
 ghost use Rattle.plan.specs.Internal.Lists.{IsCutTo, cut};
@@ -32,9 +33,9 @@ pub(crate) fn list_entry<Z: SizeSet>(
 ) -> Result<Entry<Z>, AllocError>
     requires limit { IsLimit Z.BITS arena.now.limit }
     requires item { item < length arena.now.entries.items }
-    ensures { IfOk result (λ e. (P : Pools) (sites : List Site) (i : ℕ) (m : Bool) (d : Option (List ℕ)) → AreRightBelow Z.holds arena.now.limit P arena.now.values sites i arena.now.entries.items → item < i → i ≤ length arena.now.entries.items
-        → (site_at sites i).node ≡ node_with m d (list_of list.now) → admits_null P (site_at sites i) ≡ nullable → bounds_of P (site_at sites i) ≡ bounds → item_site P (site_at sites i) ≡ Some (site_at sites item) → IsNode (site_at sites i).node → HasSoundItems (site_at sites i).node
-        → IsRight Z.holds arena.now.limit P arena.now.values sites i e) }
+    ensures { IfOk result (λ e. (P : Pools) (sites : List Site) (i : ℕ) (m : Bool) (d : Option (List ℕ)) → AreRightIn Z.holds arena.now P sites i → item < i → i ≤ length arena.now.entries.items
+        → (site_at sites i).node ≡ nodes.node m d (list_of list.now) → admits_null P (site_at sites i) ≡ nullable → bounds_of P (site_at sites i) ≡ bounds → item_site P (site_at sites i) ≡ Some (site_at sites item) → IsNode (site_at sites i).node → HasSoundItems (site_at sites i).node
+        → IsRightIn Z.holds arena.now P sites i e) }
 {
     laws::parts_one_level();
     let limit = arena.limit;
@@ -66,7 +67,7 @@ fn distinct(list_type: ListType) -> Distinct
 /// How many tuples the keys of a slot and of those after it have, where those after it have `later`; at most 2^64 - 1.
 pub(crate) fn tuples_from<Z: SizeSet>(arena: &Arena<Z>, slot: &SlotEntry, later: u64) -> u64
     requires { 1 ≤ arena.now.limit }
-    ensures { (P : Pools) (sites : List Site) (i : ℕ) (s : Slot) (ss : List Slot) → AreRightBelow Z.holds arena.now.limit P arena.now.values sites i arena.now.entries.items → i ≤ length arena.now.entries.items
+    ensures { (P : Pools) (sites : List Site) (i : ℕ) (s : Slot) (ss : List Slot) → AreRightIn Z.holds arena.now P sites i → i ≤ length arena.now.entries.items
         → IsSlot arena.now.values.names.items sites i slot.now s → AreKeySlots P (s ∷ ss) → HasTuples P ss later → HasTuples P (s ∷ ss) result }
 {
     if slot.key {
@@ -101,8 +102,8 @@ fn item_bounds<Z: SizeSet>(
     requires item { item < length arena.now.entries.items }
     requires some { 1 ≤ arena.now.limit }
     requires limit { arena.now.limit < 18446744073709551615 }
-    ensures { (P : Pools) (sites : List Site) (i : ℕ) (s : Site) → AreRightBelow Z.holds arena.now.limit P arena.now.values sites i arena.now.entries.items → item < i → i ≤ length arena.now.entries.items
-        → (n : Bool) (d : Option (List ℕ)) → s.node ≡ node_with n d (list_of list.now) → bounds_of P s ≡ bounds → item_site P s ≡ Some (site_at sites item) → IsNode s.node → HasSoundItems s.node
+    ensures { (P : Pools) (sites : List Site) (i : ℕ) (s : Site) → AreRightIn Z.holds arena.now P sites i → item < i → i ≤ length arena.now.entries.items
+        → (n : Bool) (d : Option (List ℕ)) → s.node ≡ nodes.node n d (list_of list.now) → bounds_of P s ≡ bounds → item_site P s ≡ Some (site_at sites item) → IsNode s.node → HasSoundItems s.node
         → IsCutTo P arena.now.limit s (site_at sites item) result }
 {
     laws::parts_one_level();
@@ -118,7 +119,7 @@ fn item_bounds<Z: SizeSet>(
 fn item_tuples<Z: SizeSet>(arena: &Arena<Z>, node: PlanNode) -> u64
     requires node { node < length arena.now.entries.items }
     requires some { 1 ≤ arena.now.limit }
-    ensures { (P : Pools) (sites : List Site) (i : ℕ) → AreRightBelow Z.holds arena.now.limit P arena.now.values sites i arena.now.entries.items → node < i → i ≤ length arena.now.entries.items
+    ensures { (P : Pools) (sites : List Site) (i : ℕ) → AreRightIn Z.holds arena.now P sites i → node < i → i ≤ length arena.now.entries.items
         → sort_of (site_at sites node) ≡ Row → AreKeySlots P (slots P (site_at sites node)) → HasTuples P (slots P (site_at sites node)) result }
 {
     match &arena.entry(node).content {

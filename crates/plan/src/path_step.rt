@@ -1,6 +1,6 @@
 //! A step of the path of a field.
 ghost use Rattle.std.specs.Prelude.{◌≡◌, IfOk, string_bytes};
-ghost use Rattle.plan.specs.Samples.Site.{below as below_of};
+ghost use Rattle.plan.specs.Samples.Site;
 
 use explain::{Step, path_below};
 use jtree::Text;
@@ -22,7 +22,7 @@ impl PathStep {
 
     /// The text of the path of this text extended by the step. `AllocError` where an allocation fails.
     pub fn below(&self, alloc: Global, front: &str) -> Result<String, AllocError>
-        ensures { IfOk result (λ s. string_bytes s ≡ below_of front.now (step_of self.now)) }
+        ensures { IfOk result (λ s. string_bytes s ≡ Site.below front.now (step_of self.now)) }
     {
         match self {
             PathStep::Field(name) => path_below(alloc, front, Step::Field(name.as_str())),

@@ -65,7 +65,9 @@ impl<Z: SizeSet> Model for Plan<Z> {
 }
 
 impl<Z: SizeSet> Plan<Z> {
-    ghost use Rattle.std.specs.Prelude.{◌≡◌, ◌≢◌, ◌≤◌, ◌<◌, ◌⊎◌, ◌↔◌, ℕ, ◌+◌, List, [], false, length, drop, filter, Contains, All, AllPairs, Some, None, IsTrue, IfOk, IfErr, OnOk, IfSome, IfNone, option_map};
+    ghost use Rattle.std.specs.Prelude.{◌≡◌, ◌≢◌, ◌≤◌, ◌<◌, ◌⊎◌, ◌↔◌, ◌+◌, []};
+    ghost use Rattle.std.specs.Prelude.{ℕ, List, false, length, drop, filter, Contains, All, AllPairs, Some, None};
+    ghost use Rattle.std.specs.Prelude.{IsTrue, IfOk, IfErr, OnOk, IfSome, IfNone, option_map};
     ghost use Rattle.std.specs.Option.{option_copied};
     ghost use Rattle.jtree.specs.View.{data_of};
     ghost use Rattle.plan.specs.Samples.Steps.{counted};
@@ -75,7 +77,8 @@ impl<Z: SizeSet> Plan<Z> {
     ghost use Rattle.plan.specs.Samples.NoDeadEnd.{NoDeadEnd, is_key, IsTuple, AreCounts, product, HasFree};
     ghost use Rattle.plan.specs.Samples.Keys.{HasTuples, HasSoundParts};
     ghost use Rattle.plan.specs.Samples.ByPlace.{IsSlotAt, IsCandidateAt};
-    ghost use Rattle.plan.specs.Samples.Sites.{Site, Slot as SiteSlot, sites_of, root_site, item_site, slots as slots_of};
+    ghost use Rattle.plan.specs.Samples.Sites.{Site, sites_of, root_site, item_site};
+    ghost use Rattle.plan.specs.Samples.Sites;
     ghost use Rattle.plan.specs.Samples.Candidates.{sort_of, distinct_of, HasCount, IsCandidate, IsWidth};
     ghost use Rattle.plan.specs.Samples.Sizes.{HasSize, HasRest, HasMore, IsUpTo, ending_of};
     ghost use Rattle.plan.specs.Samples.Presence.{named};
@@ -174,7 +177,7 @@ impl<Z: SizeSet> Plan<Z> {
     pub fn rest(&self, node: PlanNode, place: u64, taken: u32, seen: u8) -> Z
         requires node { node < length (sites_of self.now.pools self.now.root) }
         requires row { sort_of (site_at (sites_of self.now.pools self.now.root) node) ≡ sort.Row }
-        requires place { place ≤ length (slots_of self.now.pools (site_at (sites_of self.now.pools self.now.root) node)) }
+        requires place { place ≤ length (Sites.slots self.now.pools (site_at (sites_of self.now.pools self.now.root) node)) }
         requires taken { taken ≤ place }
         ensures { IsUpTo self.now.limit (Z.holds result) (HasRest self.now.pools (site_at (sites_of self.now.pools self.now.root) node) place (record { count = taken; seen = seen })) }
     {
@@ -241,7 +244,7 @@ impl<Z: SizeSet> Plan<Z> {
     pub fn slot_count(&self, node: PlanNode) -> u64
         requires node { node < length (sites_of self.now.pools self.now.root) }
         requires row { sort_of (site_at (sites_of self.now.pools self.now.root) node) ≡ sort.Row }
-        ensures { result ≡ length (slots_of self.now.pools (site_at (sites_of self.now.pools self.now.root) node)) }
+        ensures { result ≡ length (Sites.slots self.now.pools (site_at (sites_of self.now.pools self.now.root) node)) }
     {
         match &self.arena.entry(node).content {
             Content::Row(row) => row.slots.len() as u64,
@@ -254,7 +257,7 @@ impl<Z: SizeSet> Plan<Z> {
         requires node { node < length (sites_of self.now.pools self.now.root) }
         requires row { sort_of (site_at (sites_of self.now.pools self.now.root) node) ≡ sort.Row }
         ensures names { IsTrue result ↔ (named (ending_of self.now.pools (site_at (sites_of self.now.pools self.now.root) node)).asked ≢ []) }
-        ensures no_bit { result ≡ false → All (λ s. s.bit ≡ None) (slots_of self.now.pools (site_at (sites_of self.now.pools self.now.root) node)) }
+        ensures no_bit { result ≡ false → All (λ s. s.bit ≡ None) (Sites.slots self.now.pools (site_at (sites_of self.now.pools self.now.root) node)) }
     {
         match &self.arena.entry(node).content {
             Content::Row(row) => row.tables[0].len() > 1,
@@ -266,13 +269,13 @@ impl<Z: SizeSet> Plan<Z> {
     pub fn slot(&self, node: PlanNode, place: u64, meter: &mut Meter) -> Option<Slot<'_>>
         requires node { node < length (sites_of self.now.pools self.now.root) }
         requires row { sort_of (site_at (sites_of self.now.pools self.now.root) node) ≡ sort.Row }
-        ensures some { IfSome result (λ t. IsSlotAt (sites_of self.now.pools self.now.root) (slots_of self.now.pools (site_at (sites_of self.now.pools self.now.root) node)) place t) }
+        ensures some { IfSome result (λ t. IsSlotAt (sites_of self.now.pools self.now.root) (Sites.slots self.now.pools (site_at (sites_of self.now.pools self.now.root) node)) place t) }
         ensures below { IfSome result (λ t. t.node < node) }
         ensures bit { IfSome result (λ t. IfSome t.bit (λ j. j < most_named)) }
-        ensures later { IfSome result (λ t. HasTuples self.now.pools (drop (place + 1) (slots_of self.now.pools (site_at (sites_of self.now.pools self.now.root) node))) t.later) }
-        ensures within { IfSome result (λ _. place < length (slots_of self.now.pools (site_at (sites_of self.now.pools self.now.root) node))) }
+        ensures later { IfSome result (λ t. HasTuples self.now.pools (drop (place + 1) (Sites.slots self.now.pools (site_at (sites_of self.now.pools self.now.root) node))) t.later) }
+        ensures within { IfSome result (λ _. place < length (Sites.slots self.now.pools (site_at (sites_of self.now.pools self.now.root) node))) }
         ensures followed { IfSome result (λ _. place < 18446744073709551615) }
-        ensures none { IfNone result (length (slots_of self.now.pools (site_at (sites_of self.now.pools self.now.root) node)) ≤ place) }
+        ensures none { IfNone result (length (Sites.slots self.now.pools (site_at (sites_of self.now.pools self.now.root) node)) ≤ place) }
         ensures step { meter.new ≡ counted meter.old 1 }
     {
         self.sound_parts();
@@ -341,8 +344,8 @@ impl<Z: SizeSet> Plan<Z> {
     pub fn sound_parts(&self)
         ensures parts { (s : Site) → Contains (sites_of self.now.pools self.now.root) s → HasSoundParts self.now.pools s }
         ensures items { (s M : Site) → Contains (sites_of self.now.pools self.now.root) s → item_site self.now.pools s ≡ Some M → Contains (sites_of self.now.pools self.now.root) M }
-        ensures counts { (s : Site) → Contains (sites_of self.now.pools self.now.root) s → (counts : List ℕ) × AreCounts self.now.pools (filter is_key (slots_of self.now.pools s)) counts }
-        ensures free { (P : Pools) (ss : List SiteSlot) (used : List (List Data)) (counts : List ℕ) → All (IsTuple P ss) used → AllPairs (λ t u. t ≢ u) used → AreCounts P ss counts → HasFree P ss used [] ↔ (length used < product counts) }
+        ensures counts { (s : Site) → Contains (sites_of self.now.pools self.now.root) s → (counts : List ℕ) × AreCounts self.now.pools (filter is_key (Sites.slots self.now.pools s)) counts }
+        ensures free { (P : Pools) (ss : List Sites.Slot) (used : List (List Data)) (counts : List ℕ) → All (IsTuple P ss) used → AllPairs (λ t u. t ≢ u) used → AreCounts P ss counts → HasFree P ss used [] ↔ (length used < product counts) }
     {
         laws::plans_are_sound();
         let _ = self.schema.root();

@@ -1,12 +1,14 @@
 //! The form of a pools document, tested member by member in the order of their names.
 ghost use Rattle.std.specs.Prelude.{◌≡◌, ◌∷◌, [], OnOk, IfOk, IfErr, option_map, string_bytes};
-ghost use Rattle.jtree.specs.Path.{name as name_step, index as index_step};
-ghost use Rattle.jtree.specs.Pointer.{pointer as pointer_of};
+ghost use Rattle.jtree.specs.Path;
+ghost use Rattle.jtree.specs.Pointer;
 ghost use Rattle.jtree.specs.View.{data_of};
-ghost use Rattle.plan.specs.Pools.Document.{HasForm, pool_form, entries as entries_of, lists};
+ghost use Rattle.plan.specs.Pools.Document.{HasForm, pool_form, lists};
+ghost use Rattle.plan.specs.Pools.Document;
 ghost use Rattle.plan.specs.Pools.PoolsFault.{IsPoolsFault};
 ghost use Rattle.plan.specs.declared.pool_limits.PoolLimits.{PoolLimits};
-ghost use Rattle.plan.specs.Internal.PoolBreak.{test_of, form_of, other_item, below_name, list_break, pool_break, member_break as member_break_of, members_break as members_break_of, first_break as first_break_of};
+ghost use Rattle.plan.specs.Internal.PoolBreak.{test_of, form_of, other_item, below_name, list_break, pool_break};
+ghost use Rattle.plan.specs.Internal.PoolBreak;
 
 use crate::fault::PFault;
 use jtree::{Items, Members, Tree, push_index, push_name};
@@ -72,7 +74,7 @@ pub(crate) fn check_form(alloc: Global, document: &Tree) -> Result<(), PFault>
 
 /// The pointer of the first place in path order that breaks the form.
 fn first_break(alloc: Global, document: &Tree) -> Result<Option<String>, AllocError>
-    ensures { IfOk result (λ o. option_map string_bytes o ≡ option_map pointer_of (first_break_of (data_of document.now))) }
+    ensures { IfOk result (λ o. option_map string_bytes o ≡ option_map Pointer.pointer (PoolBreak.first_break (data_of document.now))) }
 {
     match document {
         Tree::Object(members) => members_break(alloc, members),
@@ -81,7 +83,7 @@ fn first_break(alloc: Global, document: &Tree) -> Result<Option<String>, AllocEr
 }
 
 fn members_break(alloc: Global, members: &Members) -> Result<Option<String>, AllocError>
-    ensures { IfOk result (λ o. option_map string_bytes o ≡ option_map pointer_of (members_break_of member_break_of members.now)) }
+    ensures { IfOk result (λ o. option_map string_bytes o ≡ option_map Pointer.pointer (PoolBreak.members_break PoolBreak.member_break members.now)) }
 {
     for member in &members.members {
         if let Some(pointer) = member_break(alloc, member.name.as_str(), &member.tree)? {
@@ -92,7 +94,7 @@ fn members_break(alloc: Global, members: &Members) -> Result<Option<String>, All
 }
 
 fn member_break(alloc: Global, name: &str, tree: &Tree) -> Result<Option<String>, AllocError>
-    ensures { IfOk result (λ o. option_map string_bytes o ≡ option_map pointer_of (member_break_of name.now (data_of tree.now))) }
+    ensures { IfOk result (λ o. option_map string_bytes o ≡ option_map Pointer.pointer (PoolBreak.member_break name.now (data_of tree.now))) }
 {
     match PoolForm::of_pool(name) {
         PoolForm::Entries(kind) => entries_break(alloc, name, kind, tree),
@@ -107,7 +109,7 @@ fn entries_break(
     kind: EntryKind,
     tree: &Tree,
 ) -> Result<Option<String>, AllocError>
-    ensures { IfOk result (λ o. option_map string_bytes o ≡ option_map pointer_of (below_name name.now (pool_break (entries_of (test_of kind)) (data_of tree.now)))) }
+    ensures { IfOk result (λ o. option_map string_bytes o ≡ option_map Pointer.pointer (below_name name.now (pool_break (Document.entries (test_of kind)) (data_of tree.now)))) }
 {
     match tree {
         Tree::List(items) => match first_other(kind, items) {
@@ -119,7 +121,7 @@ fn entries_break(
 }
 
 fn lists_break(alloc: Global, name: &str, tree: &Tree) -> Result<Option<String>, AllocError>
-    ensures { IfOk result (λ o. option_map string_bytes o ≡ option_map pointer_of (below_name name.now (pool_break lists (data_of tree.now)))) }
+    ensures { IfOk result (λ o. option_map string_bytes o ≡ option_map Pointer.pointer (below_name name.now (pool_break lists (data_of tree.now)))) }
 {
     match tree {
         Tree::Object(members) => match first_no_list(members) {
@@ -131,7 +133,7 @@ fn lists_break(alloc: Global, name: &str, tree: &Tree) -> Result<Option<String>,
 }
 
 fn name_pointer(alloc: Global, name: &str) -> Result<String, AllocError>
-    ensures { IfOk result (λ s. string_bytes s ≡ pointer_of (name_step name.now ∷ [])) }
+    ensures { IfOk result (λ s. string_bytes s ≡ Pointer.pointer (Path.name name.now ∷ [])) }
 {
     let mut pointer = String::new(alloc);
     push_name(&mut pointer, name).map_err(|_| AllocError)?;
@@ -139,7 +141,7 @@ fn name_pointer(alloc: Global, name: &str) -> Result<String, AllocError>
 }
 
 fn entry_pointer(alloc: Global, name: &str, index: u64) -> Result<String, AllocError>
-    ensures { IfOk result (λ s. string_bytes s ≡ pointer_of (name_step name.now ∷ index_step index ∷ [])) }
+    ensures { IfOk result (λ s. string_bytes s ≡ Pointer.pointer (Path.name name.now ∷ Path.index index ∷ [])) }
 {
     let mut pointer = name_pointer(alloc, name)?;
     push_index(&mut pointer, index).map_err(|_| AllocError)?;
@@ -147,7 +149,7 @@ fn entry_pointer(alloc: Global, name: &str, index: u64) -> Result<String, AllocE
 }
 
 fn member_pointer(alloc: Global, name: &str, key: &str) -> Result<String, AllocError>
-    ensures { IfOk result (λ s. string_bytes s ≡ pointer_of (name_step name.now ∷ name_step key.now ∷ [])) }
+    ensures { IfOk result (λ s. string_bytes s ≡ Pointer.pointer (Path.name name.now ∷ Path.name key.now ∷ [])) }
 {
     let mut pointer = name_pointer(alloc, name)?;
     push_name(&mut pointer, key).map_err(|_| AllocError)?;
@@ -168,7 +170,7 @@ fn first_other(kind: EntryKind, items: &Items) -> Option<usize>
 
 /// The name of the first member that is not a list.
 fn first_no_list(members: &Members) -> Option<&str>
-    ensures { option_map (λ key. name_step key.now ∷ []) result ≡ members_break_of list_break members.now }
+    ensures { option_map (λ key. Path.name key.now ∷ []) result ≡ PoolBreak.members_break list_break members.now }
 {
     for member in &members.members {
         if !matches!(&member.tree, Tree::List(_)) {

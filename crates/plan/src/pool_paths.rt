@@ -1,7 +1,8 @@
 //! The paths of pools, each of which has to lead where the pools can say something.
 ghost use Rattle.std.specs.Prelude.{◌≡◌, ◌↔◌, Contains, IsTrue, OnOk, IfErr, MatchOption, option_map};
 ghost use Rattle.schema.specs.Nodes.View.{node_of};
-ghost use Rattle.plan.specs.Pools.FixedPaths.{is_map_list as is_map_list_at, IsFixablePath};
+ghost use Rattle.plan.specs.Pools.FixedPaths.{IsFixablePath};
+ghost use Rattle.plan.specs.Pools.FixedPaths;
 ghost use Rattle.plan.specs.Pools.PlanFault.{IsLeafPath, IsDeclaredPath, HasName, AreGood, IsFirstBad, HasGoodPaths, IsFirstBadPath};
 ghost use Rattle.plan.specs.Samples.Candidates.{sort_at};
 ghost use Rattle.plan.specs.Internal.PathLists.{IsPathsFault, IsMapListText, LeadsTo, IsBeforeText};
@@ -154,7 +155,7 @@ fn leads_to_map_list(schema: &Schema, text: &str) -> bool
 }
 
 fn is_map_list(node: &Node) -> bool
-    ensures { result ≡ is_map_list_at (node_of node.now) }
+    ensures { result ≡ FixedPaths.is_map_list (node_of node.now) }
 {
     match &node.sort {
         Sort::List(list) => matches!(list.list_type, ListType::Map),

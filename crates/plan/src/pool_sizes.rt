@@ -2,13 +2,15 @@
 ghost use Rattle.std.specs.Prelude.{◌≡◌, ◌≤◌, ◌<◌, None, length, filter, option_map, MatchOption};
 ghost use Rattle.jtree.specs.Data.{AreMembers};
 ghost use Rattle.jtree.specs.Path.{under};
-ghost use Rattle.jtree.specs.View.{data_of, members_of as members_view};
+ghost use Rattle.jtree.specs.View.{data_of};
+ghost use Rattle.jtree.specs.View;
 ghost use Rattle.plan.specs.Pools.Pools.{AreSmall};
 ghost use Rattle.plan.specs.Pools.Document.{pools_of, entries_of, members_of};
 ghost use Rattle.plan.specs.Pools.Oversized.{IsOversized};
 ghost use Rattle.plan.specs.declared.pool_sizes.PoolName.TheVariants.{At, FixedAt};
 ghost use Rattle.plan.specs.Internal.PoolBreak.{test_of};
-ghost use Rattle.plan.specs.Internal.PathLists.{list_count, long_list as long_list_of, IsLongList};
+ghost use Rattle.plan.specs.Internal.PathLists.{list_count, IsLongList};
+ghost use Rattle.plan.specs.Internal.PathLists;
 
 use crate::PoolLimits;
 use crate::pool_form::EntryKind;
@@ -95,8 +97,8 @@ fn count(document: &Tree, name: &str, kind: EntryKind) -> usize
 
 /// The lists of a member of this name, none where it is missing or no object.
 fn lists_of<'a>(document: &'a Tree, name: &str) -> &'a [Member]
-    ensures lists { members_view result.now ≡ members_of (under (data_of document.now) name.now) }
-    ensures ordered { AreMembers (members_view result.now) }
+    ensures lists { View.members_of result.now ≡ members_of (under (data_of document.now) name.now) }
+    ensures ordered { AreMembers (View.members_of result.now) }
 {
     match document.get(name) {
         Some(Tree::Object(lists)) => {
@@ -109,7 +111,7 @@ fn lists_of<'a>(document: &'a Tree, name: &str) -> &'a [Member]
 
 /// The first list under `fixed` that has more than `most` values.
 fn long_fixed(lists: &[Member], most: usize) -> Option<Oversized<'_>>
-    ensures { MatchOption result (long_list_of most (members_view lists.now) ≡ None) (IsLongList FixedAt most (members_view lists.now)) }
+    ensures { MatchOption result (PathLists.long_list most (View.members_of lists.now) ≡ None) (IsLongList FixedAt most (View.members_of lists.now)) }
 {
     let (path, found) = long_list(lists, most)?;
     Some(Oversized {
@@ -121,7 +123,7 @@ fn long_fixed(lists: &[Member], most: usize) -> Option<Oversized<'_>>
 
 /// The first list under `paths` that has more than `most` values.
 fn long_path(lists: &[Member], most: usize) -> Option<Oversized<'_>>
-    ensures { MatchOption result (long_list_of most (members_view lists.now) ≡ None) (IsLongList At most (members_view lists.now)) }
+    ensures { MatchOption result (PathLists.long_list most (View.members_of lists.now) ≡ None) (IsLongList At most (View.members_of lists.now)) }
 {
     let (path, found) = long_list(lists, most)?;
     Some(Oversized {
@@ -133,7 +135,7 @@ fn long_path(lists: &[Member], most: usize) -> Option<Oversized<'_>>
 
 /// The path of the first list that has more than `most` values, and how many it has.
 fn long_list(lists: &[Member], most: usize) -> Option<(&str, usize)>
-    ensures { option_map (λ found. (found.0.now, found.1)) result ≡ long_list_of most (members_view lists.now) }
+    ensures { option_map (λ found. (found.0.now, found.1)) result ≡ PathLists.long_list most (View.members_of lists.now) }
 {
     for member in lists {
         let found = list_len(&member.tree);

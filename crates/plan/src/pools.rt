@@ -6,6 +6,7 @@ use crate::pool_form::check_form;
 use crate::pool_limits::PoolLimits;
 use crate::pool_sizes::oversized_pool;
 use jtree::{Member, Members, Text, Tree};
+use schema::is_among;
 use std::alloc::{AllocError, Global};
 use std::cmp::Ordering;
 use std::marker::Model;
@@ -61,8 +62,10 @@ impl Pools {
     ghost use Rattle.std.specs.Int.{w64};
     ghost use Rattle.jtree.specs.Data.{IsTree, no_members};
     ghost use Rattle.jtree.specs.View.{data_of};
-    ghost use Rattle.plan.specs.Pools.Pools.{standard, AreSmall, list_at as list_of, fixed_at as fixed_of, is_present as is_present_of, with_paths as with_paths_of};
-    ghost use Rattle.plan.specs.Pools.Along.{beginnings, with_lists as with_lists_of, lists_of};
+    ghost use Rattle.plan.specs.Pools.Pools.{standard, AreSmall};
+    ghost use Rattle.plan.specs.Pools.Pools as spec;
+    ghost use Rattle.plan.specs.Pools.Along;
+    ghost use Rattle.plan.specs.Pools.Along.{beginnings, lists_of};
     ghost use Rattle.plan.specs.Pools.PathSteps.{path_of};
     ghost use Rattle.plan.specs.Pools.Document.{HasForm, pools_of};
     ghost use Rattle.plan.specs.Pools.PoolsFault.{IsPoolsFault};
@@ -132,7 +135,7 @@ impl Pools {
         fixed: Members,
         present: Vec<Text>,
     ) -> Result<Pools, AllocError>
-        ensures { IfOk result (λ p. p ≡ with_paths_of self.now fixed present.items) }
+        ensures { IfOk result (λ p. p ≡ spec.with_paths self.now fixed present.items) }
     {
         Ok(Pools {
             integers: integers_from(alloc, self.integers.as_slice())?,
@@ -151,8 +154,8 @@ impl Pools {
         alloc: Global,
         lists: Vec<ListAt>,
     ) -> Result<(Pools, Vec<ListAt>), AllocError>
-        ensures pools { IfOk result (λ r. r.0 ≡ with_paths_of self (with_lists_of (lists_of lists.items) self.fixed) self.present) }
-        ensures back { IfOk result (λ r. with_lists_of (lists_of r.1.items) (with_lists_of (lists_of lists.items) self.fixed) ≡ self.fixed) }
+        ensures pools { IfOk result (λ r. r.0 ≡ spec.with_paths self (Along.with_lists (lists_of lists.items) self.fixed) self.present) }
+        ensures back { IfOk result (λ r. Along.with_lists (lists_of r.1.items) (Along.with_lists (lists_of lists.items) self.fixed) ≡ self.fixed) }
     {
         let Pools {
             integers,
@@ -178,7 +181,7 @@ impl Pools {
 
     /// These pools, which ask for the path of the steps and its beginnings too.
     pub(crate) fn asking(self, alloc: Global, steps: &[PathStep]) -> Result<Pools, AllocError>
-        ensures { IfOk result (λ p. p ≡ with_paths_of self self.fixed (self.present ++ beginnings [] (path_of steps.now))) }
+        ensures { IfOk result (λ p. p ≡ spec.with_paths self self.fixed (self.present ++ beginnings [] (path_of steps.now))) }
     {
         let mut pools = self;
         push_beginnings(alloc, steps, &mut pools.present)?;
@@ -187,7 +190,7 @@ impl Pools {
 
     /// These pools without the last ones of the paths that they ask for.
     pub(crate) fn asking_less(self, count: usize) -> Pools
-        ensures { result ≡ with_paths_of self self.fixed (take (length self.present - count) self.present) }
+        ensures { result ≡ spec.with_paths self self.fixed (take (length self.present - count) self.present) }
     {
         let mut pools = self;
         let left = pools.present.len().saturating_sub(count);
@@ -234,7 +237,7 @@ impl Pools {
 
     /// The trees that are listed for the path of this text; `None` where there is no list for it.
     pub fn list_at(&self, path: &str) -> Option<&[Tree]>
-        ensures { option_map (λ ts. map data_of ts.now) result ≡ list_of path.now self.now }
+        ensures { option_map (λ ts. map data_of ts.now) result ≡ spec.list_at path.now self.now }
     {
         list_under(&self.paths, path)
     }
@@ -255,27 +258,23 @@ impl Pools {
 
     /// All trees that there can be at the path of this text, where the pools fix them; `None` where they do not.
     pub fn fixed_at(&self, path: &str) -> Option<&[Tree]>
-        ensures { option_map (λ ts. map data_of ts.now) result ≡ fixed_of path.now self.now }
+        ensures { option_map (λ ts. map data_of ts.now) result ≡ spec.fixed_at path.now self.now }
     {
         list_under(&self.fixed, path)
     }
 
     /// Whether the path of this text is always there.
     pub fn is_present(&self, path: &str) -> bool
-        ensures { result ≡ is_present_of path.now self.now }
+        ensures { result ≡ spec.is_present path.now self.now }
     {
-        for text in &self.present {
-            if path == text.as_str() {
-                return true;
-            }
-        }
-        false
+        is_among(path, &self.present)
     }
 }
 
 ghost use Rattle.std.specs.Int.{w64};
 ghost use Rattle.std.specs.Prelude.{◌≡◌, ◌++◌, [], All, FitsSigned, IfOk, Some, map, filter_map, option_map, option_and_then};
-ghost use Rattle.jtree.specs.Data.{IsTree, no_members as no_members_of};
+ghost use Rattle.jtree.specs.Data.{IsTree};
+ghost use Rattle.jtree.specs.Data;
 ghost use Rattle.jtree.specs.Order.{text_cmp};
 ghost use Rattle.jtree.specs.Path.{member_at, under};
 ghost use Rattle.jtree.specs.View.{data_of};
@@ -371,7 +370,7 @@ fn trees_of(alloc: Global, entries: &[Tree]) -> Result<Vec<Tree>, AllocError>
 {
     let mut trees = Vec::with_capacity(alloc, entries.len())?;
     for entry in entries {
-        trees.push(entry.copy(alloc).map_err(|_| AllocError)?)?;
+        trees.push(entry.try_clone(alloc)?)?;
     }
     Ok(trees)
 }
@@ -381,7 +380,7 @@ fn members_at(alloc: Global, document: &Tree, name: &str) -> Result<Members, All
     ensures { IfOk result (λ ms. ms ≡ members_of (under (data_of document.now) name.now)) }
 {
     match document.get(name) {
-        Some(lists) => Ok(members_in(alloc, lists.copy(alloc).map_err(|_| AllocError)?)),
+        Some(lists) => Ok(members_in(alloc, lists.try_clone(alloc)?)),
         None => Ok(no_members(alloc)),
     }
 }
@@ -402,7 +401,7 @@ fn members_from(alloc: Global, members: &Members) -> Result<Members, AllocError>
     let mut copies = Vec::with_capacity(alloc, members.members.len())?;
     for member in &members.members {
         let name = member.name.copy(alloc)?;
-        let tree = member.tree.copy(alloc).map_err(|_| AllocError)?;
+        let tree = member.tree.try_clone(alloc)?;
         copies.push(Member { name, tree })?;
     }
     Ok(Members { members: copies })
@@ -425,7 +424,7 @@ fn push_beginnings(
 }
 
 fn no_members(alloc: Global) -> Members
-    ensures { result ≡ no_members_of }
+    ensures { result ≡ Data.no_members }
 {
     Members {
         members: Vec::new(alloc),

@@ -2,8 +2,10 @@
 ghost use Rattle.std.specs.Prelude.{◌≡◌, ℕ, ◌≤◌, ◌<◌, ◌^◌, ◌++◌, Bool, List, length, get_or, IfOk, OnOk, IfSome};
 ghost use Rattle.schema.specs.Nodes.View.{validations_of};
 ghost use Rattle.schema.specs.Nodes.Junctors.{names_in, names_of, most_named};
-ghost use Rattle.stored.specs.Objects.Tests.{has_names, has_all as has_all_of, meets_presence as meets_presence_of};
-ghost use Rattle.plan.specs.Samples.Presence.{named, bit_of as bit_of_name, is_set};
+ghost use Rattle.stored.specs.Objects.Tests.{has_names};
+ghost use Rattle.stored.specs.Objects.Tests;
+ghost use Rattle.plan.specs.Samples.Presence.{named, is_set};
+ghost use Rattle.plan.specs.Samples.Presence;
 ghost use Rattle.plan.specs.Internal.Tables.{is_seen};
 
 use crate::values::put_in_order;
@@ -70,7 +72,7 @@ fn push_branch_names(
 /// The place of a name.
 pub(crate) fn bit_of(name: &Text, names: &[Text]) -> Option<u8>
     requires { length names.now ≤ most_named }
-    ensures bit { result ≡ bit_of_name name.now names.now }
+    ensures bit { result ≡ Presence.bit_of name.now names.now }
     ensures below { IfSome result (λ j. j < length names.now) }
 {
     for place in 0..names.len() {
@@ -82,14 +84,14 @@ pub(crate) fn bit_of(name: &Text, names: &[Text]) -> Option<u8>
 }
 
 /// For each set of the named fields: whether the junctors hold where exactly these are there.
-pub(crate) fn ends(
+pub(crate) fn ends_for(
     alloc: Global,
     junctors: &Validations,
     names: &[Text],
 ) -> Result<Vec<bool>, AllocError>
     requires { length names.now ≤ most_named }
     ensures whole { IfOk result (λ ends. length ends.items ≡ 2 ^ length names.now) }
-    ensures each { IfOk result (λ ends. (seen : ℕ) (b : Bool) → seen < length ends.items → get_or ends.items seen b ≡ meets_presence_of (validations_of junctors.now) (is_seen names.now seen)) }
+    ensures each { IfOk result (λ ends. (seen : ℕ) (b : Bool) → seen < length ends.items → get_or ends.items seen b ≡ Tests.meets_presence (validations_of junctors.now) (is_seen names.now seen)) }
 {
     let mut ends = Vec::new(alloc);
     for seen in 0..1u8 << names.len() {
@@ -118,7 +120,7 @@ impl BranchTest for Seen<'_> {
 /// Whether the junctors hold where exactly these of the named fields are there.
 fn meets_presence(junctors: &Validations, names: &[Text], seen: u8) -> bool
     requires { length names.now ≤ most_named }
-    ensures { result ≡ meets_presence_of (validations_of junctors.now) (is_seen names.now seen) }
+    ensures { result ≡ Tests.meets_presence (validations_of junctors.now) (is_seen names.now seen) }
 {
     meets_junctors(&Seen { names, bits: seen }, junctors)
 }
@@ -126,7 +128,7 @@ fn meets_presence(junctors: &Validations, names: &[Text], seen: u8) -> bool
 /// Whether all these fields are there.
 fn has_all(required: &Names, names: &[Text], seen: u8) -> bool
     requires { length names.now ≤ most_named }
-    ensures { result ≡ has_all_of required.now (is_seen names.now seen) }
+    ensures { result ≡ Tests.has_all required.now (is_seen names.now seen) }
 {
     for name in &required.names {
         if !is_there(name, names, seen) {

@@ -1,16 +1,18 @@
 //! The entries of the nodes along a path, made anew over pools that were changed there.
-ghost use Rattle.std.specs.Prelude.{◌≡◌, ◌≢◌, ◌<◌, ◌≤◌, ◌+◌, ◌^◌, ◌∷◌, ℕ, true, false, Bool, List, None, All, IfOk, IfSome, IfNone, length, is_some, option_map, ◌||◌};
+ghost use Rattle.std.specs.Prelude.{◌≡◌, ◌≢◌, ◌<◌, ◌≤◌, ◌+◌, ◌^◌, ◌∷◌, ◌||◌};
+ghost use Rattle.std.specs.Prelude.{ℕ, true, false, Bool, List, None, All, IfOk, IfSome, IfNone, length, is_some, option_map};
 ghost use Rattle.jtree.specs.View.{data_of};
 ghost use Rattle.schema.specs.Nodes.ByPlace.{field_at};
 ghost use Rattle.schema.specs.Nodes.Junctors.{most_named};
 ghost use Rattle.schema.specs.Nodes.View.{node_of, validations_of};
-ghost use Rattle.explain.specs.Paths.FieldPath.{field as field_step, item as item_step, value as value_step};
+ghost use Rattle.explain.specs.Paths.FieldPath;
 ghost use Rattle.plan.specs.Pools.PathSteps.{path_of};
 ghost use Rattle.plan.specs.Pools.Pools.{fixed_at, is_present};
 ghost use Rattle.plan.specs.Samples.Candidates.{sort_at};
-ghost use Rattle.plan.specs.Internal.Arena.{IsLimit, IsKept, slots_in, with_must as with_must_of};
-ghost use Rattle.plan.specs.Internal.Renewed.{IsRenewed, IsRowRemade, IsFieldAt, AreEndsOf};
-ghost use Rattle.plan.specs.declared.arena.SlotEntry.{SlotEntry as SlotDeclared};
+ghost use Rattle.plan.specs.Internal.Arena.{IsLimit, IsKept, slots_in};
+ghost use Rattle.plan.specs.Internal.Arena as arenas;
+ghost use Rattle.plan.specs.Internal.Renewed.{Renews, Remakes, IsRowRemade, IsFieldAt, AreEndsOf};
+ghost use Rattle.plan.specs.declared.arena.SlotEntry.{SlotEntry};
 ghost use Rattle.plan.specs.declared.sort.Sort.TheVariants.{Leaf};
 
 use crate::arena::{Arena, Content, Entry, PlanNode, RowEntry, SlotEntry};
@@ -18,7 +20,7 @@ use crate::asked::{raised, takes_null};
 use crate::building::{leaf_entry, node_below};
 use crate::entries::row_entry;
 use crate::list_entries::list_entry;
-use crate::presence::{ends, named_fields};
+use crate::presence::{ends_for, named_fields};
 use crate::{PathStep, Pools, SizeSet};
 use explain::{Step, path_below};
 use jtree::Text;
@@ -44,7 +46,7 @@ pub(crate) fn renew<Z: SizeSet>(
 ) -> Result<(), AllocError>
     requires limit { IsLimit Z.BITS arena.old.limit }
     ensures kept { IsKept arena.old arena.new }
-    ensures renewed { IfOk result (λ _. IsRenewed Z.holds arena.old.limit pools.now arena.old.values place.now.path.now (node_of place.now.node.now) place.now.number (path_of steps.now) arena.old.entries.items arena.new.entries.items) }
+    ensures renewed { IfOk result (λ _. Renews Z.holds arena.old arena.new pools.now place.now (path_of steps.now)) }
 {
     explain::laws::paths_have_one_text();
     let list = pools.fixed_at(place.path);
@@ -77,7 +79,7 @@ fn renew_object<Z: SizeSet>(
     requires limit { IsLimit Z.BITS arena.old.limit }
     requires free { fixed_at place.now.path.now pools.now ≡ None }
     ensures kept { IsKept arena.old arena.new }
-    ensures renewed { IfOk result (λ _. IsRenewed Z.holds arena.old.limit pools.now arena.old.values place.now.path.now (node_of place.now.node.now) place.now.number (field_step name.now ∷ path_of rest.now) arena.old.entries.items arena.new.entries.items) }
+    ensures renewed { IfOk result (λ _. Renews Z.holds arena.old arena.new pools.now place.now (FieldPath.field name.now ∷ path_of rest.now)) }
 {
     explain::laws::paths_have_one_text();
     let Sort::Object(object) = &place.node.sort else {
@@ -113,7 +115,7 @@ fn renew_map<Z: SizeSet>(
     requires limit { IsLimit Z.BITS arena.old.limit }
     requires free { fixed_at place.now.path.now pools.now ≡ None }
     ensures kept { IsKept arena.old arena.new }
-    ensures renewed { IfOk result (λ _. IsRenewed Z.holds arena.old.limit pools.now arena.old.values place.now.path.now (node_of place.now.node.now) place.now.number (value_step ∷ path_of rest.now) arena.old.entries.items arena.new.entries.items) }
+    ensures renewed { IfOk result (λ _. Renews Z.holds arena.old arena.new pools.now place.now (FieldPath.value ∷ path_of rest.now)) }
 {
     explain::laws::paths_have_one_text();
     let Sort::Map(map) = &place.node.sort else {
@@ -152,7 +154,7 @@ fn renew_list<Z: SizeSet>(
     requires limit { IsLimit Z.BITS arena.old.limit }
     requires free { fixed_at place.now.path.now pools.now ≡ None }
     ensures kept { IsKept arena.old arena.new }
-    ensures renewed { IfOk result (λ _. IsRenewed Z.holds arena.old.limit pools.now arena.old.values place.now.path.now (node_of place.now.node.now) place.now.number (item_step ∷ path_of rest.now) arena.old.entries.items arena.new.entries.items) }
+    ensures renewed { IfOk result (λ _. Renews Z.holds arena.old arena.new pools.now place.now (FieldPath.item ∷ path_of rest.now)) }
 {
     explain::laws::paths_have_one_text();
     let Sort::List(list) = &place.node.sort else {
@@ -240,7 +242,7 @@ fn remake_object<Z: SizeSet>(
         × IsRowRemade Z.holds arena.old.limit arena.old.values number object.now.bounds names ends place must nullable arena.old.entries.items arena.new.entries.items) }
 {
     let named = named_fields(alloc, &object.junctors)?;
-    let ends = ends(alloc, &object.junctors, &named)?;
+    let ends = ends_for(alloc, &object.junctors, &named)?;
     let rules = RowRules {
         bounds: object.bounds,
         named: &named,
@@ -263,7 +265,7 @@ fn remake_row<Z: SizeSet>(
     requires few { length rules.named.now ≤ most_named }
     requires ends { length rules.ends.now ≡ 2 ^ length rules.named.now }
     ensures kept { IsKept arena.old arena.new }
-    ensures remade { IfOk result (λ _. IsRowRemade Z.holds arena.old.limit arena.old.values number rules.entry.bounds rules.entry.named.now rules.entry.ends.now rules.entry.place rules.entry.must nullable arena.old.entries.items arena.new.entries.items) }
+    ensures remade { IfOk result (λ _. Remakes Z.holds arena.old arena.new number rules.entry nullable) }
 {
     let slots = slots_of(alloc, arena.put(number, blank(alloc)));
     if !are_within(&slots, arena.entries.len(), rules.named.len()) {
@@ -300,9 +302,9 @@ fn slots_of<Z: SizeSet>(alloc: Global, entry: Entry<Z>) -> Vec<SlotEntry>
 
 /// Whether the slots have nodes below this number, and are among so many named fields where they are named.
 fn are_within(slots: &[SlotEntry], nodes: usize, named: usize) -> bool
-    ensures nodes { result ≡ true → All (λ (s : SlotDeclared). s.node < nodes) slots.now }
-    ensures named { result ≡ true → All (λ (s : SlotDeclared). IfSome s.bit (λ j. j < named)) slots.now }
-    ensures all { All (λ (s : SlotDeclared). s.node < nodes) slots.now → All (λ (s : SlotDeclared). IfSome s.bit (λ j. j < named)) slots.now → result ≡ true }
+    ensures nodes { result ≡ true → All (λ (s : SlotEntry). s.node < nodes) slots.now }
+    ensures named { result ≡ true → All (λ (s : SlotEntry). IfSome s.bit (λ j. j < named)) slots.now }
+    ensures all { All (λ (s : SlotEntry). s.node < nodes) slots.now → All (λ (s : SlotEntry). IfSome s.bit (λ j. j < named)) slots.now → result ≡ true }
 {
     for slot in slots {
         if !slot.node.is_below(nodes) || !is_named(slot.bit, named) {
@@ -325,7 +327,7 @@ fn is_named(bit: Option<u8>, named: usize) -> bool
 
 /// The slots, with this one to be filled or not.
 fn with_must(slots: Vec<SlotEntry>, place: usize, must: bool) -> Vec<SlotEntry>
-    ensures { result.items ≡ with_must_of place must slots.items }
+    ensures { result.items ≡ arenas.with_must place must slots.items }
 {
     let mut slots = slots;
     if place < slots.len() {

@@ -1,5 +1,6 @@
 //! The tables of a row: the sizes that its slots can still take, from each of them on.
-ghost use Rattle.std.specs.Prelude.{◌≡◌, ℕ, ◌+◌, ◌-◌, ◌^◌, ◌≤◌, ◌<◌, ◌↔◌, ◌⊎◌, true, false, List, [], ◌∷◌, length, min, All, IfOk, IfSome};
+ghost use Rattle.std.specs.Prelude.{◌≡◌, ◌+◌, ◌-◌, ◌^◌, ◌≤◌, ◌<◌, ◌↔◌, ◌⊎◌, [], ◌∷◌};
+ghost use Rattle.std.specs.Prelude.{ℕ, true, false, List, length, min, All, IfOk, IfSome};
 ghost use Rattle.schema.specs.Nodes.Junctors.{most_named};
 ghost use Rattle.stored.specs.Objects.StoredByParts.{IsWithin};
 ghost use Rattle.plan.specs.Pools.Pools.{Pools};
@@ -7,7 +8,8 @@ ghost use Rattle.plan.specs.Sets.{IsSum};
 ghost use Rattle.plan.specs.Samples.Sites.{Slot};
 ghost use Rattle.plan.specs.Samples.Sizes.{HasSize, Ending, IsUpTo};
 ghost use Rattle.plan.specs.Samples.Presence.{with_bit, meets_seen};
-ghost use Rattle.plan.specs.Internal.Tables.{IsClosed, AreMet, cap as cap_of, columns as columns_of, IsLevel, IsTable, HasShape, AreChoices, AreShaped, AreTables};
+ghost use Rattle.plan.specs.Internal.Tables.{IsClosed, AreMet, IsLevel, IsTable, HasShape, AreChoices, AreShaped, AreTables};
+ghost use Rattle.plan.specs.Internal.Tables;
 ghost use Rattle.plan.specs.declared.rows.Choice.{Choice as ChoiceDeclared};
 
 use crate::SizeSet;
@@ -38,7 +40,7 @@ pub(crate) fn end_sizes<Z: SizeSet>(count: u64, bounds: Bounds) -> Z
 /// The number of members from which on the bounds treat all numbers alike; it saturates. The node limit is no cap: `rest` is answered
 /// for each number of members up to the place.
 fn cap(bounds: Bounds) -> u64
-    ensures { result ≡ min (cap_of bounds) (2 ^ 64 - 1) }
+    ensures { result ≡ min (Tables.cap bounds) (2 ^ 64 - 1) }
 {
     let past = match bounds.most {
         Some(most) => most.saturating_add(1),
@@ -51,7 +53,7 @@ fn cap(bounds: Bounds) -> u64
 /// cap, whose column stands for all greater numbers.
 fn columns(bounds: Bounds, before: usize) -> usize
     requires { before < 18446744073709551615 }
-    ensures { result ≡ columns_of bounds before }
+    ensures { result ≡ Tables.columns bounds before }
 {
     before.min(cap(bounds) as usize) + 1
 }
@@ -91,7 +93,7 @@ fn last_level<Z: SizeSet>(
 ) -> Result<Vec<Z>, AllocError>
     requires limit { limit < Z.BITS }
     requires count { count < 18446744073709551615 }
-    ensures whole { IfOk result (λ level. length level.items ≡ columns_of bounds count) }
+    ensures whole { IfOk result (λ level. length level.items ≡ Tables.columns bounds count) }
     ensures level { IfOk result (λ level. (P : Pools) (e : Ending) (seen : ℕ) → e.bounds ≡ bounds → holds ≡ meets_seen e.asked seen → IsLevel Z.holds limit e P [] seen level.items) }
 {
     let mut level = Vec::with_capacity(alloc, columns(bounds, count))?;
@@ -111,7 +113,7 @@ fn last_table<Z: SizeSet>(
 ) -> Result<Vec<Vec<Z>>, AllocError>
     requires limit { limit < Z.BITS }
     requires count { count < 18446744073709551615 }
-    ensures shape { IfOk result (λ table. HasShape (length ends.now) (columns_of bounds count) table.items) }
+    ensures shape { IfOk result (λ table. HasShape (length ends.now) (Tables.columns bounds count) table.items) }
     ensures table { IfOk result (λ table. (P : Pools) (e : Ending) → e.bounds ≡ bounds → AreMet e.asked ends.now → IsTable Z.holds limit e P [] table.items) }
 {
     let mut table = Vec::with_capacity(alloc, ends.len())?;
@@ -136,9 +138,9 @@ fn slot_level<Z: SizeSet>(
 ) -> Result<Vec<Z>, AllocError>
     requires limit { limit < Z.BITS }
     requires few { before < 18446744073709551615 }
-    requires wide { length without.now ≡ columns_of bounds (before + 1) }
-    requires alike { length with.now ≡ columns_of bounds (before + 1) }
-    ensures whole { IfOk result (λ level. length level.items ≡ columns_of bounds before) }
+    requires wide { length without.now ≡ Tables.columns bounds (before + 1) }
+    requires alike { length with.now ≡ Tables.columns bounds (before + 1) }
+    ensures whole { IfOk result (λ level. length level.items ≡ Tables.columns bounds before) }
     ensures level { IfOk result (λ level. (P : Pools) (s : Slot) (ss : List Slot) (e : Ending) (seen : ℕ) → e.bounds ≡ bounds → IsUpTo limit (Z.holds choice.now.sizes) (HasSize P s.site) → choice.now.must ≡ s.must → IsLevel Z.holds limit e P ss seen without.now
         → IsLevel Z.holds limit e P ss (with_bit s.bit seen) with.now → IsLevel Z.holds limit e P (s ∷ ss) seen level.items) }
 {
@@ -174,8 +176,8 @@ fn slot_table<Z: SizeSet>(
     requires limit { limit < Z.BITS }
     requires few { before < 18446744073709551615 }
     requires closed { IsClosed (length after.now) choice.now.bit }
-    requires shape { HasShape (length after.now) (columns_of bounds (before + 1)) after.now }
-    ensures shape { IfOk result (λ table. HasShape (length after.now) (columns_of bounds before) table.items) }
+    requires shape { HasShape (length after.now) (Tables.columns bounds (before + 1)) after.now }
+    ensures shape { IfOk result (λ table. HasShape (length after.now) (Tables.columns bounds before) table.items) }
     ensures table { IfOk result (λ table. (P : Pools) (s : Slot) (ss : List Slot) (e : Ending) → e.bounds ≡ bounds → IsUpTo limit (Z.holds choice.now.sizes) (HasSize P s.site) → choice.now.must ≡ s.must → choice.now.bit ≡ s.bit → IsTable Z.holds limit e P ss after.now → IsTable Z.holds limit e P (s ∷ ss) table.items) }
 {
     let mut table = Vec::with_capacity(alloc, after.len())?;
@@ -197,7 +199,7 @@ fn slot_table<Z: SizeSet>(
 
 /// The sizes from each place on, the last place first: for each set of the named fields, in a column for each number of members
 /// before it up to the cap of the bounds. `ends` has whether the junctors hold for each such set.
-pub(crate) fn tables<Z: SizeSet>(
+pub(crate) fn row_tables<Z: SizeSet>(
     alloc: Global,
     choices: &[Choice<Z>],
     bounds: Bounds,

@@ -3,7 +3,7 @@ ghost use Rattle.std.specs.Prelude.{◌≡◌, ◌∷◌, ◌++◌, map, IfOk, O
 ghost use Rattle.std.specs.declared.cmp.Ordering.TheVariants.{Equal};
 ghost use Rattle.jtree.specs.Data.{null, integer, text};
 ghost use Rattle.plan.specs.Samples.Over.{scalars_of};
-ghost use Rattle.plan.specs.Samples.Names.{in_order as names_in_order};
+ghost use Rattle.plan.specs.Samples.Names;
 ghost use Rattle.plan.specs.Internal.Values.{trees_of, IsInOrder, IsBase};
 
 use crate::Pools;
@@ -17,7 +17,7 @@ use std::alloc::{AllocError, Global};
 pub(crate) struct Values {
     /// Null, which is the tree of a place past the last one.
     pub null: Tree,
-    /// Null, both truth values, the integers and the texts.
+    /// Null, both booleans, the integers and the strings.
     pub scalars: Vec<Tree>,
     /// The places of each kind among the scalars.
     pub kinds: Kinds,
@@ -48,7 +48,7 @@ impl Values {
     pub(crate) fn new(alloc: Global, pools: &Pools) -> Result<Values, AllocError>
         ensures { IfOk result (λ v. AreValues pools.now v) }
     {
-        let scalars = scalars(alloc, pools)?;
+        let scalars = scalars_of(alloc, pools)?;
         Ok(Values {
             kinds: Kinds::new(alloc, &scalars)?,
             scalars,
@@ -59,8 +59,8 @@ impl Values {
     }
 }
 
-/// Null, both truth values, the integers and the texts, in order, each once.
-fn scalars(alloc: Global, pools: &Pools) -> Result<Vec<Tree>, AllocError>
+/// Null, both booleans, the integers and the strings, in order, each once.
+fn scalars_of(alloc: Global, pools: &Pools) -> Result<Vec<Tree>, AllocError>
     ensures { IfOk result (λ v. IsBase (null ∷ scalars_of pools.now) v.items) }
 {
     let mut trees = vec![in alloc; Tree::Null, Tree::Bool(false), Tree::Bool(true)]?;
@@ -107,7 +107,7 @@ pub(crate) fn in_order(
 {
     let mut copies = first;
     for tree in trees {
-        copies.push(tree.copy(alloc).map_err(|_| AllocError)?)?;
+        copies.push(tree.try_clone(alloc)?)?;
     }
     put_in_order(&mut copies);
     Ok(copies)
@@ -115,7 +115,7 @@ pub(crate) fn in_order(
 
 /// The names in the order of their bytes, each once.
 fn names(alloc: Global, names: &[Text]) -> Result<Vec<Text>, AllocError>
-    ensures { IfOk result (λ v. v.items ≡ names_in_order names.now) }
+    ensures { IfOk result (λ v. v.items ≡ Names.in_order names.now) }
 {
     let mut copies = Vec::new(alloc);
     for name in names {

@@ -106,6 +106,13 @@ pub record IsRight {Z : Type 0} (holds : Z → ℕ → Type 0) (limit : ℕ) (P 
 abbrev pub AreRightBelow : {Z : Type 0} → (Z → ℕ → Type 0) → ℕ → Pools → Values → List Site → ℕ → List (Entry Z) → Type 0
 AreRightBelow {Z} holds limit P v sites n es = (i : ℕ) (e : Entry Z) → i < n → IsRight holds limit P v sites i (get_or es i e)
 
+-- so it is of those of an arena, and of one entry
+abbrev pub AreRightIn : {Z : Type 0} → (Z → ℕ → Type 0) → Arena Z → Pools → List Site → ℕ → Type 0
+AreRightIn holds a P sites n = AreRightBelow holds a.limit P a.values sites n a.entries.items
+
+abbrev pub IsRightIn : {Z : Type 0} → (Z → ℕ → Type 0) → Arena Z → Pools → List Site → ℕ → Entry Z → Type 0
+IsRightIn holds a P sites i e = IsRight holds a.limit P a.values sites i e
+
 -- and so do all
 abbrev pub AreRight : {Z : Type 0} → (Z → ℕ → Type 0) → ℕ → Pools → Values → List Site → List (Entry Z) → Type 0
 AreRight holds limit P v sites es = AreRightBelow holds limit P v sites (length es) es

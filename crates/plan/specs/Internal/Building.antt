@@ -1,5 +1,5 @@
 -- What is added to a plan for a node: entries for its sites, each after those below it.
-use Rattle.std.specs.Prelude.{◌≡◌, ℕ, ◌+◌, ◌^◌, ◌≤◌, ◌<◌, List, length, Bool, Option, All, ◌||◌, is_some}
+use Rattle.std.specs.Prelude.{◌≡◌, ℕ, ◌+◌, ◌^◌, ◌≤◌, ◌<◌, List, length, Bool, Option, None, All, ◌||◌, is_some}
 use Rattle.jtree.specs.Data.{Data}
 use Rattle.schema.specs.Document.Texts.{is_among}
 use Rattle.schema.specs.Nodes.Node.{Node, node, Sort, object, map, list, Fields, no_fields, field}
@@ -8,12 +8,14 @@ use Rattle.schema.specs.Nodes.Junctors.{HasSoundJunctors}
 use Rattle.plan.specs.Pools.Pools.{Pools, is_present}
 use Rattle.explain.specs.Paths.FieldPath as step
 use Rattle.plan.specs.Samples.Presence.{bit_of}
+use Rattle.plan.specs.Samples.RuleOfParts.{takes_null}
 use Rattle.plan.specs.Samples.Sites.{Site, below, sites_from, sites_of_fields, field_slots}
 use Rattle.plan.specs.Internal.Tables.{IsClosed}
 use Rattle.plan.specs.Internal.Values.{AreValues}
 use Rattle.plan.specs.Internal.Arena.{AreSitesFrom, AreRight, AreSlots, name_of}
 use Rattle.plan.specs.declared.values.Values.{Values}
 use Rattle.plan.specs.declared.arena.Entry.{Entry}
+use Rattle.plan.specs.declared.arena.Arena.{Arena}
 use Rattle.plan.specs.declared.arena.SlotEntry.{SlotEntry}
 
 -- the items of each list can be distinguished where that is required, and the junctors of each object name few fields
@@ -38,6 +40,15 @@ pub record IsBuilt {Z : Type 0} (holds : Z → ℕ → Type 0) (limit : ℕ) (P 
   pub right : (sites : List Site) → AreValues P v → IsSound N → AreSitesFrom sites (length old) (sites_from P fixed path N keys)
       → AreRight holds limit P v sites old → AreRight holds limit P v sites new
 
+-- so it is of what is added to an arena
+abbrev pub Builds : {Z : Type 0} → (Z → ℕ → Type 0) → Arena Z → Arena Z → Pools → Option (List Data) → List ℕ → Node → List (List ℕ) → ℕ → Type 0
+Builds holds old new P fixed path N keys n = IsBuilt holds old.limit P old.values old.entries.items new.entries.items fixed path N keys n
+
+-- of a node of this sort, whose values are not fixed, and which takes null or does not
+abbrev pub BuildsSort : {Z : Type 0} → (Z → ℕ → Type 0) → Arena Z → Arena Z → Pools → List ℕ → Sort → List (List ℕ) → Bool → ℕ → Type 0
+BuildsSort holds old new P path sort keys nullable n =
+    (m : Bool) (d : Option (List ℕ)) → takes_null P path (node m d sort) ≡ nullable → Builds holds old new P None path (node m d sort) keys n
+
 -- the slot of a field
 pub record IsFieldSlot (P : Pools) (path : List ℕ) (keys named : List (List ℕ)) (name : List ℕ) (required : Bool) (default : Option Data) (s : SlotEntry) : Type 0 where
   pub name_is : (names : List (List ℕ)) → name_of names s.name ≡ name
@@ -53,3 +64,6 @@ pub record AreBuilt {Z : Type 0} (holds : Z → ℕ → Type 0) (limit : ℕ) (P
   pub right : (sites : List Site) → AreValues P v → AreFieldsSound fs → AreSitesFrom sites (length old) (sites_of_fields P path fs)
       → AreRight holds limit P v sites old → AreRight holds limit P v sites new
   pub slots_are : (names : List (List ℕ)) (sites : List Site) (i : ℕ) → AreSitesFrom sites (length old) (sites_of_fields P path fs) → length new ≤ i → AreSlots names sites i slots (field_slots P path keys named fs)
+
+abbrev pub BuildsFields : {Z : Type 0} → (Z → ℕ → Type 0) → Arena Z → Arena Z → Pools → List ℕ → Fields → List (List ℕ) → List (List ℕ) → List SlotEntry → Type 0
+BuildsFields holds old new P path fs keys named slots = AreBuilt holds old.limit P old.values old.entries.items new.entries.items path fs keys named slots

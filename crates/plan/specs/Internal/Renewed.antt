@@ -3,6 +3,7 @@ use Rattle.std.specs.Prelude.{◌≡◌, ◌++◌, ◌+◌, ◌<◌, ◌≤◌, 
 use Rattle.jtree.specs.Data.{Data}
 use Rattle.schema.specs.Nodes.Node.{Node, IsNode, Validations, Fields, no_fields, field}
 use Rattle.schema.specs.Nodes.ByPlace.{node_at}
+use Rattle.schema.specs.Nodes.View.{node_of}
 use Rattle.schema.specs.declared.node.Bounds.{Bounds}
 use Rattle.explain.specs.Paths.FieldPath.{FieldPath, place_of}
 use Rattle.explain.specs.Paths.PathText.{path_text}
@@ -20,6 +21,9 @@ use Rattle.schema.specs.Nodes.Junctors.{most_named}
 use Rattle.plan.specs.declared.values.Values.{Values}
 use Rattle.plan.specs.declared.arena.SlotEntry.{SlotEntry}
 use Rattle.plan.specs.declared.arena.Entry.{Entry}
+use Rattle.plan.specs.declared.arena.Arena.{Arena}
+use Rattle.plan.specs.declared.renewing.Place.{Place}
+use Rattle.plan.specs.declared.renewing.RowRules.{RowRules}
 use Rattle.plan.specs.declared.sort.Sort.TheVariants.{Row}
 
 -- the node of this number is on the way, with these steps left
@@ -44,6 +48,10 @@ pub record IsRenewed {Z : Type 0} (holds : Z → ℕ → Type 0) (limit : ℕ) (
   pub right : (root : Node) (P : Pools) (p : FieldPath) (sites others : List Site) → IsWay root P Q p sites others → IsOnWay p sites n path N steps → length old ≡ length sites → AreValues Q v
       → AreRight holds limit P v sites old → AreRenewedTo holds limit Q v others n old new
 
+-- so it is of the entries of an arena, from a place on
+abbrev pub Renews : {Z : Type 0} → (Z → ℕ → Type 0) → Arena Z → Arena Z → Pools → Place → FieldPath → Type 0
+Renews holds old new Q place steps = IsRenewed holds old.limit Q old.values place.path.now (node_of place.node.now) place.number steps old.entries.items new.entries.items
+
 -- the entry of a row is made anew, with the slot at this place to be filled or not
 pub record IsRowRemade {Z : Type 0} (holds : Z → ℕ → Type 0) (limit : ℕ) (v : Values) (n : ℕ) (bounds : Bounds) (named : List (List ℕ)) (ends : List Bool) (place : ℕ) (must nullable : Bool) (old new : List (Entry Z)) : Type 0 where
   pub count : length new ≡ length old
@@ -52,6 +60,10 @@ pub record IsRowRemade {Z : Type 0} (holds : Z → ℕ → Type 0) (limit : ℕ)
       → ending_of Q (site_at sites n) ≡ record { bounds = bounds; asked = cs } → AreMet cs ends → admits_null Q (site_at sites n) ≡ nullable
       → All (λ (s : SlotEntry). s.node < n) (slots_in (get_or old n e).content) → All (λ (s : SlotEntry). IfSome s.bit (λ j. j < length named)) (slots_in (get_or old n e).content)
       → AreSlots v.names.items sites n (with_must place must (slots_in (get_or old n e).content)) (slots Q (site_at sites n)) → IsRight holds limit Q v sites n (get_or new n f)
+
+-- so it is of the entry of a row in an arena
+abbrev pub Remakes : {Z : Type 0} → (Z → ℕ → Type 0) → Arena Z → Arena Z → ℕ → RowRules → Bool → Type 0
+Remakes holds old new n r nullable = IsRowRemade holds old.limit old.values n r.bounds r.named.now r.ends.now r.place r.must nullable old.entries.items new.entries.items
 
 -- the field of this name is at this place
 abbrev pub IsFieldAt : ℕ → List ℕ → Node → Bool → Option Data → Fields → Type 0

@@ -1,9 +1,8 @@
 -- Pools that are changed along a path: they ask for the path and each beginning of it or no longer do, and have other lists of fixed
 -- values there (this project's own).
-use Rattle.std.specs.Prelude.{◌≡◌, ◌⊎◌, ◌++◌, ◌-◌, ℕ, List, [], ◌∷◌, length, take, map, option_map, false, Option, Some, None, is_some}
-use Rattle.std.specs.Ordering.{match_ordering}
-use Rattle.jtree.specs.Data.{Data, Members, no_members, member}
-use Rattle.jtree.specs.Order.{text_cmp}
+use Rattle.std.specs.Prelude.{◌≡◌, ◌⊎◌, ◌++◌, ◌-◌, ℕ, List, [], ◌∷◌, length, take, map, option_map, false, Option, Some, is_some}
+use Rattle.jtree.specs.Data.{Data, Members}
+use Rattle.jtree.specs.MemberPlace.{changed_at}
 use Rattle.jtree.specs.View.{data_of}
 use Rattle.schema.specs.Document.Texts.{is_among}
 use Rattle.schema.specs.Nodes.Node.{Node}
@@ -21,17 +20,10 @@ abbrev pub beginnings : List ℕ → FieldPath → List (List ℕ)
 beginnings front [] = []
 beginnings front (s ∷ p) = below front s ∷ beginnings (below front s) p
 
--- members with this one, in the order of their names, in place of the one of its name; or without the one of this name
-abbrev pub with_list : List ℕ → Option Data → Members → Members
-with_list k None no_members = no_members
-with_list k (Some d) no_members = member k d no_members
-with_list k None (member l e ms) = match_ordering (text_cmp k l) (member l e ms) ms (member l e (with_list k None ms))
-with_list k (Some d) (member l e ms) = match_ordering (text_cmp k l) (member k d (member l e ms)) (member k d ms) (member l e (with_list k (Some d) ms))
-
--- one after the other, the last one first
+-- members that are put in or taken off one after the other, the last one first
 abbrev pub with_lists : List (List ℕ × Option Data) → Members → Members
 with_lists [] ms = ms
-with_lists (x ∷ xs) ms = with_list x.0 x.1 (with_lists xs ms)
+with_lists (x ∷ xs) ms = changed_at x.0 x.1 (with_lists xs ms)
 
 -- with these lists, and the path and its beginnings asked for
 abbrev pub narrowed : Pools → List (List ℕ × Option Data) → FieldPath → Pools

@@ -17,7 +17,7 @@ use Rattle.plan.specs.Samples.Site.{below, fixed_below}
 
 -- ---- what is listed
 
--- both truth values, the integers and the texts; which of them are of the node's kind is a matter of validity
+-- both booleans, the integers and the strings; which of them are of the node's kind is a matter of validity
 abbrev pub scalars_of : Pools → List Data
 scalars_of P = tree.boolean false ∷ tree.boolean true ∷ map (λ z. tree.integer z) P.integers ++ map (λ t. tree.text t) P.strings
 

@@ -73,7 +73,7 @@ build_list-returns-clause-built g t c =
     c.in_ok-item.item c.args.nullable n c.in_ok-entry.entry takes bounds c.reveal_invariant.ensures b number count added right)
 
 pub build_field-returns-clause-slot : goal.build_field-returns-clause-slot
-build_field-returns-clause-slot g t c = record { name_is = λ names. c.in_ok-copy.ensures; must = search rules; key = c.is_key.ensures; bit = c.bit_of.ensures.bit }
+build_field-returns-clause-slot g t c = record { name_is = λ names. c.in_ok-copy.ensures; must = search rules; key = search rules; bit = c.bit_of.ensures.bit }
 
 pub build_fields-loop-field-init : goal.build_fields-loop-field-init
 build_fields-loop-field-init g t c =

@@ -7,8 +7,8 @@ use Rattle.plan.proofs.EntryLemmas.{chosen_count, chosen_choices, chosen_closed,
 use Rattle.plan.proofs.RowLemmas.{shape_at, width_at}
 use Rattle.plan.proofs.entries.row_entry.Goals as goal
 
-pub tables-requires-clause-closed : goal.tables-requires-clause-closed
-tables-requires-clause-closed g c =
+pub row_tables-requires-clause-closed : goal.row_tables-requires-clause-closed
+row_tables-requires-clause-closed g c =
     let slots = c.args.slots.items in
     let chosen = rw c.deref.ensures.value at c.in_ok-choices.ensures in
     rw c.deref-3.ensures.value (chosen_closed c.args.arena.now.entries.items c.in_ok-choices.choices.items slots (length c.args.ends.now) chosen c.requires.closed)

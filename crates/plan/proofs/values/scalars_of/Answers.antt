@@ -1,6 +1,6 @@
 use Rattle.std.proofs.Common.{refl}
 use Rattle.plan.proofs.ValueLemmas.{base_from}
-use Rattle.plan.proofs.values.scalars.Goals as goal
+use Rattle.plan.proofs.values.scalars_of.Goals as goal
 
 pub returns : goal.returns
 returns c = base_from _ _ _

@@ -4,7 +4,7 @@ use Rattle.schema.specs.Nodes.View.{validations_of}
 use Rattle.stored.specs.Objects.Tests.{meets_presence}
 use Rattle.plan.specs.Internal.Tables.{is_seen}
 use Rattle.plan.proofs.SizeLemmas.{each_push}
-use Rattle.plan.proofs.presence.ends.Goals as goal
+use Rattle.plan.proofs.presence.ends_for.Goals as goal
 
 pub loop-seen-preserved : goal.loop-seen-preserved
 loop-seen-preserved c =

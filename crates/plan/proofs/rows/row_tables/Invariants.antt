@@ -3,7 +3,7 @@ use Rattle.plan.specs.Pools.Pools.{Pools}
 use Rattle.plan.specs.Samples.Sites.{Slot}
 use Rattle.plan.specs.Samples.Sizes.{Ending}
 use Rattle.plan.specs.Internal.Tables.{AreMet, AreChoices, AreShaped, AreTables}
-use Rattle.plan.proofs.rows.tables.Given as goal
+use Rattle.plan.proofs.rows.row_tables.Given as goal
 
 abbrev pub invariant-loop-done : goal.invariant-loop-done
 invariant-loop-done g l = record {

@@ -2,7 +2,7 @@ use Rattle.std.proofs.Common.{◌≡◌, ◌<◌, ℕ, Bool, length, get_or}
 use Rattle.schema.specs.Nodes.View.{validations_of}
 use Rattle.stored.specs.Objects.Tests.{meets_presence}
 use Rattle.plan.specs.Internal.Tables.{is_seen}
-use Rattle.plan.proofs.presence.ends.Given as goal
+use Rattle.plan.proofs.presence.ends_for.Given as goal
 
 abbrev pub invariant-loop-seen : goal.invariant-loop-seen
 invariant-loop-seen l = record {

@@ -1,7 +1,7 @@
 use Rattle.std.proofs.Common.{take, refl}
 use Rattle.std.proofs.lemmas.List.{take_more}
 use Rattle.plan.proofs.EntryLemmas.{chosen_push}
-use Rattle.plan.proofs.entries.choices.Goals as goal
+use Rattle.plan.proofs.entries.choices_for.Goals as goal
 
 pub loop-slot-preserved : goal.loop-slot-preserved
 loop-slot-preserved g c =

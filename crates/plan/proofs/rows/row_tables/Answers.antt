@@ -2,7 +2,7 @@ use Rattle.std.proofs.Common.{◌≡◌, ◌+◌, ◌-◌, ◌∙◌, ap, length
 use Rattle.std.proofs.lemmas.List.{length_push}
 use Rattle.plan.specs.Internal.Tables.{columns, HasShape}
 use Rattle.plan.proofs.RowLemmas.{shape_at, shaped_more, shaped_first, tables_first, tables_next}
-use Rattle.plan.proofs.rows.tables.Goals as goal
+use Rattle.plan.proofs.rows.row_tables.Goals as goal
 
 pub loop-done-init : goal.loop-done-init
 loop-done-init g c =
