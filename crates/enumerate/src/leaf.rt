@@ -1,5 +1,6 @@
 //! Leaves: their first candidate, the next one, and whether a tree is one.
-ghost use Rattle.std.specs.Prelude.{◌∷◌, [], ◌≡◌, ◌+◌, ◌≤◌, ◌<◌, List, IfOk, false, OnOk, Some, ◌↔◌, IsTrue, ◌⊎◌, true, None};
+ghost use Rattle.std.specs.Prelude.{◌∷◌, [], ◌≡◌, ◌+◌, ◌≤◌, ◌<◌, ◌↔◌, ◌⊎◌};
+ghost use Rattle.std.specs.Prelude.{List, IfOk, false, OnOk, Some, IsTrue, true, None};
 ghost use Rattle.jtree.specs.Data.{Data};
 ghost use Rattle.jtree.specs.Nodes.{node_count};
 ghost use Rattle.jtree.specs.Order.{tree_cmp};
@@ -10,9 +11,8 @@ ghost use Rattle.enumerate.specs.Page.{IsPast};
 ghost use Rattle.enumerate.specs.View.{resume_point, trees_of};
 ghost use Rattle.enumerate.specs.Internal.Answers.{FindsFirst, FindsNext};
 ghost use Rattle.enumerate.specs.Internal.Candidates.{used_rows, stack_of, IsFree, IsUnusedPart, IsFreeKey, IsChoice};
-ghost use Rattle.enumerate.specs.Internal.Following.{Continue, AreChoices, ContinueNext};
-ghost use Rattle.enumerate.specs.Internal.Moves.{IsNextTree};
-ghost use Rattle.enumerate.specs.Internal.Nodes.{IsNodeOfSort, site, IsPartOf, IsCandidateOf, Costs};
+ghost use Rattle.enumerate.specs.Internal.Following.{Continue, AreChoices};
+ghost use Rattle.enumerate.specs.Internal.Nodes.{IsNodeOfSort, IsNodeWithin, site, IsPartOf, IsCandidateOf, Costs};
 ghost use Rattle.plan.specs.declared.sort.Sort.TheVariants as sort;
 
 use crate::siblings::{KeyRows, Rows, Used, is_free};
@@ -159,8 +159,7 @@ impl<'p, Z: SizeSet> Walk<'p, Z> {
         scratch: &mut Scratch<'p>,
         meter: &mut Meter,
     ) -> Result<NextTree, AllocError>
-        requires node { IsNodeOfSort self.now.plan.now node sort.Leaf }
-        requires limit { node_count (data_of tree) ≤ self.now.plan.now.limit }
+        requires { IsNodeWithin self.now.plan.now node sort.Leaf (node_count (data_of tree)) }
         ensures { FindsNext result (IsUnusedPart self.now.plan.now node (node_count (data_of tree)) (trees_of items.now)) (data_of tree) scratch.new.following.items (Costs self.now.plan.now meter.old meter.new 1) }
     {
         self.next_free(node, tree, &Used::Items(items), scratch, meter)
@@ -175,8 +174,7 @@ impl<'p, Z: SizeSet> Walk<'p, Z> {
         scratch: &mut Scratch<'p>,
         meter: &mut Meter,
     ) -> Result<NextTree, AllocError>
-        requires node { IsNodeOfSort self.now.plan.now slot.now.node sort.Leaf }
-        requires limit { node_count (data_of tree) ≤ self.now.plan.now.limit }
+        requires { IsNodeWithin self.now.plan.now slot.now.node sort.Leaf (node_count (data_of tree)) }
         ensures { FindsNext result (IsFreeKey self.now.plan.now slot.now.node (node_count (data_of tree)) slot.now.name.now (used_rows used.now) slot.now.later) (data_of tree) scratch.new.following.items (Costs self.now.plan.now meter.old meter.new 1) }
     {
         let used_key = Used::Key(KeyRows {
@@ -197,11 +195,8 @@ impl<'p, Z: SizeSet> Walk<'p, Z> {
         scratch: &mut Scratch<'p>,
         meter: &mut Meter,
     ) -> Result<NextTree, AllocError>
-        requires node { IsNodeOfSort self.now.plan.now node sort.Leaf }
-        requires limit { node_count (data_of tree) ≤ self.now.plan.now.limit }
-        ensures ok { IfOk result (λ next. IsNextTree (λ v. IsPartOf self.now.plan.now node (node_count (data_of tree)) v × IsFree used.now v) (data_of tree) next) }
-        ensures following { IfOk result (λ next. ContinueNext (λ v. IsPartOf self.now.plan.now node (node_count (data_of tree)) v × IsFree used.now v) next (stack_of scratch.new.following.items)) }
-        ensures steps { Costs self.now.plan.now meter.old meter.new 1 }
+        requires { IsNodeWithin self.now.plan.now node sort.Leaf (node_count (data_of tree)) }
+        ensures { FindsNext result (λ v. IsPartOf self.now.plan.now node (node_count (data_of tree)) v × IsFree used.now v) (data_of tree) scratch.new.following.items (Costs self.now.plan.now meter.old meter.new 1) }
     {
         self.reveal_limit();
         let size = tree.nodes() as u32;
@@ -226,8 +221,7 @@ impl<'p, Z: SizeSet> Walk<'p, Z> {
         scratch: &mut Scratch<'p>,
         meter: &mut Meter,
     ) -> Result<(), AllocError>
-        requires node { IsNodeOfSort self.now.plan.now node sort.Leaf }
-        requires limit { size ≤ self.now.plan.now.limit }
+        requires { IsNodeWithin self.now.plan.now node sort.Leaf size }
         ensures ok { OnOk result (AreChoices (IsChoice self.now.plan.now node size (resume_point after.entry) used.now) (stack_of scratch.new.following.items)) }
         ensures steps { Costs self.now.plan.now meter.old meter.new 1 }
     {
@@ -262,8 +256,7 @@ impl<'p, Z: SizeSet> Walk<'p, Z> {
         scratch: &mut Scratch<'p>,
         meter: &mut Meter,
     ) -> Result<(), AllocError>
-        requires node { IsNodeOfSort self.now.plan.now node sort.Leaf }
-        requires limit { size ≤ self.now.plan.now.limit }
+        requires { IsNodeWithin self.now.plan.now node sort.Leaf size }
         ensures ok { OnOk result (AreChoices (IsChoice self.now.plan.now node size (resume_point after.entry) used.now) (stack_of scratch.new.following.items)) }
         ensures steps { Costs self.now.plan.now meter.old meter.new 1 }
     {
@@ -297,8 +290,7 @@ impl<'p, Z: SizeSet> Walk<'p, Z> {
 
     /// Whether the tree is a candidate of the leaf. It looks at each candidate at most once.
     pub(crate) fn is_candidate(&self, node: PlanNode, tree: &Tree, meter: &mut Meter) -> bool
-        requires node { IsNodeOfSort self.now.plan.now node sort.Leaf }
-        requires limit { node_count (data_of tree.now) ≤ self.now.plan.now.limit }
+        requires { IsNodeWithin self.now.plan.now node sort.Leaf (node_count (data_of tree.now)) }
         ensures is { IsTrue result ↔ IsPart self.now.plan.now.pools (site self.now.plan.now node) (data_of tree.now) }
         ensures steps { Costs self.now.plan.now meter.old meter.new 1 }
     {

@@ -13,7 +13,6 @@
 //! The cost of a sample does not grow with how many come before it: its steps are bounded by the limit and the width of the plan.
 #![tactic(auto)]
 
-mod copying;
 mod current;
 mod fault;
 pub mod laws;

@@ -1,6 +1,7 @@
 //! Lists: the first one, the next one, and whether a tree is one.
-ghost use Rattle.std.specs.Prelude.{◌++◌, ◌∷◌, [], ◌≡◌, ◌+◌, ◌≤◌, ◌<◌, ℕ, length, false, Some, IfSome, ◌≢◌, IfNone, MatchOption};
-ghost use Rattle.jtree.specs.Data.{null as null_data, list as list_data, Items as ItemsData};
+ghost use Rattle.std.specs.Prelude.{◌++◌, ◌∷◌, [], ◌≡◌, ◌+◌, ◌≤◌, ◌<◌, ◌≢◌};
+ghost use Rattle.std.specs.Prelude.{ℕ, length, false, Some, IfSome, IfNone, MatchOption};
+ghost use Rattle.jtree.specs.Data as Trees;
 ghost use Rattle.jtree.specs.Nodes.{node_count, items_count};
 ghost use Rattle.jtree.specs.View.{data_of, items_of};
 ghost use Rattle.plan.specs.Samples.Part.{IsPart};
@@ -13,12 +14,12 @@ ghost use Rattle.enumerate.specs.Internal.Candidates.{stack_of};
 ghost use Rattle.enumerate.specs.Internal.Following.{IsBegun};
 ghost use Rattle.enumerate.specs.Internal.Lists.{CanGrow, AreFirst, IsUnusedItem, FitsItem, IsListNode};
 ghost use Rattle.enumerate.specs.Internal.Membership.{IsListOf};
-ghost use Rattle.enumerate.specs.Internal.Nodes.{IsNodeOfSort, site, IsPartOf, Costs, HasSizeAt};
+ghost use Rattle.enumerate.specs.Internal.Nodes.{IsNodeOfSort, IsNodeWithin, site, IsPartOf, Costs, HasSizeAt};
 ghost use Rattle.enumerate.specs.Internal.Steps.{CostsTree};
 ghost use Rattle.plan.specs.declared.sort.Sort.TheVariants as sort;
 
 use crate::siblings::Rows;
-use crate::sizes::{below, least_split};
+use crate::sizes::{least_split, levels_down};
 use crate::walk::{NextParts, NextTree, Scratch, Walk};
 use jtree::{Items, Tree};
 use plan::{Distinct, Meter, PlanNode, SizeSet};
@@ -167,7 +168,7 @@ impl<'p, Z: SizeSet> Walk<'p, Z> {
     ) -> Result<NextTree, AllocError>
         requires node { IsNodeOfSort self.now.plan.now node sort.List }
         requires part { IsPart self.now.plan.now.pools (site self.now.plan.now node) (data_of tree) }
-        requires no_null { data_of tree ≢ null_data }
+        requires no_null { data_of tree ≢ Trees.null }
         requires limit { node_count (data_of tree) ≤ self.now.plan.now.limit }
         ensures { FindsNext result (IsPartOf self.now.plan.now node (node_count (data_of tree))) (data_of tree) scratch.new.following.items (CostsTree result self.now.plan.now meter.old meter.new (node_count (data_of tree))) }
     {
@@ -198,7 +199,7 @@ impl<'p, Z: SizeSet> Walk<'p, Z> {
     ) -> Result<NextParts, AllocError>
         requires list { IsListNode self.now.plan.now list.now }
         requires item { item_site self.now.plan.now.pools (site self.now.plan.now list.now.node) ≡ Some (site self.now.plan.now list.now.child) }
-        requires part { IsPart self.now.plan.now.pools (site self.now.plan.now list.now.node) (list_data (items_of items.old.items)) }
+        requires part { IsPart self.now.plan.now.pools (site self.now.plan.now list.now.node) (Trees.list (items_of items.old.items)) }
         requires limit { items_count (items_of items.old.items) < self.now.plan.now.limit }
         ensures { MovesItems result self.now.plan.now list.now items.old.items items.new.items scratch.new.following.items meter.old meter.new }
     {
@@ -207,7 +208,7 @@ impl<'p, Z: SizeSet> Walk<'p, Z> {
         while let Some(item) = items.pop() {
             match self.next_item(list, item, items.as_slice(), scratch, meter)? {
                 NextTree::To(next, depth) => {
-                    let depth = below(room, depth);
+                    let depth = levels_down(room, depth);
                     self.put_item(list, room, next, items, scratch, meter)?;
                     return Ok(NextParts::Made(depth));
                 }
@@ -295,8 +296,7 @@ impl<'p, Z: SizeSet> Walk<'p, Z> {
         tree: &Tree,
         meter: &mut Meter,
     ) -> Result<bool, AllocError>
-        requires node { IsNodeOfSort self.now.plan.now node sort.List }
-        requires limit { node_count (data_of tree.now) ≤ self.now.plan.now.limit }
+        requires { IsNodeWithin self.now.plan.now node sort.List (node_count (data_of tree.now)) }
         ensures { Decides result (IsListOf self.now.plan.now node (data_of tree.now)) (Costs self.now.plan.now meter.old meter.new (node_count (data_of tree.now))) }
     {
         match tree {
@@ -315,7 +315,7 @@ impl<'p, Z: SizeSet> Walk<'p, Z> {
     ) -> Result<bool, AllocError>
         requires node { IsNodeOfSort self.now.plan.now node sort.List }
         requires limit { 1 + items_count (items_of items.now) ≤ self.now.plan.now.limit }
-        ensures { Decides result (IsPart self.now.plan.now.pools (site self.now.plan.now node) (list_data (items_of items.now))) (Costs self.now.plan.now meter.old meter.new (1 + items_count (items_of items.now))) }
+        ensures { Decides result (IsPart self.now.plan.now.pools (site self.now.plan.now node) (Trees.list (items_of items.now))) (Costs self.now.plan.now meter.old meter.new (1 + items_count (items_of items.now))) }
     {
         if items.is_empty() {
             return Ok(self.plan.more(node, 0).has(0));
@@ -365,8 +365,8 @@ impl<'p, Z: SizeSet> Walk<'p, Z> {
 /// The items of a list; none of another tree.
 #[inline(always)]
 fn into_items(tree: Tree) -> Option<Vec<Tree>>
-    ensures some { IfSome result (λ items. data_of tree ≡ list_data (items_of items.items)) }
-    ensures none { IfNone result ((ds : ItemsData) → data_of tree ≢ list_data ds) }
+    ensures some { IfSome result (λ items. data_of tree ≡ Trees.list (items_of items.items)) }
+    ensures none { IfNone result ((ds : Trees.Items) → data_of tree ≢ Trees.list ds) }
 {
     match tree {
         Tree::List(list) => Some(list.items),

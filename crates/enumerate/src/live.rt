@@ -1,5 +1,4 @@
 //! An enumeration of the samples of a plan.
-use crate::copying::copy_of;
 use crate::current::Current;
 use crate::fault::EFault;
 use crate::taker::Taker;
@@ -41,7 +40,8 @@ impl<'p, Z: SizeSet> Model for Live<'p, Z> {
 }
 
 impl<'p, Z: SizeSet> Live<'p, Z> {
-    ghost use Rattle.std.specs.Prelude.{◌≡◌, ◌≢◌, ◌≤◌, List, length, Option, Some, None, Err, IsSome, IfSome, IsSomeAnd, IfOk, IfErr, OnOk, MatchOption, option_map};
+    ghost use Rattle.std.specs.Prelude.{◌≡◌, ◌≢◌, ◌≤◌};
+    ghost use Rattle.std.specs.Prelude.{List, length, Option, Some, None, Err, IsSome, IfSome, IsSomeAnd, IfOk, IfErr, OnOk, MatchOption, option_map};
     ghost use Rattle.std.specs.Option.{option_copied};
     ghost use Rattle.jtree.specs.Data.{Data};
     ghost use Rattle.jtree.specs.View.{data_of};
@@ -93,7 +93,7 @@ impl<'p, Z: SizeSet> Live<'p, Z> {
         if !walk.is_sample(tree, meter)? {
             return Err(EFault::NotASample);
         }
-        let copy = copy_of(alloc, tree)?;
+        let copy = tree.try_clone(alloc)?;
         let mut scratch = Scratch::new(alloc);
         match walk.next_sample(copy, &mut scratch, meter)? {
             NextTree::To(next, _) => Ok(Some(Live {

@@ -7,7 +7,6 @@ ghost use Rattle.enumerate.specs.Page.{IsPage, IsSampleOf};
 ghost use Rattle.enumerate.specs.View.{resume_point, trees_of};
 ghost use Rattle.enumerate.specs.declared.fault.EFault.TheVariants.{NotASample, NoMemory, Ended};
 
-use crate::copying::copy_of;
 use crate::fault::EFault;
 use crate::listed::Page;
 use crate::live::Live;
@@ -67,7 +66,7 @@ impl Taker for Copies {
     ghost none_taken = { λ now. sym (append-nil (trees_of now.items.items)) };
 
     fn take(&mut self, sample: &Tree, _change: Option<Change<'_>>) -> Result<(), AllocError> {
-        self.items.push(copy_of(self.alloc, sample)?)?;
+        self.items.push(sample.try_clone(self.alloc)?)?;
         Ok(())
     }
 }

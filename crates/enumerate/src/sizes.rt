@@ -20,7 +20,7 @@ pub(crate) fn least_split<Z: SizeSet>(sizes: Z, rest: Z, room: u32, from: u32) -
 
 /// How many levels down a list or an object differs from the one before it, where one of its parts moved, which itself differs `depth`
 /// levels down, and the parts after it, of `room` nodes, are replaced.
-pub(crate) fn below(room: u32, depth: usize) -> usize
+pub(crate) fn levels_down(room: u32, depth: usize) -> usize
     requires { depth < 4294967295 }
     ensures last { room ≡ 0 → result ≡ depth + 1 }
     ensures other { (room ≡ 0 → ⊥) → result ≡ 0 }

@@ -8,7 +8,7 @@
 //! In a set the items that are there already are skipped. In a map list an item gets its keys one by one, each in view of the items
 //! that have the same keys so far (`siblings`).
 ghost use Rattle.std.specs.Prelude.{[], ◌≡◌, ◌≤◌, ◌<◌, List, ◌↔◌, IsTrue, ◌≢◌};
-ghost use Rattle.jtree.specs.Data.{null as null_data};
+ghost use Rattle.jtree.specs.Data as Trees;
 ghost use Rattle.jtree.specs.Nodes.{node_count};
 ghost use Rattle.jtree.specs.View.{data_of};
 ghost use Rattle.plan.specs.Samples.Candidates.{sort_of};
@@ -152,7 +152,7 @@ impl<'p, Z: SizeSet> Walk<'p, Z> {
         requires node { IsNodeOf self.now.plan.now node }
         requires no_leaf { sort_of (site self.now.plan.now node) ≢ sort.Leaf }
         requires some { 1 ≤ self.now.plan.now.limit }
-        ensures { IsNextTree (IsPartOf self.now.plan.now node 1) null_data result }
+        ensures { IsNextTree (IsPartOf self.now.plan.now node 1) Trees.null result }
     {
         self.laws_of(node);
         match self.plan.sort(node) {
@@ -192,7 +192,7 @@ impl<'p, Z: SizeSet> Walk<'p, Z> {
 
 /// Whether the tree is null.
 fn is_null(tree: &Tree) -> bool
-    ensures { IsTrue result ↔ (data_of tree.now ≡ null_data) }
+    ensures { IsTrue result ↔ (data_of tree.now ≡ Trees.null) }
 {
     match tree {
         Tree::Null => true,

@@ -22,8 +22,6 @@ use Rattle.plan.specs.Samples.NoDeadEnd.{is_key, IsTuple, HasFree}
 use Rattle.plan.specs.Samples.Keys.{IsKeySlot, AreKeySlots, HasTuples, HasSoundParts, key_under}
 use Rattle.plan.specs.Samples.ByPlace.{IsSlotAt}
 use Rattle.plan.specs.Samples.Question.{Question}
-use Rattle.plan.specs.Samples.Candidates.{sort_of}
-use Rattle.plan.specs.declared.sort.Sort.TheVariants as sort
 use Rattle.enumerate.specs.declared.walk.NextParts.{NextParts}
 use Rattle.enumerate.specs.declared.walk.NextParts.TheVariants.{Made, Last}
 use Rattle.plan.specs.declared.plan.Slot as answer

@@ -24,6 +24,11 @@ pub record IsNodeOfSort (q : Question) (i : ℕ) (s : Sort) : Type 0 where
   pub node : IsNodeOf q i
   pub sort : sort_of (site q i) ≡ s
 
+-- a node of this sort, and so many nodes are within the limit
+pub record IsNodeWithin (q : Question) (i : ℕ) (s : Sort) (n : ℕ) : Type 0 where
+  pub node : IsNodeOfSort q i s
+  pub limit : n ≤ q.limit
+
 -- a part of so many nodes
 pub record IsPartOf (q : Question) (i n : ℕ) (v : Data) : Type 0 where
   pub part : IsPart q.pools (site q i) v

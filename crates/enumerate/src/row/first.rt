@@ -6,7 +6,8 @@ ghost use Rattle.enumerate.specs.Internal.Answers.{AddsMembers, FindsFirst, Grow
 ghost use Rattle.enumerate.specs.Internal.Candidates.{used_rows, stack_of};
 ghost use Rattle.enumerate.specs.Internal.Following.{CanPut};
 ghost use Rattle.enumerate.specs.Internal.Nodes.{IsNodeOfSort, Costs};
-ghost use Rattle.enumerate.specs.Internal.Rows.{CanHave, HasRoom, slots_from, row_demand, IsOpen, IsRow, CostsSlots, slots_at, IsRowSlot, IsOpenAt, AddsFirstAt, IsValueAt, AddsFirstAfter, CostsAfter, FitsAt};
+ghost use Rattle.enumerate.specs.Internal.Rows.{CanHave, HasRoom, slots_from, row_demand, IsOpen, IsRow, CostsSlots, slots_at};
+ghost use Rattle.enumerate.specs.Internal.Rows.{IsRowSlot, IsOpenAt, AddsFirstAt, IsValueAt, AddsFirstAfter, CostsAfter, FitsAt};
 ghost use Rattle.plan.specs.declared.sort.Sort.TheVariants as sort;
 
 use crate::names::take_name;

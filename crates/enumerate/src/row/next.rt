@@ -1,6 +1,8 @@
 //! The next members of a row.
-ghost use Rattle.std.specs.Prelude.{◌≡◌, ◌+◌, ◌-◌, ◌≤◌, ◌<◌, ℕ, ◌*◌, Option, Some, ◌↔◌, IsTrue, IfSome, true, None, ◌≢◌, IfNone, All};
-ghost use Rattle.jtree.specs.Data.{Data, Members as MembersData, object as object_data};
+ghost use Rattle.std.specs.Prelude.{◌≡◌, ◌+◌, ◌-◌, ◌≤◌, ◌<◌, ◌*◌, ◌↔◌, ◌≢◌};
+ghost use Rattle.std.specs.Prelude.{ℕ, Option, Some, IsTrue, IfSome, true, None, IfNone, All};
+ghost use Rattle.jtree.specs.Data.{Data};
+ghost use Rattle.jtree.specs.Data as Trees;
 ghost use Rattle.jtree.specs.Nodes.{node_count, members_count};
 ghost use Rattle.jtree.specs.View.{data_of, members_of};
 ghost use Rattle.plan.specs.Samples.Part.{IsPart};
@@ -19,7 +21,7 @@ use crate::names::keep_name;
 use crate::prefix::Before;
 use crate::row::{Ahead, Removed, RowSlot};
 use crate::siblings::Rows;
-use crate::sizes::below;
+use crate::sizes::levels_down;
 use crate::walk::{NextParts, NextTree, Scratch, Walk};
 use jtree::{Member, Members, Tree};
 use plan::{Meter, PlanNode, SizeSet};
@@ -199,7 +201,7 @@ impl<'p, Z: SizeSet> Walk<'p, Z> {
         let Member { name, tree } = member;
         match self.next_value(here, tree, &ahead.used, scratch, meter)? {
             NextTree::To(tree, depth) => {
-                let depth = below(ahead.room, depth);
+                let depth = levels_down(ahead.room, depth);
                 self.put_member(here, ahead, Member { name, tree }, members, scratch, meter)?;
                 Ok(NextParts::Made(depth))
             }
@@ -282,8 +284,8 @@ impl<'p, Z: SizeSet> Walk<'p, Z> {
 /// The members of an object; none of another tree.
 #[inline(always)]
 fn into_members(tree: Tree) -> Option<Vec<Member>>
-    ensures some { IfSome result (λ members. data_of tree ≡ object_data (members_of members.items)) }
-    ensures none { IfNone result ((ms : MembersData) → data_of tree ≢ object_data ms) }
+    ensures some { IfSome result (λ members. data_of tree ≡ Trees.object (members_of members.items)) }
+    ensures none { IfNone result ((ms : Trees.Members) → data_of tree ≢ Trees.object ms) }
 {
     match tree {
         Tree::Object(object) => Some(object.members),

@@ -1,12 +1,13 @@
 //! Whether a tree is a row.
 ghost use Rattle.std.specs.Prelude.{[], ◌≡◌, ◌+◌, ◌≤◌, ◌<◌, length, drop, ◌↔◌, IsTrue, IfSome, ◌≢◌, IfNone};
-ghost use Rattle.jtree.specs.Data.{Data, member as member_data, Members as MembersData};
+ghost use Rattle.jtree.specs.Data.{Data};
+ghost use Rattle.jtree.specs.Data as Trees;
 ghost use Rattle.jtree.specs.Nodes.{node_count, members_count};
 ghost use Rattle.jtree.specs.View.{data_of, members_of};
 ghost use Rattle.enumerate.specs.Internal.Answers.{Decides};
 ghost use Rattle.enumerate.specs.Internal.Candidates.{used_rows};
 ghost use Rattle.enumerate.specs.Internal.Membership.{MakeUnusedRow, IsUnusedRow};
-ghost use Rattle.enumerate.specs.Internal.Nodes.{IsNodeOfSort, Costs};
+ghost use Rattle.enumerate.specs.Internal.Nodes.{IsNodeOfSort, IsNodeWithin, Costs};
 ghost use Rattle.enumerate.specs.Internal.Rows.{slots_from, ending_at, CostsSlots};
 ghost use Rattle.plan.specs.declared.sort.Sort.TheVariants as sort;
 
@@ -27,8 +28,7 @@ impl<'p, Z: SizeSet> Walk<'p, Z> {
         used: &Rows<'_>,
         meter: &mut Meter,
     ) -> Result<bool, AllocError>
-        requires node { IsNodeOfSort self.now.plan.now node sort.Row }
-        requires limit { node_count (data_of tree.now) ≤ self.now.plan.now.limit }
+        requires { IsNodeWithin self.now.plan.now node sort.Row (node_count (data_of tree.now)) }
         ensures { Decides result (IsUnusedRow self.now.plan.now node (used_rows used.now) (data_of tree.now)) (Costs self.now.plan.now meter.old meter.new (node_count (data_of tree.now))) }
     {
         match tree {
@@ -116,9 +116,9 @@ impl<'p, Z: SizeSet> Walk<'p, Z> {
 
 /// The value of the first member, where it has the name.
 fn value_under<'a>(members: &'a [Member], name: &str) -> Option<&'a Tree>
-    ensures some { IfSome result (λ t. members_of members.now ≡ member_data name.now (data_of t.now) (members_of (drop 1 members.now))) }
+    ensures some { IfSome result (λ t. members_of members.now ≡ Trees.member name.now (data_of t.now) (members_of (drop 1 members.now))) }
     ensures within { IfSome result (λ _. 1 ≤ length members.now) }
-    ensures none { IfNone result ((v : Data) (ms : MembersData) → members_of members.now ≢ member_data name.now v ms) }
+    ensures none { IfNone result ((v : Data) (ms : Trees.Members) → members_of members.now ≢ Trees.member name.now v ms) }
 {
     match members.first() {
         Some(member) => {

@@ -181,14 +181,14 @@ next_item-returns-in-Whole = next_item.returns-in-Whole
 pub next_item-returns-in-Keys : goal.next_item-returns-in-Keys
 next_item-returns-in-Keys = next_item.returns-in-Keys
 
-pub next_member-below-depth-requires : goal.next_member-below-depth-requires
-next_member-below-depth-requires = next_member.below-depth-requires
+pub next_member-levels_down-depth-requires : goal.next_member-levels_down-depth-requires
+next_member-levels_down-depth-requires = next_member.levels_down-depth-requires
 
 pub next_member-returns-in_err-put_member-in-To : goal.next_member-returns-in_err-put_member-in-To
 next_member-returns-in_err-put_member-in-To = next_member.returns-in_err-put_member-in-To
 
-pub next_items-below-depth-requires : goal.next_items-below-depth-requires
-next_items-below-depth-requires = next_items.below-depth-requires
+pub next_items-levels_down-depth-requires : goal.next_items-levels_down-depth-requires
+next_items-levels_down-depth-requires = next_items.levels_down-depth-requires
 
 pub next_items-returns-in_err-put_item-in-To : goal.next_items-returns-in_err-put_item-in-To
 next_items-returns-in_err-put_item-in-To = next_items.returns-in_err-put_item-in-To

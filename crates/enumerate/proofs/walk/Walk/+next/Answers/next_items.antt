@@ -124,10 +124,10 @@ returns-in_err-next g t c =
 next_here : (g : Over) (t : ℕ) (c : next_items-In-To g t) → IsNextTree (IsUnusedItem c.args.self.now.plan.now c.args.list.now.node c.args.list.now.child (node_count (data_of c.in-Some.item)) (items_of c.pop.new.self.items)) (data_of c.in-Some.item) (tree_next.To c.in-To.next c.in-To.depth)
 next_here g t c = item_moved c.args.self.now.plan.now c.args.list.now c.in-Some.item c.as_slice.result.now c.pop.new.self.items c.in_ok-next.field-0 (tree_next.To c.in-To.next c.in-To.depth) c.as_slice.ensures.value c.in-To.is c.in_ok-next.ensures.ok
 
-pub below-depth-requires : goal.next_items-below-depth-requires
-below-depth-requires g t c =
-    let next = next_here g t (goal.at.next_items-below-depth-requires g t c).In-To in
-    let nodes = nodes_here g t (goal.at.next_items-below-depth-requires g t c).In-Some in
+pub levels_down-depth-requires : goal.next_items-levels_down-depth-requires
+levels_down-depth-requires g t c =
+    let next = next_here g t (goal.at.next_items-levels_down-depth-requires g t c).In-To in
+    let nodes = nodes_here g t (goal.at.next_items-levels_down-depth-requires g t c).In-Some in
     omega (arith, next.1.few, nodes, c.requires.limit, c.laws_of.ensures.limit)
 
 pub put_item-requires : goal.next_items-put_item-requires
@@ -176,7 +176,7 @@ returns-in-To g t c =
           let within : 1 + items_count (items_of old) ≤ q.limit = omega (arith, c.requires.limit) in
           let top : q.limit ≤ most_nodes = omega (arith, c.laws_of.ensures.limit) in (
             front_next q i k (record { rule = c.laws_of.ensures.rule; ends = c.laws_of.ensures.completed; item = c.requires.item }) (items_of old) c.requires.part within top c.loop-item.room left front one c.in-Some.ensures.items c.loop-item.invariant.last next new to.0 adds,
-            if_last c.loop-item.room depth c.below-depth.result (list_data (items_of old)) (list_data (items_of new)) c.below-depth.ensures.last c.below-depth.ensures.other (λ empty.
+            if_last c.loop-item.room depth c.levels_down-depth.result (list_data (items_of old)) (list_data (items_of new)) c.levels_down-depth.ensures.last c.levels_down-depth.ensures.other (λ empty.
                 let all = all_items q i (items_of old) (items_of left) (subst (λ n. WereLast q i n (items_of old) (items_of left)) empty c.loop-item.invariant.last) in
                 let added = subst (λ n. AddsItems q i n (front ++ next ∷ []) new) empty adds in
                 let none = none_added added.added added.least.is.nodes_are in

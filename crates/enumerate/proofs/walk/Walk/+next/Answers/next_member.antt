@@ -35,9 +35,9 @@ pub returns-in_err-tree : goal.next_member-returns-in_err-tree
 returns-in_err-tree g t c =
     record { ok = search rules; left = search rules; following = search rules; steps = (costs_slots c.args.self.now.plan.now c.args.here.now.node (c.args.here.now.place + 1) c.args.meter.now c.next_value.new.meter (3 * node_count (data_of c.args.member.tree)) (3 * node_count (data_of c.args.member.tree) + c.args.ahead.now.room) (omega arith) c.next_value.ensures.steps.0, search rules) }
 
-pub below-depth-requires : goal.next_member-below-depth-requires
-below-depth-requires g t c =
-    let next = next_value_here g t (goal.at.next_member-below-depth-requires g t c).In-To in
+pub levels_down-depth-requires : goal.next_member-levels_down-depth-requires
+levels_down-depth-requires g t c =
+    let next = next_value_here g t (goal.at.next_member-levels_down-depth-requires g t c).In-To in
     omega (arith, next.1.few, c.requires.member.slots.limit, c.laws_of.ensures.limit)
 
 pub put_member-requires : goal.next_member-put_member-requires
@@ -98,9 +98,9 @@ returns-in_ok-put_member-in-To g t c =
           λ empty.
               let none = no_member adds.added (adds.are ∙ no_members_in q.pools (slots_from q i (place + 1)) adds.fillings adds.least.is.are (adds.least.is.nodes_are ∙ empty)) in
               let is : new ≡ front ++ one ∷ [] = adds.is ∙ (ap (λ l. (front ++ one ∷ []) ++ l) none ∙ append-nil (front ++ one ∷ [])) in
-              subst (λ n. DiffersAt n (object_data (members_of (front ++ old ∷ []))) (object_data (members_of new))) (sym (c.below-depth.ensures.last empty))
+              subst (λ n. DiffersAt n (object_data (members_of (front ++ old ∷ []))) (object_data (members_of new))) (sym (c.levels_down-depth.ensures.last empty))
               (subst (λ l. DiffersAt (c.in-To.depth + 1) (object_data (members_of (front ++ old ∷ []))) (object_data (members_of l))) (sym is) (differs_in_member c.in-To.depth front old one refl next.1)),
-          c.below-depth.ensures.other,
+          c.levels_down-depth.ensures.other,
         ),
       );
       left = front_kept front (one ∷ adds.added) new (adds.is ∙ append_assoc front (one ∷ []) adds.added);

@@ -12,10 +12,10 @@ use Rattle.enumerate.proofs.rows.Parts.{weight_next}
 use Rattle.enumerate.proofs.walk.Walk.+part.Goals as goal
 
 pub is_unused_row-requires : goal.is_part-is_unused_row-requires
-is_unused_row-requires g t c κs within = (omega (arith, c.decreases, weight_next c.args.self.now.plan.now c.args.node), (within, (record { node = c.requires.node; sort = sym c.in-Row.ensures }, c.requires.limit)))
+is_unused_row-requires g t c κs within = (omega (arith, c.decreases, weight_next c.args.self.now.plan.now c.args.node), (within, record { node = record { node = c.requires.node; sort = sym c.in-Row.ensures }; limit = c.requires.limit }))
 
 pub is_list-requires : goal.is_part-is_list-requires
-is_list-requires g t c κs within = (omega (arith, c.decreases, weight_next c.args.self.now.plan.now c.args.node), (within, (record { node = c.requires.node; sort = sym c.in-List.ensures }, c.requires.limit)))
+is_list-requires g t c κs within = (omega (arith, c.decreases, weight_next c.args.self.now.plan.now c.args.node), (within, record { node = record { node = c.requires.node; sort = sym c.in-List.ensures }; limit = c.requires.limit }))
 
 pub returns-in_default : goal.is_part-returns-in_default
 returns-in_default g t c =

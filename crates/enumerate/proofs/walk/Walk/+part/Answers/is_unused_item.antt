@@ -33,7 +33,7 @@ is_unused_row-requires g t c κs within =
     let q = c.args.self.now.plan.now in
     let map = c.laws_of.ensures.sound.map _ c.requires.first.item (sym c.in-Keys.ensures) in
     let below = row_lighter q c.args.list.now.child c.args.list.now.node c.requires.list.child in
-    (omega (arith, c.decreases, below), (within, (record { node = omega (arith, c.requires.list.child, c.requires.list.node); sort = map.row }, c.requires.limit)))
+    (omega (arith, c.decreases, below), (within, record { node = record { node = omega (arith, c.requires.list.child, c.requires.list.node); sort = map.row }; limit = c.requires.limit }))
 
 pub returns-in-Free : goal.is_unused_item-returns-in-Free
 returns-in-Free g t c =
