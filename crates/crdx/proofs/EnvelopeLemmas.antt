@@ -1,84 +1,50 @@
 -- The members of some names taken off and put back.
-use Rattle.std.proofs.Common.{◌≡◌, ◌<◌, ℕ, zero, suc, List, [], ◌∷◌, Bool, true, false, Option, Some, None, refl, sym, ap, ap₂, subst, ◌∙◌, inl, inr, length, take, get_or, set, arith}
-use Rattle.std.specs.Prelude.{All, if◌then◌else◌, not, ◌||◌, codes}
-use Rattle.std.specs.List.{insert, remove}
+use Rattle.std.proofs.Common.{◌≡◌, ℕ, zero, suc, List, [], ◌∷◌, Bool, true, false, Option, Some, None, refl, sym, ap, ap₂, subst, ◌∙◌, inl, inr, get_or}
+use Rattle.std.specs.Prelude.{if◌then◌else◌, not, ◌||◌, codes}
 use Rattle.std.specs.Str.{bytes_eq}
-use Rattle.std.specs.declared.cmp.Ordering.TheVariants.{Less, Equal, Greater}
+use Rattle.std.specs.declared.cmp.Ordering.TheVariants.{Less}
 use Rattle.std.proofs.lemmas.Map.Lookups.{exact_bytes}
 use Rattle.std.proofs.lemmas.Option.{same_Some}
 use Rattle.jtree.specs.Data.{Data, null, boolean, integer, text, list, object, Members, no_members, member, IsNameBefore, AreMembers, IsTree}
 use Rattle.jtree.specs.Order.{text_cmp}
+use Rattle.jtree.specs.MemberPlace.{IsPlace, with_member, without_member}
+use Rattle.jtree.specs.Internal.MemberLaws.{before_of, with_member_at, changed_here, changed_elsewhere, changed_sorted}
 use Rattle.jtree.specs.Path.{member_at}
 use Rattle.jtree.specs.View.{data_of, members_of}
 use Rattle.jtree.specs.declared.value.Member.{Member}
 use Rattle.jtree.specs.Internal.Lookups.{bool_cases, option_cases, ordering_cases, same_name, own_name, IsNameBefore-trans, before_none, member_first, member_later, past_name}
 use Rattle.schema.specs.Document.Places.{is_envelope_name}
-use Rattle.crdx.specs.Output.Envelope.{with_member, with_members, members_of_envelope, in_envelope}
-use Rattle.crdx.specs.Internal.Members.{in_front, without}
+use Rattle.crdx.specs.Output.Envelope.{with_members, members_of_envelope, in_envelope}
+use Rattle.crdx.specs.Internal.Members.{in_front}
 use Rattle.crdx.specs.Program.Envelope.{members_where, body_of, envelope_in, first_of, IsJoined, onto}
-use Rattle.crdx.specs.Internal.MemberPlace.{IsPlace}
-use Rattle.crdx.proofs.NameLemmas.{before_of, member_tree, replaced_at, replaced_elsewhere, replaced_sorted}
 use Rattle.crdx.specs.declared.walk.line.Envelope.{Envelope}
-
--- ---- the place of a name
-
-pub place_here : (present : Bool) (k : List ℕ) (xs : List Member) (i : ℕ) (x : Member) → All (λ m. text_cmp k m.name ≡ Greater) (take i xs) → i < length xs
-    → x ≡ get_or xs i x → text_cmp k x.name ≡ (if present then Equal else Less) → IsPlace present k xs i
-place_here present k [] i x past within is here = absurd (omega arith)
-place_here present k (y ∷ xs) zero x past within is here = rw (← is) here
-place_here present k (y ∷ xs) (suc i) x past within is here = (past 0 y (omega arith), place_here present k xs i x (λ j d less. past (suc j) d (omega (arith, less))) (omega arith) is here)
-
-pub place_end : (k : List ℕ) (xs : List Member) → All (λ m. text_cmp k m.name ≡ Greater) xs → IsPlace false k xs (length xs)
-place_end k [] past = (refl, refl)
-place_end k (x ∷ xs) past = (past 0 x (omega arith), place_end k xs (λ j d less. past (suc j) d (omega (arith, less))))
 
 -- ---- one member
 
-pub removed : (k : List ℕ) (xs : List Member) (i : ℕ) → IsPlace true k xs i → members_of (remove xs i) ≡ without k (members_of xs)
-removed k [] i p = let e = p.0 in cc
-removed k (x ∷ xs) zero p = rw p refl
-removed k (x ∷ xs) (suc i) p = rw p.0 (ap (member x.name (data_of x.tree)) (removed k xs i p.1))
-
-pub absent : (k : List ℕ) (xs : List Member) (i : ℕ) → IsPlace false k xs i → without k (members_of xs) ≡ members_of xs
-absent k [] i p = refl
-absent k (x ∷ xs) zero p = rw p refl
-absent k (x ∷ xs) (suc i) p = rw p.0 (ap (member x.name (data_of x.tree)) (absent k xs i p.1))
+-- the value under a name is a tree
+member_tree : (ms : Members) (k : List ℕ) (w : Data) → AreMembers ms → member_at k ms ≡ Some w → IsTree w
+member_tree no_members k w sorted e = cc
+member_tree (member l d ms) k w sorted e = elim (bool_cases (bytes_eq k l)) [
+  | inl t ↦ subst IsTree (same_Some d w (rw t at e)) sorted.0
+  | inr f ↦ member_tree ms k w sorted.2 (sym (member_later k l d ms f) ∙ e)
+]
 
 pub taken : (k : List ℕ) (xs : List Member) (i : ℕ) (x : Member) (ms : Members) → IsPlace true k xs i → x ≡ get_or xs i x → onto (Some x) ms ≡ in_front k (member_at k (members_of xs)) ms
 taken k [] i x ms p is = let e = p.0 in cc
 taken k (y ∷ xs) zero x ms p is = rw (exact_bytes k y.name p, own_name y.name, is) refl
 taken k (y ∷ xs) (suc i) x ms p is = rw (past_name k y.name p.0) (taken k xs i x ms p.1 is)
 
-pub written : (m : Member) (xs : List Member) (i : ℕ) → IsPlace true m.name xs i → members_of (set xs i m) ≡ with_member m.name (data_of m.tree) (members_of xs)
-written m [] i p = let e = p.0 in cc
-written m (x ∷ xs) zero p = rw p refl
-written m (x ∷ xs) (suc i) p = rw p.0 (ap (member x.name (data_of x.tree)) (written m xs i p.1))
-
-pub inserted : (m : Member) (xs : List Member) (i : ℕ) → IsPlace false m.name xs i → members_of (insert xs i m) ≡ with_member m.name (data_of m.tree) (members_of xs)
-inserted m [] zero p = refl
-inserted m [] (suc i) p = let e = p.1 in cc
-inserted m (x ∷ xs) zero p = rw p refl
-inserted m (x ∷ xs) (suc i) p = rw p.0 (ap (member x.name (data_of x.tree)) (inserted m xs i p.1))
-
 -- the value under a name once a member is taken off, or put in
-pub taken_at : (k : List ℕ) (ms : Members) → AreMembers ms → (j : List ℕ) → member_at j (without k ms) ≡ (if bytes_eq j k then None else member_at j ms)
+pub taken_at : (k : List ℕ) (ms : Members) → AreMembers ms → (j : List ℕ) → member_at j (without_member k ms) ≡ (if bytes_eq j k then None else member_at j ms)
 taken_at k ms sorted j = elim (bool_cases (bytes_eq j k)) [
-  | inl t ↦ rw t (rw (same_name j k t) (replaced_at k None ms sorted))
-  | inr f ↦ rw f (replaced_elsewhere j k None ms f)
-]
-
-put_here : (k : List ℕ) (d : Data) (ms : Members) → member_at k (with_member k d ms) ≡ Some d
-put_here k d no_members = member_first k d no_members
-put_here k d (member l e ms) = elim (ordering_cases (text_cmp k l)) [
-  | inl before ↦ rw before (member_first k d (member l e ms))
-  | inr (inl same) ↦ rw same (member_first k d ms)
-  | inr (inr past) ↦ rw past (member_later k l e (with_member k d ms) (past_name k l past) ∙ put_here k d ms)
+  | inl t ↦ rw t (rw (same_name j k t) (changed_here k None ms sorted))
+  | inr f ↦ rw f (changed_elsewhere j k None ms f)
 ]
 
 pub put_at : (m : Member) (ms : Members) (j : List ℕ) → member_at j (with_member m.name (data_of m.tree) ms) ≡ first_of (member_at j (onto (Some m) no_members)) (member_at j ms)
 put_at m ms j = elim (bool_cases (bytes_eq j m.name)) [
-  | inl t ↦ rw t (rw (same_name j m.name t) (put_here m.name (data_of m.tree) ms))
-  | inr f ↦ rw f (replaced_elsewhere j m.name (Some (data_of m.tree)) ms f)
+  | inl t ↦ rw t (rw (same_name j m.name t) (with_member_at m.name (data_of m.tree) ms m.name ∙ member_first m.name (data_of m.tree) ms))
+  | inr f ↦ rw f (changed_elsewhere j m.name (Some (data_of m.tree)) ms f)
 ]
 
 onto_at : (o : Option Member) (ms : Members) (j : List ℕ) → member_at j (onto o ms) ≡ first_of (member_at j (onto o no_members)) (member_at j ms)
@@ -177,14 +143,14 @@ beside_three false true false v = refl
 beside_three false false true v = refl
 beside_three false false false v = refl
 
-pub body_is : (ms : Members) → AreMembers ms → without metadata (without kind (without api_version ms)) ≡ members_where (λ k. not (is_envelope_name k)) ms
+pub body_is : (ms : Members) → AreMembers ms → without_member metadata (without_member kind (without_member api_version ms)) ≡ members_where (λ k. not (is_envelope_name k)) ms
 body_is ms sorted =
-    let one = replaced_sorted api_version None ms tt sorted in
-    let two = replaced_sorted kind None (without api_version ms) tt one in
-    let three = replaced_sorted metadata None (without kind (without api_version ms)) tt two in
+    let one = changed_sorted api_version None ms tt sorted in
+    let two = changed_sorted kind None (without_member api_version ms) tt one in
+    let three = changed_sorted metadata None (without_member kind (without_member api_version ms)) tt two in
     same_members _ _ three (where_sorted _ ms sorted) (λ j.
-    taken_at metadata (without kind (without api_version ms)) two j
-    ∙ (ap (λ v. if bytes_eq j metadata then None else v) (taken_at kind (without api_version ms) one j ∙ ap (λ v. if bytes_eq j kind then None else v) (taken_at api_version ms sorted j))
+    taken_at metadata (without_member kind (without_member api_version ms)) two j
+    ∙ (ap (λ v. if bytes_eq j metadata then None else v) (taken_at kind (without_member api_version ms) one j ∙ ap (λ v. if bytes_eq j kind then None else v) (taken_at api_version ms sorted j))
     ∙ (beside_three (bytes_eq j api_version) (bytes_eq j kind) (bytes_eq j metadata) (member_at j ms) ∙ sym (where_at (λ k. not (is_envelope_name k)) ms j))))
 
 front_at : (k : List ℕ) (o : Option Data) (ms : Members) (j : List ℕ) → member_at j (in_front k o ms) ≡ (if bytes_eq j k then first_of o (member_at j ms) else member_at j ms)
@@ -260,13 +226,13 @@ tree_back old new ps is v t body envelope = back v new t (subst (λ b. IsJoined 
 with_members_at : (ps ms : Members) (j : List ℕ) → member_at j (with_members ps ms) ≡ first_of (member_at j ps) (member_at j ms)
 with_members_at no_members ms j = refl
 with_members_at (member k d ps) ms j = elim (bool_cases (bytes_eq j k)) [
-  | inl t ↦ rw t (rw (same_name j k t) (put_here k d (with_members ps ms)))
-  | inr f ↦ rw f (replaced_elsewhere j k (Some d) (with_members ps ms) f ∙ with_members_at ps ms j)
+  | inl t ↦ rw t (rw (same_name j k t) (with_member_at k d (with_members ps ms) k ∙ member_first k d (with_members ps ms)))
+  | inr f ↦ rw f (changed_elsewhere j k (Some d) (with_members ps ms) f ∙ with_members_at ps ms j)
 ]
 
 with_members_sorted : (ps ms : Members) → AreMembers ps → AreMembers ms → AreMembers (with_members ps ms)
 with_members_sorted no_members ms t sorted = sorted
-with_members_sorted (member k d ps) ms t sorted = replaced_sorted k (Some d) (with_members ps ms) t.0 (with_members_sorted ps ms t.2 sorted)
+with_members_sorted (member k d ps) ms t sorted = changed_sorted k (Some d) (with_members ps ms) t.0 (with_members_sorted ps ms t.2 sorted)
 
 envelope_sorted : (e : Envelope) → AreMembers (members_of_envelope e)
 envelope_sorted e = (tt, refl, (tt, refl, ((tt, tt, tt), tt, tt)))

@@ -3,8 +3,7 @@
 -- `WalkLemmas` goes from block to block so, by the notions of specs/Internal/Progress.antt, and says what is out where a block is not
 -- written whole. `StopLemmas` has the page that a walk leaves out where it stops.
 -- Lines: `WrittenLemmas` has the lines of a block, those of them that a sink took, and lines that are made of the line before.
--- The envelope: `NameLemmas` is about members with one of them replaced or taken away, `EnvelopeLemmas` about what `split` and `join`
--- make of an object, and about a sample in its envelope.
+-- The envelope: `EnvelopeLemmas` is about what `split` and `join` make of an object, and about a sample in its envelope.
 -- The command line: `CommandLineLemmas` says what the matches of `clap` ask for.
 -- Answers: `CheckLemmas` has those of `check`, `ObjectLemmas` those of `validate`, `prune`, `default` and `leaves`, `LineLemmas` texts
 -- and choices as they are printed.
@@ -25,5 +24,4 @@ pub mod PoolsLemmas
 pub mod ObjectInputLemmas
 pub mod CheckLemmas
 pub mod CommandLineLemmas
-pub mod NameLemmas
 pub mod EnvelopeLemmas

@@ -1,6 +1,5 @@
 -- What private contracts alone cite: members by their names, what a loop knows, and why a run has no answer.
 pub mod Members
-pub mod MemberPlace
 pub mod Block
 pub mod PartialLines
 pub mod Progress

@@ -1,18 +1,17 @@
 //! The envelope of a resource, which no schema has a say in: it is taken off an object, and put back.
-ghost use Rattle.std.specs.Prelude.{◌≡◌, ◌+◌, ◌<◌, ◌≤◌, ℕ, List, length, true, false, IfOk, IfErr, OnOk, OnErr};
+ghost use Rattle.std.specs.Prelude.{◌≡◌, ◌+◌, ◌<◌, ◌≤◌, ℕ, List, IfOk, OnOk, OnErr};
 ghost use Rattle.std.specs.Vec.{vec_len, vec_capacity};
 ghost use Rattle.jtree.specs.Data.{Data, text, Members as MembersData, no_members, IsTree, AreMembers};
+ghost use Rattle.jtree.specs.MemberPlace.{without_member};
 ghost use Rattle.jtree.specs.Path.{member_at};
 ghost use Rattle.jtree.specs.View.{data_of, members_of};
 ghost use Rattle.crdx.specs.Output.Envelope.{members_of_envelope};
 ghost use Rattle.crdx.specs.Program.Envelope.{body_of, envelope_in, first_of, IsJoined, onto};
-ghost use Rattle.crdx.specs.Internal.MemberPlace.{IsPlace};
-ghost use Rattle.crdx.specs.Internal.Members.{in_front, without};
+ghost use Rattle.crdx.specs.Internal.Members.{in_front};
 
 use crate::walk::Envelope;
-use jtree::{Member, Members, Text, Tree};
+use jtree::{Member, Members, Text, Tree, search};
 use std::alloc::{AllocError, Global};
-use std::cmp::Ordering;
 use std::marker::Model;
 
 /// The envelope of a resource: its members `apiVersion`, `kind` and `metadata`, as far as they were there.
@@ -108,7 +107,7 @@ fn text_member(alloc: Global, name: &str, value: &Text) -> Result<Member, AllocE
 
 /// Takes the member of a name off.
 fn take(members: &mut Members, name: &str) -> Option<Member>
-    ensures rest { members.new ≡ without name.now members.old }
+    ensures rest { members.new ≡ without_member name.now members.old }
     ensures taken { (ms : MembersData) → onto result ms ≡ in_front name.now (member_at name.now members.old) ms }
 {
     members.reveal_invariant();
@@ -135,21 +134,4 @@ fn put(members: &mut Vec<Member>, part: Option<Member>)
             }
         }
     }
-}
-
-/// The index of the member of a name, or else, as `Err`, the one at which it belongs.
-fn search(members: &[Member], name: &str) -> Result<usize, usize>
-    ensures found { IfOk result (λ i. IsPlace true name.now members.now i) }
-    ensures absent { IfErr result (λ i. IsPlace false name.now members.now i) }
-    ensures within { IfOk result (λ i. i < length members.now) }
-    ensures belongs { IfErr result (λ i. i ≤ length members.now) }
-{
-    for (i, member) in members.iter().enumerate() {
-        match name.cmp(member.name.as_str()) {
-            Ordering::Less => return Err(i),
-            Ordering::Equal => return Ok(i),
-            Ordering::Greater => {}
-        }
-    }
-    Err(members.len())
 }

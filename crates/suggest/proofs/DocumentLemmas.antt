@@ -11,7 +11,8 @@ use Rattle.jtree.specs.declared.value.Tree.{Tree}
 use Rattle.schema.specs.Nodes.Node.{Node}
 use Rattle.plan.specs.declared.pool_limits.PoolLimits.{PoolLimits}
 use Rattle.suggest.specs.View.{texts_at}
-use Rattle.suggest.specs.Suggested.Document.{items_of, with_member, document_with, general_of, single, suggestions_by}
+use Rattle.jtree.specs.MemberPlace.{with_member}
+use Rattle.suggest.specs.Suggested.Document.{items_of, document_with, general_of, single, suggestions_by}
 use Rattle.suggest.specs.Suggested.Varied.{lists_alone, suggestions_below}
 use Rattle.suggest.specs.Suggested.Wanted.{Wanted}
 use Rattle.suggest.specs.Internal.Parts.{with_lists_member, with_texts_member, general_with, suggestions_from}

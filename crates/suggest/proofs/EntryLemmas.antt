@@ -1,20 +1,19 @@
 -- What is found under a text in members that are made from entries, and in the pools of a suggested document.
-use Rattle.std.proofs.Common.{◌≡◌, ℕ, List, [], ◌∷◌, ◌++◌, Bool, true, false, Option, Some, None, take, map, filter, filter_map, not, if◌then◌else◌, option_map, option_and_then, refl, sym, ap, ◌∙◌, subst, inl, inr, codes}
+use Rattle.std.proofs.Common.{◌≡◌, ℕ, List, [], ◌∷◌, ◌++◌, Bool, true, false, Option, Some, None, take, map, filter, filter_map, not, if◌then◌else◌, option_map, option_and_then, refl, sym, ap, ◌∙◌, inl, inr, codes}
 use Rattle.std.specs.List.{fold}
 use Rattle.std.specs.Str.{bytes_eq}
 use Rattle.jtree.specs.Data.{Data, list, object, Items, Members, no_members, member}
 use Rattle.jtree.specs.Data as tree
-use Rattle.jtree.specs.Order.{text_cmp}
 use Rattle.jtree.specs.Path.{member_at, under}
-use Rattle.jtree.specs.Internal.Lookups.{bool_cases, same_name, ordering_cases, past_name}
-use Rattle.jtree.specs.Internal.OrderLaws.{text_same}
+use Rattle.jtree.specs.Internal.MemberLaws.{with_member_at}
+use Rattle.jtree.specs.Internal.Lookups.{bool_cases, same_name}
 use Rattle.schema.specs.Document.Texts.{is_among}
 use Rattle.schema.specs.Nodes.Node.{Node}
 use Rattle.plan.specs.declared.pool_limits.PoolLimits.{PoolLimits}
 use Rattle.plan.specs.Pools.Pools.{items_list, entries_in, list_at, fixed_at}
 use Rattle.plan.specs.Pools.Document.{entries_of, members_of, text_of, pools_of}
 use Rattle.suggest.specs.Suggested.Chosen.{chosen_names}
-use Rattle.suggest.specs.Suggested.Document.{items_of, suggested_any, suggested_integers, suggested_strings, usual_names, with_member, with_entry, members_from, without_entry, lists_member, texts_member, document_of}
+use Rattle.suggest.specs.Suggested.Document.{items_of, suggested_any, suggested_integers, suggested_strings, usual_names, with_entry, members_from, without_entry, lists_member, texts_member, document_of}
 use Rattle.suggest.specs.Suggested.Lists.{Entry}
 use Rattle.suggest.specs.Suggested.Varied.{Suggestions}
 
@@ -50,25 +49,6 @@ values_append text (d ∷ ds) es = ap (λ o. later_or o (values_of text d)) (val
 
 -- ---- members
 
--- a member that is put in order is found as one that is put in front
-looked_up : (k : List ℕ) (d : Data) (ms : Members) (j : List ℕ) → member_at j (with_member k d ms) ≡ member_at j (member k d ms)
-looked_up k d no_members j = refl
-looked_up k d (member l e ms) j = elim (ordering_cases (text_cmp k l)) [
-  | inl less ↦ rw less refl
-  | inr (inl same) ↦ elim (bool_cases (bytes_eq j k)) [
-    | inl here ↦ rw (same, here) refl
-    | inr other ↦ let past : bytes_eq j l ≡ false = subst (λ n. bytes_eq j n ≡ false) (text_same k l same) other in rw (same, other, past) refl
-  ]
-  | inr (inr greater) ↦ elim (bool_cases (bytes_eq j k)) [
-    | inl here ↦
-        let past : bytes_eq j l ≡ false = subst (λ n. bytes_eq n l ≡ false) (sym (same_name j k here)) (past_name k l greater) in
-        rw (greater, past) (looked_up k d ms j ∙ rw here refl)
-    | inr other ↦
-        let rest : member_at j (with_member k d ms) ≡ member_at j ms = looked_up k d ms j ∙ rw other refl in
-        rw (greater, other) (ap (λ o. if bytes_eq j l then Some e else o) rest)
-  ]
-]
-
 one_more : (o : Option (List Data)) (b : Bool) (vs : List Data) (m : Option Data)
     → later_or (option_map (λ vs. list (items_of vs)) o) (if b then Some (list (items_of vs)) else m) ≡ later_or (option_map (λ vs. list (items_of vs)) (later_or o (if b then Some vs else None))) m
 one_more (Some x) b vs m = refl
@@ -78,7 +58,7 @@ one_more None false vs m = refl
 found_after : (es : List Entry) (ms : Members) (text : List ℕ) → member_at text (fold with_entry ms es) ≡ later_or (option_map (λ vs. list (items_of vs)) (values_at text es)) (member_at text ms)
 found_after [] ms text = refl
 found_after (e ∷ es) ms text = found_after es (with_entry ms e) text
-    ∙ (ap (λ o. later_or (option_map (λ vs. list (items_of vs)) (values_at text es)) o) (looked_up e.path (list (items_of e.values)) ms text)
+    ∙ (ap (λ o. later_or (option_map (λ vs. list (items_of vs)) (values_at text es)) o) (with_member_at e.path (list (items_of e.values)) ms text)
     ∙ one_more (values_at text es) (bytes_eq text e.path) e.values (member_at text ms))
 
 listed_back : (vs : List Data) → items_list (items_of vs) ≡ vs

@@ -15,7 +15,8 @@ use Rattle.plan.specs.Pools.Pools.{items_list, standard}
 use Rattle.plan.specs.declared.pool_limits.PoolLimits.{PoolLimits}
 use Rattle.plan.specs.Pools.Document.{PoolForm, entries, lists, pool_form, BreaksPool, other_name, no_list, other_entry, no_lists, no_list_at, BreaksForm, no_object, in_member, HasForm, integer_of, text_of, pools_of}
 use Rattle.suggest.specs.Suggested.Values.{all_integers, all_lengths}
-use Rattle.suggest.specs.Suggested.Document.{items_of, letters, suggested_any, suggested_integers, suggested_strings, with_member, with_entry, members_from, without_entry, usual_names, lists_member, texts_member, document_with, document_of}
+use Rattle.jtree.specs.MemberPlace.{with_member}
+use Rattle.suggest.specs.Suggested.Document.{items_of, letters, suggested_any, suggested_integers, suggested_strings, with_entry, members_from, without_entry, usual_names, lists_member, texts_member, document_with, document_of}
 use Rattle.suggest.specs.Suggested.Chosen.{chosen_names}
 use Rattle.suggest.specs.Suggested.Lists.{Entry}
 use Rattle.suggest.specs.Suggested.Varied.{Suggestions}

@@ -255,19 +255,19 @@ scalar_meets kind t all any one negated (tree.object ms) accepted h = absurd (no
 head_in : (v : Data) (ds : List Data) → is_in v (v ∷ ds) ≡ true
 head_in v ds = or_left (is_same v v) (is_in v ds) (own_same v)
 
-truth_listed : (P : Pools) (v : Data) → is_boolean v ≡ true → is_in v (scalars_of P) ≡ true
-truth_listed P (tree.boolean false) e = head_in (tree.boolean false) (tree.boolean true ∷ map (λ z. tree.integer z) P.integers ++ map (λ t. tree.text t) P.strings)
-truth_listed P (tree.boolean true) e = or_right (is_same (tree.boolean true) (tree.boolean false)) (is_in (tree.boolean true) (tree.boolean true ∷ map (λ z. tree.integer z) P.integers ++ map (λ t. tree.text t) P.strings))
+boolean_listed : (P : Pools) (v : Data) → is_boolean v ≡ true → is_in v (scalars_of P) ≡ true
+boolean_listed P (tree.boolean false) e = head_in (tree.boolean false) (tree.boolean true ∷ map (λ z. tree.integer z) P.integers ++ map (λ t. tree.text t) P.strings)
+boolean_listed P (tree.boolean true) e = or_right (is_same (tree.boolean true) (tree.boolean false)) (is_in (tree.boolean true) (tree.boolean true ∷ map (λ z. tree.integer z) P.integers ++ map (λ t. tree.text t) P.strings))
     (head_in (tree.boolean true) (map (λ z. tree.integer z) P.integers ++ map (λ t. tree.text t) P.strings))
-truth_listed P tree.null e = absurd (cc)
-truth_listed P (tree.integer z) e = absurd (cc)
-truth_listed P (tree.text s) e = absurd (cc)
-truth_listed P (tree.list ds) e = absurd (cc)
-truth_listed P (tree.object ms) e = absurd (cc)
+boolean_listed P tree.null e = absurd (cc)
+boolean_listed P (tree.integer z) e = absurd (cc)
+boolean_listed P (tree.text s) e = absurd (cc)
+boolean_listed P (tree.list ds) e = absurd (cc)
+boolean_listed P (tree.object ms) e = absurd (cc)
 
 without_choices : (P : Pools) (nullable : Bool) (description : Option (List ℕ)) (kind : ScalarKind) (cs : Validations) (v : Data) → (constraints_of cs).choices ≡ None → lists_itself (node nullable description (scalar kind cs)) ≡ true
     → accepts_scalar kind v ≡ true → is_in v (scalars_of P) ≡ true
-without_choices P nullable description Boolean cs v none itself accepted = truth_listed P v accepted
+without_choices P nullable description Boolean cs v none itself accepted = boolean_listed P v accepted
 without_choices P nullable description Integer cs v none itself accepted = absurd (let is : is_some {T = Items} None ≡ true = rw none at itself in cc)
 without_choices P nullable description String cs v none itself accepted = absurd (let is : is_some {T = Items} None ≡ true = rw none at itself in cc)
 without_choices P nullable description IntOrString cs v none itself accepted = absurd (let is : is_some {T = Items} None ≡ true = rw none at itself in cc)

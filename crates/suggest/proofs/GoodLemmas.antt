@@ -1,16 +1,13 @@
 -- The paths of the suggested document lead where they have to.
-use Rattle.std.proofs.Common.{◌≡◌, ◌≢◌, ◌⊎◌, ℕ, zero, suc, List, [], ◌∷◌, ◌++◌, ◌∙◌, Bool, true, false, Option, Some, None, All, Contains, map, take, refl, sym, ap, subst, inl, inr}
+use Rattle.std.proofs.Common.{◌≡◌, ◌≢◌, ◌⊎◌, ℕ, zero, suc, List, [], ◌∷◌, ◌++◌, ◌∙◌, Bool, true, Option, Some, None, All, Contains, map, take, refl, sym, ap, subst, inl, inr}
 use Rattle.std.specs.Prelude.{option_map, option_and_then, filter, not}
 use Rattle.std.specs.List.{fold}
-use Rattle.std.specs.Cmp.Lexicographic.{texts_ties}
-use Rattle.std.specs.Ordering.{is_eq}
-use Rattle.std.specs.declared.cmp.Ordering.TheVariants.{Equal}
 use Rattle.std.specs.Str.{bytes_eq}
 use Rattle.std.proofs.lemmas.Option.{same_Some, none-some}
 use Rattle.jtree.specs.Data.{Data, list, Members, no_members, member}
-use Rattle.jtree.specs.Order.{text_cmp}
 use Rattle.jtree.specs.Path.{member_at}
-use Rattle.jtree.specs.Internal.Lookups.{bool_cases, ordering_cases, same_name}
+use Rattle.jtree.specs.Internal.Lookups.{bool_cases, same_name}
+use Rattle.jtree.specs.Internal.MemberLaws.{with_member_at}
 use Rattle.jtree.specs.Internal.Rising.{Among, among_parts, index_of, contained}
 use Rattle.schema.specs.Document.Texts.{is_among}
 use Rattle.schema.specs.Nodes.Node.{Validations, Node, node, scalar, object, map as map_node, list as list_node, open_, Fields, IsNode}
@@ -25,7 +22,8 @@ use Rattle.plan.specs.Pools.PlanFault.{IsLeafPath, IsDeclaredPath, HasGoodPaths}
 use Rattle.plan.specs.Samples.Candidates.{sort_at}
 use Rattle.plan.specs.declared.pool_limits.PoolLimits.{PoolLimits}
 use Rattle.plan.specs.declared.sort.Sort.TheVariants.{Leaf}
-use Rattle.suggest.specs.Suggested.Document.{items_of, with_member, with_entry, members_from, without_entry, general_of, for_variation, suggestions_by, single, document_of, suggested_document}
+use Rattle.jtree.specs.MemberPlace.{with_member}
+use Rattle.suggest.specs.Suggested.Document.{items_of, with_entry, members_from, without_entry, general_of, for_variation, suggestions_by, single, document_of, suggested_document}
 use Rattle.suggest.specs.Suggested.LeafValues.{General}
 use Rattle.suggest.specs.Suggested.Lists.{Entry}
 use Rattle.suggest.specs.Suggested.Varied.{Suggestions, suggestions_below}
@@ -36,28 +34,13 @@ use Rattle.suggest.proofs.PathLemmas.{Under, IsLeafAt, IsNamedAt, lists_listed, 
 
 -- ---- names of members that are put in their place
 
-same_text : (l m : List ℕ) → text_cmp l m ≡ Equal → l ≡ m
-same_text l m h = same_name l m (texts_ties l m ∙ ap is_eq h)
-
 value_of_with : (l : List ℕ) (d : Data) (ms : Members) (k : List ℕ) (v : Data) → member_at k (with_member l d ms) ≡ Some v → ((l ≡ k) × (d ≡ v)) ⊎ (member_at k ms ≡ Some v)
-value_of_with l d no_members k v found = elim (bool_cases (bytes_eq k l)) [
-  | inl t ↦ inl (sym (same_name k l t), same_Some d v (rw t at found))
-  | inr f ↦ absurd (none-some v (rw f at found))
-]
-value_of_with l d (member m e ms) k v found = elim (ordering_cases (text_cmp l m)) [
-  | inl h ↦ elim (bool_cases (bytes_eq k l)) [
-    | inl t ↦ inl (sym (same_name k l t), same_Some d v (rw (h, t) at found))
-    | inr f ↦ inr (rw (h, f) at found)
-  ]
-  | inr (inl h) ↦ elim (bool_cases (bytes_eq k l)) [
-    | inl t ↦ inl (sym (same_name k l t), same_Some d v (rw (h, t) at found))
-    | inr f ↦ let g : bytes_eq k m ≡ false = subst (λ n. bytes_eq k n ≡ false) (same_text l m h) f in inr (rw g (rw (h, f) at found))
-  ]
-  | inr (inr h) ↦ elim (bool_cases (bytes_eq k m)) [
-    | inl t ↦ inr (rw t (rw (h, t) at found))
-    | inr g ↦ elim (value_of_with l d ms k v (rw (h, g) at found)) [ inl same ↦ inl same | inr has ↦ inr (rw g has) ]
-  ]
-]
+value_of_with l d ms k v found =
+    let front : member_at k (member l d ms) ≡ Some v = sym (with_member_at l d ms k) ∙ found in
+    elim (bool_cases (bytes_eq k l)) [
+      | inl t ↦ inl (sym (same_name k l t), same_Some d v (rw t at front))
+      | inr f ↦ inr (rw f at front)
+    ]
 
 -- an entry of this name gives this value
 pub record IsEntryOf (es : List Entry) (k : List ℕ) (v : Data) : Type 0 where

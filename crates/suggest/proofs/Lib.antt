@@ -3,8 +3,7 @@
 -- Objects without the paths that never occur: `WithoutLemmas` is about what the code leaves of them.
 -- What is found: `LeafValueLemmas` is about the values of a node, `VaryLemmas` about what is suggested around an object, `JudgingLemmas` about
 -- the first text that has a fault.
--- The document: `DocumentLemmas` is about lists of trees and members as the code makes them, `MemberLemmas` about members that are put
--- where they belong. `FormLemmas` says that pools are read from the document, and which. `PathLemmas` says where what is suggested stands in
+-- The document: `DocumentLemmas` is about lists of trees and members as the code makes them. `FormLemmas` says that pools are read from the document, and which. `PathLemmas` says where what is suggested stands in
 -- the schema, `RootLemmas` that the root is no leaf, and `GoodLemmas` that all paths of the document lead where they have to.
 -- The law `suggested_values_reach_scalars`: `FitLemmas` says that the integers have 64 bits, `ReachLemmas` which scalars the suggested
 -- values reach.
@@ -19,7 +18,6 @@ pub mod LeafValueLemmas
 pub mod VaryLemmas
 pub mod JudgingLemmas
 pub mod DocumentLemmas
-pub mod MemberLemmas
 pub mod FormLemmas
 pub mod PathLemmas
 pub mod RootLemmas

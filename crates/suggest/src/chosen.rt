@@ -1,12 +1,12 @@
 //! Values and names in the order in which they come, each once, and no more than so many.
 ghost use Rattle.std.specs.Prelude.{◌≡◌, IfOk, OnOk};
 ghost use Rattle.jtree.specs.View.{data_of};
-ghost use Rattle.schema.specs.Document.Texts.{is_among};
 ghost use Rattle.plan.specs.Samples.Over;
 ghost use Rattle.suggest.specs.View.{trees_of};
 ghost use Rattle.suggest.specs.Suggested.Chosen.{with_value, with_name, chosen_values};
 
 use jtree::{Text, Tree};
+use schema::is_among;
 use std::alloc::{AllocError, Global};
 
 /// The first of these values, each once, no more than `most`.
@@ -30,7 +30,7 @@ fn push_value(
     ensures { OnOk result (trees_of values.new.items ≡ with_value most (trees_of values.old.items) (data_of value.now)) }
 {
     if values.len() < most && !is_in(value, values) {
-        values.push(copy_of(alloc, value)?)?;
+        values.push(value.try_clone(alloc)?)?;
     }
     Ok(())
 }
@@ -56,27 +56,8 @@ pub(crate) fn push_name(
 ) -> Result<(), AllocError>
     ensures { OnOk result (names.new.items ≡ with_name most names.old.items name.now) }
 {
-    if names.len() < most && !is_text_among(name, names) {
+    if names.len() < most && !is_among(name, names) {
         names.push(Text::from_str(alloc, name)?)?;
     }
     Ok(())
-}
-
-/// Whether a text is one of these.
-fn is_text_among(text: &str, texts: &[Text]) -> bool
-    ensures { result ≡ is_among text.now texts.now }
-{
-    for other in texts {
-        if text == other.as_str() {
-            return true;
-        }
-    }
-    false
-}
-
-/// An equal tree.
-pub(crate) fn copy_of(alloc: Global, tree: &Tree) -> Result<Tree, AllocError>
-    ensures { IfOk result (λ t. t ≡ tree.now) }
-{
-    tree.copy(alloc).map_err(|_| AllocError)
 }

@@ -26,7 +26,7 @@ use crate::leaf_values::Hints;
 use crate::lists::{Site, add_lists};
 use crate::members::{list, text_list, with, with_lists};
 use crate::suggestions::{Entry, Suggestions};
-use crate::varying::{Variation, add_below, is_among};
+use crate::varying::{Variation, add_below, is_path_among};
 use crate::wanted::Wanted;
 use crate::without::objects_without;
 use jtree::{Members, Text, Tree};
@@ -255,7 +255,7 @@ fn kept_paths(alloc: Global, paths: &[Text], without: &[&str]) -> Result<Vec<Tex
 {
     let mut kept = Vec::new(alloc);
     for path in paths {
-        if !is_among(path.as_str(), without) {
+        if !is_path_among(path.as_str(), without) {
             kept.push(path.copy(alloc)?)?;
         }
     }

@@ -9,7 +9,7 @@ ghost use Rattle.suggest.specs.Internal.Parts.{general_of};
 ghost use Rattle.suggest.specs.Suggested.LeafValues;
 ghost use Rattle.suggest.specs.Suggested.LeafValues.{or_general, besides};
 
-use crate::chosen::{chosen, copy_of};
+use crate::chosen::chosen;
 use crate::formats::texts_of_format;
 use crate::general::{General, text};
 use jtree::Tree;
@@ -54,7 +54,7 @@ fn stored_values(alloc: Global, node: &Node, found: &[&Tree]) -> Result<Vec<Tree
     let mut values = Vec::new(alloc);
     for value in found {
         if takes(node, value) {
-            values.push(copy_of(alloc, value)?)?;
+            values.push(value.try_clone(alloc)?)?;
         }
     }
     Ok(values)
@@ -167,7 +167,7 @@ fn push_taken(
 {
     if let Some(value) = value {
         if takes(node, value) {
-            values.push(copy_of(alloc, value)?)?;
+            values.push(value.try_clone(alloc)?)?;
         }
     }
     Ok(())
@@ -245,7 +245,7 @@ fn push_few(
             return Ok(());
         }
         if takes(node, value) {
-            values.push(copy_of(alloc, value)?)?;
+            values.push(value.try_clone(alloc)?)?;
             left -= 1;
         }
     }

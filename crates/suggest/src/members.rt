@@ -1,18 +1,16 @@
 //! Members of documents, each put where its name belongs.
-ghost use Rattle.std.specs.Prelude.{◌≡◌, ◌≤◌, ◌<◌, IfOk, IfErr, length, map, slice_set};
-ghost use Rattle.std.specs.List.{fold, insert};
+ghost use Rattle.std.specs.Prelude.{◌≡◌, IfOk, map};
+ghost use Rattle.std.specs.List.{fold};
 ghost use Rattle.jtree.specs.Data;
-ghost use Rattle.jtree.specs.View.{data_of, members_of};
-ghost use Rattle.jtree.specs.declared.value.Member as MemberSpec;
+ghost use Rattle.jtree.specs.MemberPlace.{with_member};
+ghost use Rattle.jtree.specs.View.{data_of};
 ghost use Rattle.suggest.specs.View.{trees_of};
 ghost use Rattle.suggest.specs.Internal.Parts.{entries_of};
-ghost use Rattle.suggest.specs.Suggested.Document.{items_of, with_member, with_entry};
+ghost use Rattle.suggest.specs.Suggested.Document.{items_of, with_entry};
 
-use crate::chosen::copy_of;
 use crate::suggestions::Entry;
-use jtree::{Items, Member, Members, Text, Tree};
+use jtree::{Items, Members, Text, Tree};
 use std::alloc::{AllocError, Global};
-use std::cmp::Ordering;
 
 /// The members with this one, which takes the place of one of its name.
 pub(crate) fn with(
@@ -23,42 +21,9 @@ pub(crate) fn with(
 ) -> Result<Members, AllocError>
     ensures { IfOk result (λ ms. ms ≡ with_member name.now (data_of tree) members) }
 {
-    tree.reveal_invariant();
-    let member = Member {
-        name: Text::from_str(alloc, name)?,
-        tree,
-    };
-    let Members { members } = members;
-    Ok(Members {
-        members: put(members, member)?,
-    })
-}
-
-/// The members in order with this one, which takes the place of one of its name.
-fn put(members: Vec<Member>, member: Member) -> Result<Vec<Member>, AllocError>
-    ensures { IfOk result (λ ms. members_of ms.items ≡ with_member member.name (data_of member.tree) (members_of members.items)) }
-{
     let mut members = members;
-    match place_of(&members, member.name.as_str()) {
-        Ok(at) => members[at] = member,
-        Err(at) => members.insert(at, member)?,
-    }
+    members.insert(Text::from_str(alloc, name)?, tree)?;
     Ok(members)
-}
-
-/// Where the member of this name is, or, as `Err`, where it belongs.
-fn place_of(members: &[Member], name: &str) -> Result<usize, usize>
-    ensures found { IfOk result (λ at. (at < length members.now) × ((m : MemberSpec.Member) → m.name ≡ name.now → with_member m.name (data_of m.tree) (members_of members.now) ≡ members_of (slice_set members.now at m))) }
-    ensures missing { IfErr result (λ at. (at ≤ length members.now) × ((m : MemberSpec.Member) → m.name ≡ name.now → with_member m.name (data_of m.tree) (members_of members.now) ≡ members_of (insert members.now at m))) }
-{
-    for (at, member) in members.iter().enumerate() {
-        match name.cmp(member.name.as_str()) {
-            Ordering::Less => return Err(at),
-            Ordering::Equal => return Ok(at),
-            Ordering::Greater => {}
-        }
-    }
-    Err(members.len())
 }
 
 /// The members with a list of values for each of these paths.
@@ -84,7 +49,7 @@ pub(crate) fn list(alloc: Global, trees: &[Tree]) -> Result<Tree, AllocError>
     let mut items = Vec::with_capacity(alloc, trees.len())?;
     for tree in trees {
         tree.reveal_invariant();
-        items.push(copy_of(alloc, tree)?)?;
+        items.push(tree.try_clone(alloc)?)?;
     }
     Ok(Tree::List(Items { items }))
 }

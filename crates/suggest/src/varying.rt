@@ -8,7 +8,6 @@ ghost use Rattle.suggest.specs.Internal.Parts.{suggestions_of, lists_there, vari
 ghost use Rattle.suggest.specs.Suggested.Varied.{both, as_in_object, always_present, begins_with};
 ghost use Rattle.suggest.specs.Suggested.Varied;
 
-use crate::chosen::copy_of;
 use crate::general::General;
 use crate::leaf_values::under;
 use crate::lists::{Site, add_lists, field_hints};
@@ -37,7 +36,7 @@ fn add_at(
 ) -> Result<(), AllocError>
     ensures { OnOk result (suggestions_of suggestions.new ≡ both (suggestions_of suggestions.old) (varied_at variation.now site.now (node_of node.now) (tree_at object.entry))) }
 {
-    if is_among(site.path, variation.varied) {
+    if is_path_among(site.path, variation.varied) {
         return add_varied(alloc, variation.general, site, node, object, suggestions);
     }
     if !leads_on(site.path, variation.varied) {
@@ -119,7 +118,7 @@ fn add_as_in_object(
     let mut values = Vec::new(alloc);
     if let Some(value) = object {
         add_present(alloc, path, suggestions)?;
-        values.push(copy_of(alloc, value)?)?;
+        values.push(value.try_clone(alloc)?)?;
     }
     let path = Text::from_str(alloc, path)?;
     suggestions.fixed.push(Entry { path, values })?;
@@ -135,7 +134,7 @@ fn add_present(alloc: Global, path: &str, suggestions: &mut Suggestions) -> Resu
 }
 
 /// Whether a text is one of these.
-pub(crate) fn is_among(text: &str, texts: &[&str]) -> bool
+pub(crate) fn is_path_among(text: &str, texts: &[&str]) -> bool
     ensures { result ≡ Texts.is_among text.now (texts_at texts.now) }
 {
     for other in texts {

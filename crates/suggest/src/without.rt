@@ -8,8 +8,7 @@ ghost use Rattle.stored.specs.Internal.Defaulting.{joined};
 ghost use Rattle.suggest.specs.Internal.Parts.{place_at};
 ghost use Rattle.suggest.specs.Suggested.Without.{place_of_field, left_at, left_member, taken_out, members_left, items_left};
 
-use crate::chosen::copy_of;
-use crate::varying::is_among;
+use crate::varying::is_path_among;
 use explain::{Step, path_below};
 use jtree::{Items, Member, Members, Text, Tree};
 use schema::{Fields, Node, Sort};
@@ -57,7 +56,7 @@ fn tree_without(
             let items = items_without(alloc, without, &below, &list.item.node, items)?;
             Ok(Tree::List(items))
         }
-        _ => copy_of(alloc, tree),
+        _ => tree.try_clone(alloc),
     }
 }
 
@@ -98,7 +97,7 @@ fn field_without(
             return part_without(alloc, without, &below, &field.node, &member.tree);
         }
     }
-    Ok(Some(copy_of(alloc, &member.tree)?))
+    Ok(Some(member.tree.try_clone(alloc)?))
 }
 
 /// Copies of the members of a map, whose values have this path.
@@ -151,7 +150,7 @@ fn part_without(
 ) -> Result<Option<Tree>, AllocError>
     ensures { IfOk result (λ t. option_map (λ d. data_of d) t ≡ left_at (texts_at without.now) (Some (place_at path.now (node_of node.now))) (λ P. taken_out (texts_at without.now) P.path P.node (data_of tree.now)) (data_of tree.now)) }
 {
-    if is_among(path, without) {
+    if is_path_among(path, without) {
         return Ok(None);
     }
     Ok(Some(tree_without(alloc, without, path, node, tree)?))

@@ -1,16 +1,11 @@
 -- The envelope that a sample is printed with: the members `apiVersion`, `kind` and `metadata`, an object of `name` alone
 -- (Kubernetes API conventions, "Resources").
-use Rattle.std.specs.Prelude.{ℕ, List, codes}
-use Rattle.std.specs.Ordering.{match_ordering}
+use Rattle.std.specs.Prelude.{codes}
 use Rattle.jtree.specs.Data.{Data, text, object, Members, no_members, member}
-use Rattle.jtree.specs.Order.{text_cmp}
+use Rattle.jtree.specs.MemberPlace.{with_member}
 use Rattle.crdx.specs.declared.walk.line.Envelope.{Envelope}
 
--- the members with a tree under a name, in the order of the names
-abbrev pub with_member : List ℕ → Data → Members → Members
-with_member k d no_members = member k d no_members
-with_member k d (member l e ms) = match_ordering (text_cmp k l) (member k d (member l e ms)) (member k d ms) (member l e (with_member k d ms))
-
+-- the members with these put in, the last one first
 abbrev pub with_members : Members → Members → Members
 with_members no_members ms = ms
 with_members (member k d ps) ms = with_member k d (with_members ps ms)

@@ -6,7 +6,8 @@ use Rattle.schema.specs.Nodes.Node.{Node, Fields}
 use Rattle.plan.specs.declared.pool_limits.PoolLimits.{PoolLimits}
 use Rattle.suggest.specs.View.{trees_of, texts_at, tree_at}
 use Rattle.suggest.specs.Suggested.Chosen.{chosen_names}
-use Rattle.suggest.specs.Suggested.Document.{items_of, with_member, members_from, without_entry, usual_names, document_with, single}
+use Rattle.jtree.specs.MemberPlace.{with_member}
+use Rattle.suggest.specs.Suggested.Document.{items_of, members_from, without_entry, usual_names, document_with, single}
 use Rattle.suggest.specs.Suggested.Document as document
 use Rattle.suggest.specs.Suggested.LeafValues.{General}
 use Rattle.suggest.specs.Suggested.Lists.{Entry, lists_of_fields, names_of_fields}

@@ -2,10 +2,8 @@
 -- project's own).
 use Rattle.std.specs.Prelude.{◌≤◌, ◌<◌, ℕ, List, [], ◌∷◌, ◌++◌, true, false, Option, Some, None, map, filter, take, length, not, codes}
 use Rattle.std.specs.List.{repeat, fold}
-use Rattle.std.specs.declared.cmp.Ordering.{Ordering}
-use Rattle.std.specs.declared.cmp.Ordering.TheVariants.{Less, Equal, Greater}
 use Rattle.jtree.specs.Data.{Data, integer, text, list, object, Items, no_items, item, Members, no_members, member, depth}
-use Rattle.jtree.specs.Order.{text_cmp}
+use Rattle.jtree.specs.MemberPlace.{with_member}
 use Rattle.jtree.specs.Reads.{most_bytes, most_depth}
 use Rattle.jtree.specs.Text.{compact}
 use Rattle.schema.specs.Document.Texts.{is_among}
@@ -51,16 +49,6 @@ abbrev pub for_variation : General → General
 for_variation G = record G { beside = true }
 
 -- ---- lists under names
-
--- a member put into members that are in order; it takes the place of one of its name
-abbrev pub placed : Ordering → List ℕ → Data → List ℕ → Data → Members → Members → Members
-placed Less k d l e ms rest = member k d (member l e ms)
-placed Equal k d l e ms rest = member k d ms
-placed Greater k d l e ms rest = member l e rest
-
-abbrev pub with_member : List ℕ → Data → Members → Members
-with_member k d no_members = member k d no_members
-with_member k d (member l e ms) = placed (text_cmp k l) k d l e ms (with_member k d ms)
 
 abbrev pub with_entry : Members → Entry → Members
 with_entry ms e = with_member e.path (list (items_of e.values)) ms

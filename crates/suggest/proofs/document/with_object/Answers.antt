@@ -1,7 +1,7 @@
 use Rattle.std.proofs.Common.{◌≡◌, ◌∙◌, IfOk, sym, subst, arith, eq-eqb}
 use Rattle.std.specs.Prelude.{vec_len}
 use Rattle.jtree.specs.Data.{object}
-use Rattle.suggest.specs.Suggested.Document.{with_member}
+use Rattle.jtree.specs.MemberPlace.{with_member}
 use Rattle.suggest.specs.Internal.Parts.{with_lists_member}
 use Rattle.suggest.proofs.DocumentLemmas.{some_lists}
 use Rattle.suggest.proofs.document.with_object.Goals as goal

@@ -5,7 +5,8 @@ use Rattle.schema.specs.Document.Texts.{is_among}
 use Rattle.suggest.specs.View.{trees_of, texts_at}
 use Rattle.suggest.specs.Internal.Parts.{general_of, suggestions_of, entries_of, with_lists_member, with_texts_member}
 use Rattle.suggest.specs.Suggested.Chosen.{chosen_names}
-use Rattle.suggest.specs.Suggested.Document.{items_of, with_member, members_from, without_entry, usual_names}
+use Rattle.jtree.specs.MemberPlace.{with_member}
+use Rattle.suggest.specs.Suggested.Document.{items_of, members_from, without_entry, usual_names}
 use Rattle.suggest.proofs.DocumentLemmas.{in_place}
 use Rattle.suggest.proofs.document.write_document.Goals as goal
 

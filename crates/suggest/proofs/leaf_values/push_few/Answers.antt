@@ -7,7 +7,7 @@ use Rattle.suggest.specs.View.{trees_of}
 use Rattle.suggest.specs.Suggested.LeafValues.{takes, few}
 use Rattle.suggest.proofs.LeafValueLemmas.{few_taken, few_passed}
 use Rattle.suggest.proofs.leaf_values.push_few.Goals as goal
-use Rattle.suggest.proofs.leaf_values.push_few.Goals.{then-takes+in_ok-copy_of+in_ok-push, else-takes}
+use Rattle.suggest.proofs.leaf_values.push_few.Goals.{then-takes+in_ok-try_clone+in_ok-push, else-takes}
 
 pub loop-value-preserved : goal.loop-value-preserved
 loop-value-preserved c =
@@ -21,9 +21,9 @@ loop-value-preserved c =
     let inv : acc ++ take c.loop-value.left (filter T (data_of x ∷ rest)) ≡ trees_of c.args.values.now.items ++ take few (filter T (trees_of xs)) =
     ap (λ ds. acc ++ take c.loop-value.left (filter T ds)) (sym step) ∙ c.loop-value.invariant in
     elim c.if-takes.branch [
-      | then-takes+in_ok-copy_of+in_ok-push w ↦
+      | then-takes+in_ok-try_clone+in_ok-push w ↦
           let t : T (data_of x) ≡ true = sym c.takes.ensures ∙ w.if-takes.true in
-          let made : trees_of w.push.new.self.items ≡ acc ++ data_of x ∷ [] = ap trees_of w.in_ok-push.ensures.items ∙ (map_push data_of c.loop-value.values.items w.in_ok-copy_of.field-0 ∙ ap (λ y. acc ++ data_of y ∷ []) w.in_ok-copy_of.ensures) in
+          let made : trees_of w.push.new.self.items ≡ acc ++ data_of x ∷ [] = ap trees_of w.in_ok-push.ensures.items ∙ (map_push data_of c.loop-value.values.items w.in_ok-try_clone.field-0 ∙ ap (λ y. acc ++ data_of y ∷ []) w.in_ok-try_clone.ensures) in
           ap (λ v. trees_of v.items ++ take c.if-takes.left (filter T rest)) w.values-is ∙ (ap (λ ds. ds ++ take c.if-takes.left (filter T rest)) made ∙ (few_taken T acc (data_of x) rest c.loop-value.left c.if-takes.left t (omega (arith, w.left-is)) ∙ inv))
       | else-takes w ↦
           let f : T (data_of x) ≡ false = sym c.takes.ensures ∙ w.if-takes.false in

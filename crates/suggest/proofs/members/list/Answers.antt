@@ -13,11 +13,11 @@ loop-tree-preserved c =
     let xs = c.args.trees.now in
     let i = c.loop-tree.tree-index in
     let x = c.tree-item.result in
-    let new = c.in_ok-copy_of.field-0 in
+    let new = c.in_ok-try_clone.field-0 in
     let inv = c.loop-tree.invariant in
-    let read = c.in_ok-copy_of.ensures ∙ c.tree-item.is in
+    let read = c.in_ok-try_clone.ensures ∙ c.tree-item.is in
     record {
-      trees = rw c.in_ok-push.ensures.items (one_tree_more c.loop-tree.items.items new inv.trees (subst (λ t. IsTree (data_of t)) (sym c.in_ok-copy_of.ensures) c.reveal_invariant.ensures));
+      trees = rw c.in_ok-push.ensures.items (one_tree_more c.loop-tree.items.items new inv.trees (subst (λ t. IsTree (data_of t)) (sym c.in_ok-try_clone.ensures) c.reveal_invariant.ensures));
       are = ap trees_of c.in_ok-push.ensures.items ∙ (map_push data_of c.loop-tree.items.items new ∙ ((λ j. inv.are j ++ data_of (read j) ∷ []) ∙ sym (map_more data_of xs i x (omega arith))));
     }
 

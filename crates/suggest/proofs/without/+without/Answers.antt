@@ -85,5 +85,5 @@ items_without-returns t c =
 
 pub part_without-returns : goal.part_without-returns
 part_without-returns t c =
-    let stays = sym c.is_among.ensures ∙ c.if-is_among.false in
+    let stays = sym c.is_path_among.ensures ∙ c.if-is_path_among.false in
     rw stays (ap Some c.in_ok-tree_without.ensures)

@@ -1,6 +1,0 @@
-use Rattle.std.proofs.Common.{◌≡◌, drop}
-use Rattle.schema.specs.Document.Texts.{is_among}
-use Rattle.suggest.proofs.chosen.is_text_among.Given as goal
-
-abbrev pub invariant-loop-other : goal.invariant-loop-other
-invariant-loop-other l = is_among l.text (drop l.other-index l.texts) ≡ is_among l.text l.texts
