@@ -36,11 +36,11 @@ none_explained raw ([], are, each) p r is = contained [] _ (are.all p r is)
 none_explained raw (b ∷ breaks, are, each) p r is = absurd each
 
 module _ (has : Documents) (arguments : CommonArguments) (raw : Data) (said : List ℕ) (a : Answer) (asked : IsRequestedSchema has arguments raw)
-    (none : said ≡ [] → (a.status ≡ 0) × (string_bytes a.text ≡ codes "structural\n")) (some : said ≢ [] → (a.status ≡ 1) × (string_bytes a.text ≡ said)) where
-  unbroken_answer : said ≡ [] → IsUnbroken (IsBroken raw) → IsAnswer has (Check arguments) a.status (string_bytes a.text)
+    (none : said ≡ [] → (a.status ≡ 0) × (string_bytes a.out ≡ codes "structural\n")) (some : said ≢ [] → (a.status ≡ 1) × (string_bytes a.out ≡ said)) where
+  unbroken_answer : said ≡ [] → IsUnbroken (IsBroken raw) → IsAnswer has (Check arguments) a.status (string_bytes a.out)
   unbroken_answer empty unbroken = let is = none empty in rw (is.0, is.1) (structural arguments (raw, record { asked = asked; unbroken = unbroken }))
 
-  pub check_answer : (why : Bool) → arguments.why ≡ why → IsCheckText raw why said → IsAnswer has (Check arguments) a.status (string_bytes a.text)
+  pub check_answer : (why : Bool) → arguments.why ≡ why → IsCheckText raw why said → IsAnswer has (Check arguments) a.status (string_bytes a.out)
   check_answer true why ([], are, same) = unbroken_answer same (none_explained raw are)
   check_answer true why (e ∷ found, are, same) =
       let is = some (λ empty. some_line (reported e.violation) (empty_left _ _ (empty_left _ _ (sym same ∙ empty)))) in

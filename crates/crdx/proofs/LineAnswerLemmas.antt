@@ -18,6 +18,8 @@ use Rattle.crdx.specs.declared.arguments.request.Request.TheVariants.{ObjectLine
 use Rattle.crdx.proofs.RunLemmas.{result_of_nothing, result_of_input}
 use Rattle.crdx.specs.declared.arguments.request.ObjectCommand.{ObjectCommand}
 use Rattle.crdx.specs.declared.running.causes.Cause.{Cause}
+use Rattle.crdx.specs.declared.running.ended.Ended.{Ended}
+use Rattle.crdx.specs.declared.running.refusal.Refusal.{Refusal}
 use Rattle.crdx.specs.declared.running.causes.Cause.TheVariants.{Write, NoMemory, Read}
 
 module _ (N : Node) (command : ObjectCommand) where
@@ -163,14 +165,14 @@ module _ (run : Effects) (arguments : ObjectArguments) where
     result_of_lines_cause _ code why is = absurd why
 
   -- all lines were answered, or it was said why not
-  pub result_of_lines : (r : Result ℕ Cause) (code : ℕ)
-      → IfOk r (λ status. (N : Node) × IsRequestedRoot run.documents arguments.common N × (lines : List (List ℕ)) × (text : List ℕ)
-      × AreAnswered (lines_of run arguments) N arguments.command lines [] status text × Appends run.output_before run.output text)
-      → OnOk r (run.failed_writes ≡ run.failed_writes_before) → IfErr r (IsObjectsCause run arguments)
-      → IfOk r (λ status. code ≡ status) → IfErr r (λ cause. (code ≡ status cause) ⊎ (code ≡ 5)) → IsRunResult run (ObjectLines arguments) code
-  result_of_lines (Ok done) code (N, root, lines, text, answered, out) unfailed why is said = rw is (on_these N root done (all_answered lines done text answered out unfailed))
-  result_of_lines (Err cause) code answered unfailed (inl (input, nothing)) is said = result_of_input run (ObjectLines arguments) cause code input nothing said
-  result_of_lines (Err cause) code answered unfailed (inr (N, root, why)) is said = result_of_lines_cause N root cause code why said
+  pub result_of_lines : (r : Result Ended Refusal) (code : ℕ)
+      → IfOk r (λ ended. (N : Node) × IsRequestedRoot run.documents arguments.common N × (lines : List (List ℕ)) × (text : List ℕ)
+      × AreAnswered (lines_of run arguments) N arguments.command lines [] ended.status text × Appends run.output_before run.output text)
+      → OnOk r (run.failed_writes ≡ run.failed_writes_before) → IfErr r (λ why. IsObjectsCause run arguments why.cause)
+      → IfOk r (λ ended. code ≡ ended.status) → IfErr r (λ why. (code ≡ status why.cause) ⊎ (code ≡ 5)) → IsRunResult run (ObjectLines arguments) code
+  result_of_lines (Ok ended) code (N, root, lines, text, answered, out) unfailed why is said = rw is (on_these N root ended.status (all_answered lines ended.status text answered out unfailed))
+  result_of_lines (Err r) code answered unfailed (inl (input, nothing)) is said = result_of_input run (ObjectLines arguments) r.cause code input nothing said
+  result_of_lines (Err r) code answered unfailed (inr (N, root, why)) is said = result_of_lines_cause N root r.cause code why said
 
 -- a line that is longer than this
 pub long_line : (n : ℕ) → (line : List ℕ) × (n < length line)

@@ -31,7 +31,7 @@ no_fault Has (f ∷ fs, are, same) path t is = cc
 
 -- the line of a body with its envelope
 abbrev pub IsPrinted : Data → Members → Answer → Type 0
-IsPrinted body envelope a = (a.status ≡ 0) × IsTree body × ((whole : Data) × IsJoined body envelope whole × (string_bytes a.text ≡ line None whole))
+IsPrinted body envelope a = (a.status ≡ 0) × IsTree body × ((whole : Data) × IsJoined body envelope whole × (string_bytes a.out ≡ line None whole))
 
 module _ (N : Node) (document : Data) where
   pub valid_answer : (strict : Bool) (v : Data) (faults : List Fault) → ((M : Node) (w : Data) → IsStrictlyValid M w ↔ (IsValid M w × IsPruned M w w)) → body_of document ≡ v → AreFound strict N v faults
@@ -53,12 +53,12 @@ module _ (N : Node) (document : Data) where
       subst (λ ts. IsObjectAnswer N document (Validate true) 1 (fault_lines ts)) (sym same) (strictly_faulty (g ∷ fs) (subst (λ w. AreFailures (HasStrictFault N w) (g ∷ fs)) (sym is) are) (λ e. cc))
 
   pub pruned_answer : (v w : Data) (parts : Members) (a : Answer) → v ≡ body_of document → parts ≡ envelope_in document → IsPruned N v w
-      → IsPrinted w parts a → IsObjectAnswer N document Prune a.status (string_bytes a.text)
+      → IsPrinted w parts a → IsObjectAnswer N document Prune a.status (string_bytes a.out)
   pruned_answer v w parts a body envelope is said =
       rw (said.0, said.2.2) (pruned w said.2.0 (subst (λ u. IsPruned N u w) body is) said.1 (subst (λ ps. IsJoined w ps said.2.0) envelope said.2.1))
 
   pub completed_answer : (v w : Data) (parts : Members) (a : Answer) → v ≡ body_of document → parts ≡ envelope_in document → IsCompleted N v w
-      → IsPrinted w parts a → IsObjectAnswer N document Default a.status (string_bytes a.text)
+      → IsPrinted w parts a → IsObjectAnswer N document Default a.status (string_bytes a.out)
   completed_answer v w parts a body envelope is said =
       rw (said.0, said.2.2) (completed w said.2.0 (subst (λ u. IsCompleted N u w) body is) said.1 (subst (λ ps. IsJoined w ps said.2.0) envelope said.2.1))
 

@@ -24,6 +24,7 @@ use Rattle.crdx.specs.declared.arguments.request.PoolsArguments.{PoolsArguments}
 use Rattle.crdx.specs.declared.arguments.request.Request.TheVariants.{SuggestPools}
 use Rattle.crdx.specs.declared.running.answer.Answer.{Answer}
 use Rattle.crdx.specs.declared.running.causes.Cause.{Cause}
+use Rattle.crdx.specs.declared.running.refusal.Refusal.{Refusal}
 use Rattle.crdx.specs.declared.running.causes.Cause.TheVariants.{Read, Document, Line, NoMemory}
 use Rattle.crdx.proofs.RunLemmas.{result_of_input, result_of_nothing}
 use Rattle.crdx.proofs.ObjectInputLemmas.{objects_before, inputs_before, input_cause_as}
@@ -71,21 +72,21 @@ module _ (run : Effects) (arguments : PoolsArguments) (nothing : WritesNothing r
 module _ (run : Effects) (arguments : PoolsArguments) where
   -- the document is out, or standard output failed after a beginning of it
   result_of_written : (answer : Answer) (code : ℕ) (raw : Data) (N : Node) (w : Wanted) → answer.status ≡ 0 → IsPoolsRequest run.documents run.lines arguments raw N w
-      → string_bytes answer.text ≡ pools_line arguments raw N w → IsWritten answer run.output_before run.output run.failed_writes_before run.failed_writes code
+      → string_bytes answer.out ≡ pools_line arguments raw N w → IsWritten answer run.output_before run.output run.failed_writes_before run.failed_writes code
       → IsRunResult run (SuggestPools arguments) code
   result_of_written answer code raw N w done asked is (inl (same, out, unfailed)) =
       rw (same, done) (on_objects arguments 0 refl (suggested raw N w asked (subst (Appends run.output_before run.output) is out) unfailed))
   result_of_written answer code raw N w done asked is (inr (either, failed, (n, out))) =
       on_objects arguments code refl (unwritten raw N w code asked either failed n (subst (λ t. Appends run.output_before run.output (take n t)) is out))
 
-  pub result_of_pools : (r : Result Answer Cause) (code : ℕ) → IfOk r (λ a. a.status ≡ 0)
-      → IfOk r (λ a. (raw : Data) × (N : Node) × (w : Wanted) × IsPoolsRequest run.documents run.lines arguments raw N w × (string_bytes a.text ≡ pools_line arguments raw N w))
-      → IfErr r (IsPoolsRequestCause run.documents run.lines run.failed_reads_before run.failed_reads arguments)
+  pub result_of_pools : (r : Result Answer Refusal) (code : ℕ) → IfOk r (λ a. a.status ≡ 0)
+      → IfOk r (λ a. (raw : Data) × (N : Node) × (w : Wanted) × IsPoolsRequest run.documents run.lines arguments raw N w × (string_bytes a.out ≡ pools_line arguments raw N w))
+      → IfErr r (λ why. IsPoolsRequestCause run.documents run.lines run.failed_reads_before run.failed_reads arguments why.cause)
       → IfOk r (λ a. IsWritten a run.output_before run.output run.failed_writes_before run.failed_writes code)
-      → IfErr r (λ cause. (code ≡ status cause) ⊎ (code ≡ 5)) → OnErr r (Keeps run.output_before run.output) → OnErr r (run.failed_writes ≡ run.failed_writes_before)
+      → IfErr r (λ why. (code ≡ status why.cause) ⊎ (code ≡ 5)) → OnErr r (Keeps run.output_before run.output) → OnErr r (run.failed_writes ≡ run.failed_writes_before)
       → IsRunResult run (SuggestPools arguments) code
   result_of_pools (Ok answer) code done (raw, N, w, asked, is) why written said kept unfailed = result_of_written answer code raw N w done asked is written
-  result_of_pools (Err cause) code done answered why written said kept unfailed = result_of_refusal run arguments (record { kept = kept; unfailed = unfailed }) cause code why said
+  result_of_pools (Err r) code done answered why written said kept unfailed = result_of_refusal run arguments (record { kept = kept; unfailed = unfailed }) r.cause code why said
 
 -- ---- of inputs that were at hand before
 
@@ -110,3 +111,14 @@ pools_line_as arguments raw N limits objects others varied varied' without witho
     ∙ ap (λ x. pools_line arguments raw N (record { objects = map data_of x; varied = map (λ s. s.now) varied'; without = map (λ s. s.now) without' })) os
     ∙ ap (λ x. pools_line arguments raw N (record { objects = map data_of objects; varied = map (λ s. s.now) x; without = map (λ s. s.now) without' })) vs
     ∙ ap (λ x. pools_line arguments raw N (record { objects = map data_of objects; varied = map (λ s. s.now) varied; without = map (λ s. s.now) x })) ws
+
+-- why none is suggested, as the code asks for it
+pub suggest_fault_as : (arguments : PoolsArguments) (raw : Data) (N : Node) (limits : PoolLimits) (objects others : List Tree) (varied varied' without without' : List (Bor (List ℕ))) (fault : SuggestFault)
+    → limits ≡ pool_limits_of arguments.common → others ≡ objects → varied' ≡ varied → without' ≡ without
+    → IsSuggestFault limits raw N (record { objects = map data_of others; varied = map (λ s. s.now) varied'; without = map (λ s. s.now) without' }) fault
+    → IsSuggestFault (pool_limits_of arguments.common) raw N (record { objects = map data_of objects; varied = map (λ s. s.now) varied; without = map (λ s. s.now) without }) fault
+suggest_fault_as arguments raw N limits objects others varied varied' without without' fault same os vs ws is =
+    subst (λ x. IsSuggestFault (pool_limits_of arguments.common) raw N (record { objects = map data_of objects; varied = map (λ s. s.now) varied; without = map (λ s. s.now) x }) fault) ws
+    (subst (λ x. IsSuggestFault (pool_limits_of arguments.common) raw N (record { objects = map data_of objects; varied = map (λ s. s.now) x; without = map (λ s. s.now) without' }) fault) vs
+    (subst (λ x. IsSuggestFault (pool_limits_of arguments.common) raw N (record { objects = map data_of x; varied = map (λ s. s.now) varied'; without = map (λ s. s.now) without' }) fault) os
+    (subst (λ l. IsSuggestFault l raw N (record { objects = map data_of others; varied = map (λ s. s.now) varied'; without = map (λ s. s.now) without' }) fault) same is)))

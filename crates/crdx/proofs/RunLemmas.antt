@@ -1,7 +1,6 @@
 -- How the causes of a run and its status go together with what is asked of the documents at hand.
-use Rattle.std.proofs.Common.{◌≡◌, ◌≢◌, ◌⊎◌, ◌≤◌, ◌<◌, ℕ, List, [], ◌∷◌, Option, Some, None, Bor, Ok, Err, refl, subst, inl, inr, take, map, string_bytes, IsSomeAnd, Bool, true, arith, length, append-nil, ◌∙◌}
-use Rattle.std.specs.Global.{Global}
-use Rattle.std.specs.Prelude.{IfSome, IfOk, IfErr, OnOk, OnErr, Result, String}
+use Rattle.std.proofs.Common.{◌≡◌, ◌≢◌, ◌⊎◌, ◌≤◌, ◌<◌, ℕ, List, [], ◌∷◌, Option, Some, None, Bor, Ok, Err, refl, sym, subst, inl, inr, take, map, string_bytes, IsSomeAnd, Bool, true, arith, length, append-nil, ◌∙◌}
+use Rattle.std.specs.Prelude.{IfSome, IfOk, IfErr, OnErr, Result}
 use Rattle.cover.specs.Cover.{objects_of}
 use Rattle.std.specs.Io.KnownBytes.{Appends, Keeps}
 use Rattle.jtree.specs.Data.{Data}
@@ -16,17 +15,18 @@ use Rattle.schema.specs.Document.ReadFault.{IsReadFault}
 use Rattle.schema.specs.declared.fault.SFault.{SFault}
 use Rattle.schema.specs.declared.fault.SFault.TheVariants as s
 use Rattle.schema.specs.declared.violation.Violation.{Violation}
-use Rattle.crdx.specs.Program.RunResult.{Effects, WritesNothing, IsRunResult, answered, refused, read_failed, write_failed, no_memory, IsInputRefused, IsAnswer, fields, object, samples, covers, no_sample, no_cover, HasBreaks, IsCutByMemory, IsCutByWrite}
+use Rattle.crdx.specs.Program.RunResult.{Effects, WritesNothing, IsRunResult, answered, refused, read_failed, write_failed, no_memory, IsInputRefused, IsPlanRefused, IsAnswer, fields, object, samples, covers, no_sample, no_samples, no_cover, HasBreaks, IsCutByMemory, IsCutByWrite}
 use Rattle.crdx.specs.Output.Line.{lines}
 use Rattle.crdx.specs.Output.PartialOutput.{IsPartialOutput}
 use Rattle.crdx.specs.Output.Walk.{WritesPage}
-use Rattle.crdx.specs.Program.Requested.{limits_of, pool_limits_of, total_of, IsRequested, IsRequestedCrd, IsRequestedSchema, IsRequestedRoot, HasAcceptedSchema, IsCrdRefused, ArePools, AreRootAndPools}
+use Rattle.crdx.specs.Program.Requested.{limits_of, pool_limits_of, total_of, IsRequested, IsRequestedWalk, IsRequestedCrd, IsRequestedSchema, IsRequestedRoot, HasAcceptedSchema, IsCrdRefused, ArePools, AreRootAndPools}
+use Rattle.crdx.specs.declared.inputs.InputName.{InputName}
 use Rattle.crdx.specs.Program.Documents.{Documents, file_name, AreAmong}
 use Rattle.crdx.specs.Internal.ExitStatus.{status, cause_of_reading, cause_of_refusal, cause_of_pools, cause_of_walk, IsWritten}
-use Rattle.crdx.specs.Internal.Cause.{IsReadFailure, IsReadCause, IsBrokenCause, IsSchemaCause, IsPoolsCause, IsPlanCause, IsTextCause, IsSamplingCause, IsFieldCause, IsObjectCause, IsDocumentCause, IsInputCause, IsSampleCause, IsSampleResult, IsWalkCause, IsCoveringCause, IsCoverCause, IsCoverResult}
+use Rattle.crdx.specs.Internal.Cause.{IsReadFailure, IsReadCause, IsBrokenCause, IsSchemaCause, IsPoolsCause, IsPlanCause, IsTextCause, IsAfterCause, IsOfPlan, IsRequestedPlanCause, IsFieldCause, IsObjectCause, IsDocumentCause, IsInputCause, IsSampleCause, IsSampleResult, IsWalkCause, IsCoveringCause, IsCoverCause, IsCoverResult}
 use Rattle.plan.specs.Pools.Pools.{Pools}
 use Rattle.plan.specs.Pools.PoolsFault.{IsPoolsFault}
-use Rattle.plan.specs.Pools.PlanFault.{HasGoodPaths, IsPlanFault}
+use Rattle.plan.specs.Pools.PlanFault.{IsPlanFault}
 use Rattle.plan.specs.declared.pool_limits.PoolLimits.{PoolLimits}
 use Rattle.plan.specs.Samples.Question.{Question}
 use Rattle.plan.specs.declared.fault.PFault.{PFault}
@@ -39,14 +39,16 @@ use Rattle.crdx.specs.declared.running.causes.PlaceCode.TheVariants as code
 use Rattle.crdx.specs.declared.running.causes.Cause.{Cause}
 use Rattle.crdx.specs.declared.running.causes.Cause.TheVariants.{Read, Document, Line, Crd, Pools as PoolsCause, Place, Violations, NoField, NotStored, NotASample, Write, NoMemory}
 use Rattle.crdx.specs.declared.running.answer.Answer.{Answer}
+use Rattle.crdx.specs.declared.running.ended.Ended.{Ended}
+use Rattle.crdx.specs.declared.running.refusal.Refusal.{Refusal}
 use Rattle.crdx.specs.declared.arguments.request.CommonArguments.{CommonArguments}
 use Rattle.crdx.specs.declared.arguments.request.ExplainArguments.{ExplainArguments}
 use Rattle.crdx.specs.declared.arguments.request.ObjectArguments.{ObjectArguments}
 use Rattle.crdx.specs.declared.arguments.request.CoverArguments.{CoverArguments}
+use Rattle.crdx.specs.declared.arguments.request.PlanArguments.{PlanArguments}
 use Rattle.crdx.specs.declared.arguments.request.SampleArguments.{SampleArguments}
 use Rattle.crdx.specs.declared.arguments.request.Request.{Request}
 use Rattle.crdx.specs.declared.arguments.request.Request.TheVariants.{Explain, Object, Sample, Cover}
-use Rattle.crdx.specs.declared.walk.walking.Walked.{Walked}
 use Rattle.crdx.specs.declared.walk.fault.WFault.{WFault}
 use Rattle.crdx.specs.declared.walk.fault.WFault.TheVariants as w
 use Rattle.jtree.specs.Failures.{HasFailed, one_more}
@@ -133,7 +135,7 @@ module _ (has later : Documents) (unread read : ℕ) (arguments : ObjectArgument
   object_input cause (inl why) = input_of_object cause why
   object_input cause (inr (document, at, why)) = input_of_document document cause at why
 
-pub cause_of_pools_fault : (has : Documents) (unread read : ℕ) (limits : PoolLimits) (name : Option (Bor (List ℕ))) (d : Data) (fault : PFault) → has (file_name name) (Ok d)
+pub cause_of_pools_fault : (has : Documents) (unread read : ℕ) (limits : PoolLimits) (name : InputName) (d : Data) (fault : PFault) → has (file_name name) (Ok d)
     → IsPoolsFault limits d fault → IsPoolsCause has unread read limits (Some name) (cause_of_pools fault)
 cause_of_pools_fault has unread read limits name d (Form p) at is = (d, at, λ e. cc, is)
 cause_of_pools_fault has unread read limits name d p.TooLarge at is = (d, at, λ e. cc, is)
@@ -150,45 +152,73 @@ cause_of_plan_fault N P limit bits p.BadLimit some below (inl zero) = absurd (om
 cause_of_plan_fault N P limit bits p.BadLimit some below (inr above) = absurd (omega arith)
 cause_of_plan_fault N P limit bits (p.BadPath text) some below is = is.1
 
-among_some : (first second : Documents) (name : Option (Option (Bor (List ℕ)))) (r q : Option (Bor (List ℕ)) → Type 0) → ((n : Option (Bor (List ℕ))) → r n → q n) → IsSomeAnd name r → IsSomeAnd name q
+among_some : (first second : Documents) (name : Option InputName) (r q : InputName → Type 0) → ((n : InputName) → r n → q n) → IsSomeAnd name r → IsSomeAnd name q
 among_some first second None r q f is = is
 among_some first second (Some n) r q f is = f n is
 
+-- a request of a plan is refused where the plan is
+plan_refused : (has : Documents) (plan : PlanArguments) (request : Request) → IsOfPlan plan request → IsPlanRefused has plan → IsInputRefused has request
+plan_refused has plan (Sample a) of why = inl (subst (IsPlanRefused has) (sym of) why)
+plan_refused has plan (Cover a) of why = subst (IsPlanRefused has) (sym of) why
+plan_refused has plan _ of why = absurd of
+
+pub refused_plan : (has : Documents) (plan : PlanArguments) (request : Request) → IsOfPlan plan request → IsCrdRefused has plan.common → IsInputRefused has request
+refused_plan has plan request of why = plan_refused has plan request of (inl why)
+
+pub no_plan : (has : Documents) (plan : PlanArguments) (request : Request) → IsOfPlan plan request → (breaks : List Break) → HasBreaks has plan.common breaks → IsAnswer has request 1 []
+no_plan has plan (Sample a) of breaks are = no_samples a breaks (subst (λ p. HasBreaks has p.common breaks) (sym of) are)
+no_plan has plan (Cover a) of breaks are = no_cover a breaks (subst (λ p. HasBreaks has p.common breaks) (sym of) are)
+no_plan has plan _ of breaks are = absurd of
+
 -- the pools are read of documents that were at hand before, where the schema is accepted
-pub pools_input : (has later : Documents) (unread read : ℕ) (arguments : SampleArguments) (cause : Cause) → AreAmong later has → HasAcceptedSchema has arguments.common
-    → IsPoolsCause later unread read (pool_limits_of arguments.common) arguments.pools cause → IsInputCause has unread read (Sample arguments) cause
-pools_input has later unread read arguments (Read i) among accepted why = why.1
-pools_input has later unread read arguments (Document i fault) among accepted why =
-    inr (inl (accepted, inl (fault, why.1, among_some later has arguments.pools _ _ (λ n is. among (file_name n) (Err fault) is) why.2)))
-pools_input has later unread read arguments (PoolsCause fault) among accepted why =
-    inr (inl (accepted, inr (fault, among_some later has arguments.pools _ _ (λ n is. (is.0, among (file_name n) (Ok is.0) is.1, is.2, is.3)) why)))
-pools_input has later unread read arguments (Place input.Pools code.Form p) among accepted why =
-    inr (inl (accepted, inr (Form p, among_some later has arguments.pools _ _ (λ n is. (is.0, among (file_name n) (Ok is.0) is.1, is.2, is.3)) why)))
-pools_input has later unread read arguments NoMemory among accepted why = tt
-pools_input has later unread read arguments _ among accepted why = absurd why
+pools_refused : (has later : Documents) (unread read : ℕ) (arguments : PlanArguments) (request : Request) (cause : Cause) → IsOfPlan arguments request → AreAmong later has → HasAcceptedSchema has arguments.common
+    → IsPoolsCause later unread read (pool_limits_of arguments.common) arguments.pools cause → IsInputCause has unread read request cause
+pools_refused has later unread read arguments request (Read i) of among accepted why = why.1
+pools_refused has later unread read arguments request (Document i fault) of among accepted why =
+    plan_refused has arguments request of (inr (inl (accepted, inl (fault, why.1, among_some later has arguments.pools _ _ (λ n is. among (file_name n) (Err fault) is) why.2))))
+pools_refused has later unread read arguments request (PoolsCause fault) of among accepted why =
+    plan_refused has arguments request of (inr (inl (accepted, inr (fault, among_some later has arguments.pools _ _ (λ n is. (is.0, among (file_name n) (Ok is.0) is.1, is.2, is.3)) why))))
+pools_refused has later unread read arguments request (Place input.Pools code.Form p) of among accepted why =
+    plan_refused has arguments request of (inr (inl (accepted, inr (Form p, among_some later has arguments.pools _ _ (λ n is. (is.0, among (file_name n) (Ok is.0) is.1, is.2, is.3)) why))))
+pools_refused has later unread read arguments request NoMemory of among accepted why = tt
+pools_refused has later unread read arguments request _ of among accepted why = absurd why
+
+pub pools_input : (has later : Documents) (unread read : ℕ) (arguments : PlanArguments) (cause : Cause) → AreAmong later has → HasAcceptedSchema has arguments.common
+    → IsPoolsCause later unread read (pool_limits_of arguments.common) arguments.pools cause → IsRequestedPlanCause has unread read arguments cause
+pools_input has later unread read arguments cause among accepted why request of = pools_refused has later unread read arguments request cause of among accepted why
 
 -- pools of documents that were at hand before
-pub pools_before : (has later : Documents) (limits : PoolLimits) (name : Option (Option (Bor (List ℕ)))) (P : Pools) → AreAmong later has → ArePools later limits name P
+pub pools_before : (has later : Documents) (limits : PoolLimits) (name : Option InputName) (P : Pools) → AreAmong later has → ArePools later limits name P
     → ArePools has limits name P
 pools_before has later limits None P among is = is
 pools_before has later limits (Some n) P among is = (is.0, among (file_name n) (Ok is.0) is.1, is.2, is.3, is.4)
 
-module _ (has : Documents) (unread read : ℕ) (arguments : SampleArguments) (N : Node) (P : Pools) (are : AreRootAndPools has arguments N P) where
-  plan_input : (cause : Cause) → IsPlanCause N P cause → IsInputCause has unread read (Sample arguments) cause
-  plan_input (Place input.Pools code.BadPath text) why = inr (inr (N, P, are, inl (string_bytes text, why)))
-  plan_input NoMemory why = tt
-  plan_input _ why = absurd why
+module _ (has : Documents) (unread read : ℕ) (arguments : PlanArguments) (N : Node) (P : Pools) (are : AreRootAndPools has arguments N P) where
+  path_refused : (request : Request) (cause : Cause) → IsOfPlan arguments request → IsPlanCause N P cause → IsInputCause has unread read request cause
+  path_refused request (Place input.Pools code.BadPath text) of why = plan_refused has arguments request of (inr (inr (N, P, are, string_bytes text, why)))
+  path_refused request NoMemory of why = tt
+  path_refused request _ of why = absurd why
 
-  text_input : (text : Bor (List ℕ)) (cause : Cause) → arguments.after ≡ Some text → HasGoodPaths N P → IsTextCause text.now cause → IsInputCause has unread read (Sample arguments) cause
-  text_input text (Document i fault) is good why = inr (inr (N, P, are, inr (good, (fault, why.1, rw is why.2))))
-  text_input text NoMemory is good why = tt
-  text_input text _ is good why = absurd why
+  -- the paths of the pools are judged where the schema and the pools are taken
+  pub plan_input : (cause : Cause) → IsPlanCause N P cause → IsRequestedPlanCause has unread read arguments cause
+  plan_input cause why request of = path_refused request cause of why
 
-  -- the paths of the pools are judged where the schema and the pools are taken, and the tree to go on from is read where all are good
-  pub sampling_input : (after : Option (Bor (List ℕ))) (cause : Cause) → arguments.after ≡ after → IsSamplingCause N P after cause → IsInputCause has unread read (Sample arguments) cause
-  sampling_input after cause is (inl why) = plan_input cause why
-  sampling_input None cause is (inr why) = absurd why.1
-  sampling_input (Some text) cause is (inr why) = text_input text cause is why.0 why.1
+module _ (has : Documents) (unread read : ℕ) (arguments : SampleArguments) (q : Question) (e : Option Envelope) (asked : IsRequested has arguments.plan q e) where
+  text_input : (text : Bor (List ℕ)) (cause : Cause) → arguments.after ≡ Some text → IsTextCause text.now cause → IsInputCause has unread read (Sample arguments) cause
+  text_input text (Document i fault) is why = inr (
+    q.root,
+    q.pools,
+    record { root = requested_root has arguments.plan.common asked.group asked.kind q.root (asked.raw, asked.asked, asked.unbroken, asked.root); pools = asked.pools },
+    asked.paths,
+    (fault, why.1, rw is why.2),
+  )
+  text_input text NoMemory is why = tt
+  text_input text _ is why = absurd why
+
+  -- the tree to go on from is read where there is a plan
+  pub after_input : (after : Option (Bor (List ℕ))) (cause : Cause) → arguments.after ≡ after → IsAfterCause after cause → IsInputCause has unread read (Sample arguments) cause
+  after_input None cause is why = absurd why
+  after_input (Some text) cause is why = text_input text cause is why
 
 module _ (run : Effects) (request : Request) where
   kept : Keeps run.output_before run.output → (r : Request) → IsCutByMemory run r
@@ -226,19 +256,19 @@ module _ (run : Effects) (request : Request) where
   IsCut = (code : ℕ) (text : List ℕ) → IsAnswer run.documents request code text → (n : ℕ) → Appends run.output_before run.output (take n text) → IsCutByWrite run request
 
   -- an answer was given, or standard output failed after a beginning of it
-  pub result_of_written : (answer : Answer) (code : ℕ) → IsAnswer run.documents request answer.status (string_bytes answer.text) → IsCut
+  pub result_of_written : (answer : Answer) (code : ℕ) → IsAnswer run.documents request answer.status (string_bytes answer.out) → IsCut
       → IsWritten answer run.output_before run.output run.failed_writes_before run.failed_writes code → IsRunResult run request code
-  result_of_written answer code is cut (inl given) = rw given.0 (answered answer.status (string_bytes answer.text) is given.1 given.2)
-  result_of_written answer code is cut (inr failed) = write_failed code failed.0 failed.1 (cut answer.status (string_bytes answer.text) is failed.2.0 failed.2.1)
+  result_of_written answer code is cut (inl given) = rw given.0 (answered answer.status (string_bytes answer.out) is given.1 given.2)
+  result_of_written answer code is cut (inr failed) = write_failed code failed.0 failed.1 (cut answer.status (string_bytes answer.out) is failed.2.0 failed.2.1)
 
   -- an answer was given, or it was said why there is none
-  pub result_of_finished : (r : Result Answer Cause) (code : ℕ) → IfOk r (λ a. IsAnswer run.documents request a.status (string_bytes a.text))
-      → IfErr r (IsInputCause run.documents run.failed_reads_before run.failed_reads request) → IsCut
+  pub result_of_finished : (r : Result Answer Refusal) (code : ℕ) → IfOk r (λ a. IsAnswer run.documents request a.status (string_bytes a.out))
+      → IfErr r (λ why. IsInputCause run.documents run.failed_reads_before run.failed_reads request why.cause) → IsCut
       → IfOk r (λ a. IsWritten a run.output_before run.output run.failed_writes_before run.failed_writes code)
-      → IfErr r (λ cause. (code ≡ status cause) ⊎ (code ≡ 5)) → OnErr r (Keeps run.output_before run.output) → OnErr r (run.failed_writes ≡ run.failed_writes_before)
+      → IfErr r (λ why. (code ≡ status why.cause) ⊎ (code ≡ 5)) → OnErr r (Keeps run.output_before run.output) → OnErr r (run.failed_writes ≡ run.failed_writes_before)
       → IsRunResult run request code
   result_of_finished (Ok answer) code is why cut given said kept unfailed = result_of_written answer code is cut given
-  result_of_finished (Err cause) code is why cut given said kept unfailed = result_of_input cause code why (record { kept = kept; unfailed = unfailed }) said
+  result_of_finished (Err r) code is why cut given said kept unfailed = result_of_input r.cause code why (record { kept = kept; unfailed = unfailed }) said
 
 -- why a walk stopped, as the cause that its fault becomes
 pub walk_cause : (q : Question) (after : Option Data) (count : ℕ) (e : Option Envelope) (old new : Option (List ℕ)) (before now : ℕ) (fault : WFault)
@@ -273,16 +303,16 @@ module _ (run : Effects) (arguments : SampleArguments) where
   IsWalkCauseOf q after e = IsWalkCause q after (total_of arguments) e run.output_before run.output run.failed_writes_before run.failed_writes
 
   -- the tree to go on from is no sample
-  result_of_no_sample : (q : Question) (after : Option Data) (e : Option Envelope) → IsRequested run.documents arguments q after e → IsSomeAnd after (λ a. IsSampleOf q a → ⊥) → WritesNothing run
+  result_of_no_sample : (q : Question) (after : Option Data) (e : Option Envelope) → IsRequestedWalk run.documents arguments q after e → IsSomeAnd after (λ a. IsSampleOf q a → ⊥) → WritesNothing run
       → IsRunResult run (Sample arguments) 1
   result_of_no_sample q None e asked none nothing = absurd none
   result_of_no_sample q (Some a) e asked none nothing = answered_no run (Sample arguments) (no_sample arguments q a e asked none) nothing
 
-  cut_by_memory : (q : Question) (after : Option Data) (e : Option Envelope) → IsRequested run.documents arguments q after e → IsWalkCauseOf q after e NoMemory → IsCutByMemory run (Sample arguments)
+  cut_by_memory : (q : Question) (after : Option Data) (e : Option Envelope) → IsRequestedWalk run.documents arguments q after e → IsWalkCauseOf q after e NoMemory → IsCutByMemory run (Sample arguments)
   cut_by_memory q after e asked (same, inl keeps) = inl keeps
   cut_by_memory q after e asked (same, inr (sample, n, cut)) = inr (q, after, e, asked, sample, n, cut)
 
-  result_of_walk : (q : Question) (after : Option Data) (e : Option Envelope) (cause : Cause) (code : ℕ) → IsRequested run.documents arguments q after e → IsWalkCauseOf q after e cause
+  result_of_walk : (q : Question) (after : Option Data) (e : Option Envelope) (cause : Cause) (code : ℕ) → IsRequestedWalk run.documents arguments q after e → IsWalkCauseOf q after e cause
       → (code ≡ status cause) ⊎ (code ≡ 5) → IsRunResult run (Sample arguments) code
   result_of_walk q after e (Write n) code asked why is = write_failed code is why.0 (q, after, e, asked, why.1, why.2)
   result_of_walk q after e NoMemory code asked why (inl five) = rw five (no_memory (cut_by_memory q after e asked why) why.0)
@@ -296,54 +326,39 @@ module _ (run : Effects) (arguments : SampleArguments) where
   result_of_cause cause code (inr (q, after, e, asked, why)) is = result_of_walk q after e cause code asked why is
 
   -- samples were listed, or it was said why not all of them
-  pub result_of_sample : (r : Result Walked Cause) (code : ℕ)
-      → IsSampleResult run arguments r → OnOk r (code ≡ 0) → IfErr r (λ cause. (code ≡ status cause) ⊎ (code ≡ 5)) → IsRunResult run (Sample arguments) code
-  result_of_sample (Ok walked) code is done said =
-      let (q, after, e, asked, sample, wrote) = is.sampled in
-      rw done (answered 0 (lines e wrote.items) (samples arguments q after e wrote.items walked.end asked sample wrote.page) wrote.written is.unfailed)
-  result_of_sample (Err cause) code is done said = result_of_cause cause code is.cause said
+  pub result_of_sample : (r : Result Ended Refusal) (code : ℕ)
+      → IsSampleResult run arguments r → IfOk r (λ ended. code ≡ ended.status) → IfErr r (λ why. (code ≡ status why.cause) ⊎ (code ≡ 5)) → IsRunResult run (Sample arguments) code
+  result_of_sample (Ok ended) code is done said =
+      let (q, after, e, asked, sample, count, end, wrote) = is.sampled in
+      rw (done, is.done) (answered 0 (lines e wrote.items) (samples arguments q after e wrote.items end asked sample wrote.page) wrote.written is.unfailed)
+  result_of_sample (Err r) code is done said = result_of_cause r.cause code is.cause said
 
 pub failed_once : (before now : ℕ) → now ≡ one_more before → HasFailed before now
 failed_once before now is = grind (arith, nat_tests)
-
--- why no samples are listed is why nothing is covered
-pub cover_input : (has : Documents) (unread read : ℕ) (arguments : CoverArguments) (cause : Cause) → IsInputCause has unread read (Sample arguments.samples) cause → IsInputCause has unread read (Cover arguments) cause
-cover_input has unread read arguments (Read i) why = why
-cover_input has unread read arguments (Document i fault) why = why
-cover_input has unread read arguments (Crd fault) why = why
-cover_input has unread read arguments (PoolsCause fault) why = why
-cover_input has unread read arguments (Place i c p) why = why
-cover_input has unread read arguments (Violations vs) why = no_cover arguments why
-cover_input has unread read arguments (NoField fault) why = no_cover arguments why
-cover_input has unread read arguments NotStored why = no_cover arguments why
-cover_input has unread read arguments (Line n fault) why = absurd why
-cover_input has unread read arguments NotASample why = why
-cover_input has unread read arguments (Write n) why = why
-cover_input has unread read arguments NoMemory why = why
 
 module _ (run : Effects) (arguments : CoverArguments) where
   abbrev IsCoveringCauseOf : Question → Option Envelope → Cause → Type 0
   IsCoveringCauseOf q e = IsCoveringCause arguments.values q e run.output_before run.output run.failed_writes_before run.failed_writes
 
-  cover_cut_by_memory : (q : Question) (after : Option Data) (e : Option Envelope) → IsRequested run.documents arguments.samples q after e → IsCoveringCauseOf q e NoMemory → IsCutByMemory run (Cover arguments)
-  cover_cut_by_memory q after e asked (same, inl keeps) = inl keeps
-  cover_cut_by_memory q after e asked (same, inr out) = inr (q, after, e, asked, out)
+  cover_cut_by_memory : (q : Question) (e : Option Envelope) → IsRequested run.documents arguments.plan q e → IsCoveringCauseOf q e NoMemory → IsCutByMemory run (Cover arguments)
+  cover_cut_by_memory q e asked (same, inl keeps) = inl keeps
+  cover_cut_by_memory q e asked (same, inr out) = inr (q, e, asked, out)
 
-  result_of_covering : (q : Question) (after : Option Data) (e : Option Envelope) (cause : Cause) (code : ℕ) → IsRequested run.documents arguments.samples q after e → IsCoveringCauseOf q e cause
+  result_of_covering : (q : Question) (e : Option Envelope) (cause : Cause) (code : ℕ) → IsRequested run.documents arguments.plan q e → IsCoveringCauseOf q e cause
       → (code ≡ status cause) ⊎ (code ≡ 5) → IsRunResult run (Cover arguments) code
-  result_of_covering q after e (Write n) code asked why is = write_failed code is why.0 (q, after, e, asked, why.1)
-  result_of_covering q after e NoMemory code asked why (inl five) = rw five (no_memory (cover_cut_by_memory q after e asked why) why.0)
-  result_of_covering q after e NoMemory code asked why (inr five) = rw five (no_memory (cover_cut_by_memory q after e asked why) why.0)
-  result_of_covering q after e _ code asked why is = absurd why
+  result_of_covering q e (Write n) code asked why is = write_failed code is why.0 (q, e, asked, why.1)
+  result_of_covering q e NoMemory code asked why (inl five) = rw five (no_memory (cover_cut_by_memory q e asked why) why.0)
+  result_of_covering q e NoMemory code asked why (inr five) = rw five (no_memory (cover_cut_by_memory q e asked why) why.0)
+  result_of_covering q e _ code asked why is = absurd why
 
   cover_result_of_cause : (cause : Cause) (code : ℕ) → IsCoverCause run arguments cause → (code ≡ status cause) ⊎ (code ≡ 5) → IsRunResult run (Cover arguments) code
   cover_result_of_cause cause code (inl why) is = result_of_input run (Cover arguments) cause code why.0 why.1 is
-  cover_result_of_cause cause code (inr (q, after, e, asked, why)) is = result_of_covering q after e cause code asked why is
+  cover_result_of_cause cause code (inr (q, e, asked, why)) is = result_of_covering q e cause code asked why is
 
   -- the schema was covered, or it was said why not
-  pub result_of_cover : (r : Result (String Global) Cause) (code : ℕ)
-      → IsCoverResult run arguments r → OnOk r (code ≡ 0) → IfErr r (λ cause. (code ≡ status cause) ⊎ (code ≡ 5)) → IsRunResult run (Cover arguments) code
-  result_of_cover (Ok said) code is done why =
-      let (q, after, e, c, asked, whole, out) = is.covered in
-      rw done (answered 0 (lines e (objects_of c)) (covers arguments q after e c asked whole) out is.unfailed)
-  result_of_cover (Err cause) code is done why = cover_result_of_cause cause code is.cause why
+  pub result_of_cover : (r : Result Ended Refusal) (code : ℕ)
+      → IsCoverResult run arguments r → IfOk r (λ ended. code ≡ ended.status) → IfErr r (λ why. (code ≡ status why.cause) ⊎ (code ≡ 5)) → IsRunResult run (Cover arguments) code
+  result_of_cover (Ok ended) code is done why =
+      let (q, e, c, asked, whole, out) = is.covered in
+      rw (done, is.done) (answered 0 (lines e (objects_of c)) (covers arguments q e c asked whole) out is.unfailed)
+  result_of_cover (Err r) code is done why = cover_result_of_cause r.cause code is.cause why

@@ -1,5 +1,5 @@
 -- What one page after the other says of a walk.
-use Rattle.std.specs.Prelude.{IfSome, IsSome, All, Contains, option_map}
+use Rattle.std.specs.Prelude.{IfSome, IsSome, IsSomeAnd, All, Contains, option_map}
 use Rattle.std.proofs.Common.{◌≡◌, ◌⊎◌, ℕ, suc, ◌+◌, ◌-◌, ◌*◌, if◌then◌else◌, ◌<◌, ◌≤◌, List, [], ◌∷◌, ◌++◌, length, take, Bool, true, false, Option, Some, None, refl, sym, ap, ◌∙◌, subst, inl, inr, arith, length-append, append_assoc}
 use Rattle.std.specs.Io.KnownBytes.{Appends, Keeps}
 use Rattle.std.proofs.KnownBytes.{Appends-trans, Appends-kept, Appends-nil}
@@ -237,3 +237,8 @@ not_ended_at q after total e lines_now end at old new s more = at_sample q after
 pub resumed : (r : Option (Bor Tree)) → resume_point r ≡ option_map data_of (option_copied r)
 resumed None = refl
 resumed (Some t) = refl
+
+-- a walk past a sample, or past nothing, is not refused
+pub not_refused : (q : Question) (after : Option Data) → IfSome after (IsSampleOf q) → IsSomeAnd after (λ a. IsSampleOf q a → ⊥) → ⊥
+not_refused q None sample none = none
+not_refused q (Some a) sample none = none sample

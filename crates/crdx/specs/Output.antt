@@ -4,3 +4,4 @@ pub mod Line
 pub mod Sink
 pub mod Walk
 pub mod PartialOutput
+pub mod WalkResult

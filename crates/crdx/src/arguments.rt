@@ -1,12 +1,15 @@
 //! The arguments of the command line.
 
+mod command;
+mod conflicts;
 mod help;
-mod parsing;
+mod reading;
 mod request;
 
-pub(crate) use parsing::input_named;
-pub use parsing::{MOST_COUNT, MOST_LIMIT, parse_arguments};
+pub use command::{MOST_COUNT, MOST_LIMIT};
+pub(crate) use reading::input_named;
+pub use reading::parse_arguments;
 pub use request::{
     CommonArguments, CoverArguments, ExplainArguments, ObjectArguments, ObjectCommand,
-    PoolsArguments, Request, SampleArguments,
+    PlanArguments, PoolsArguments, Request, SampleArguments,
 };

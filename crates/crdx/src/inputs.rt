@@ -20,6 +20,15 @@ use std::io::{self, ErrorKind, Read};
 use std::rt::Files;
 use thiserror::Error;
 
+/// The name of an input.
+#[derive(Clone, Copy, Debug, Drop)]
+pub enum InputName<'a> {
+    /// The standard input.
+    Stdin,
+    /// The file of this name.
+    File(&'a str),
+}
+
 /// Why no document was read.
 #[derive(Clone, Copy, Debug, PartialEq, Eq, Drop, Error)]
 pub enum InFault {
@@ -88,20 +97,20 @@ pub trait Inputs {
     // How often an input could not be opened or read, up to the greatest count.
     ghost failures: { Self → ℕ };
 
-    /// The document of the file of this name, or of the standard input where there is no name.
+    /// The document of the input of this name.
     ///
     /// `Failed` where it cannot be opened or read, and `Document` where it is no document, or out of memory.
-    fn tree(&mut self, name: Option<&str>) -> Result<Tree, InFault>
+    fn tree(&mut self, name: InputName<'_>) -> Result<Tree, InFault>
         ensures document { IfOk result (λ t. has self.old (file_name name.entry) (Ok (data_of t))) }
         ensures refused { IfErr result (IsInputFault (has self.old) (file_name name.entry)) }
         ensures stays { AreAmong (has self.new) (has self.old) }
         ensures lines { AreLinesAmong (lines self.new) (lines self.old) }
         ensures counts { failures self.new ≡ failures_after_read (failures self.old) result };
 
-    /// Opens the file of this name, or the standard input where there is no name, to read its lines by `next_line`.
+    /// Opens the input of this name to read its lines by `next_line`.
     ///
     /// `Failed` where it cannot be opened, and `Document(NoMemory)` where an allocation fails.
-    fn open_lines(&mut self, name: Option<&str>) -> Result<(), InFault>
+    fn open_lines(&mut self, name: InputName<'_>) -> Result<(), InFault>
         ensures opened { OnOk result ((ls : List (List ℕ)) → coming self.new ls → lines self.old (file_name name.entry) ls) }
         ensures refused { IfErr result IsOpenFault }
         ensures lines { AreLinesAmong (lines self.new) (lines self.old) }
@@ -123,10 +132,10 @@ pub trait Inputs {
     fn refused(&self) -> &[u8];
 
     /// How many bytes the file of this name has, where that is known; of the standard input it is not.
-    fn size(&self, name: Option<&str>) -> Option<u64>;
+    fn size(&self, name: InputName<'_>) -> Option<u64>;
 
     /// Why the file of this name, the last one for which `Failed` was answered, could not be opened or read.
-    fn unread(&self, name: Option<&str>) -> Unread;
+    fn unread(&self, name: InputName<'_>) -> Unread;
 }
 
 /// A file or the standard input, whose lines are read.
@@ -191,31 +200,31 @@ impl<R: Files + Input> HostInputs<'_, R> {
 }
 
 impl<R: Files + Input + AllocGlobal> HostInputs<'_, R> {
-    fn read(&mut self, name: Option<&str>) -> Result<Tree, InFault>
+    fn read(&mut self, name: InputName<'_>) -> Result<Tree, InFault>
         ensures failures { self.new.failures ≡ self.old.failures }
         ensures no_read { IfErr result (λ e. e ≢ Document ReadFailed) }
     {
         let alloc = self.rt.alloc();
         match name {
-            Some(name) => match fs::open(self.rt, name) {
+            InputName::File(name) => match fs::open(self.rt, name) {
                 Ok(file) => read_document(alloc, file, &mut self.refused),
                 Err(error) => Err(self.not_opened(error.kind())),
             },
-            None => read_document(alloc, self.rt.reader(), &mut self.refused),
+            InputName::Stdin => read_document(alloc, self.rt.reader(), &mut self.refused),
         }
     }
 
-    fn open(&mut self, name: Option<&str>) -> Result<OpenLines<R::File, R::Reader>, InFault>
+    fn open(&mut self, name: InputName<'_>) -> Result<OpenLines<R::File, R::Reader>, InFault>
         ensures fault { IfErr result IsOpenFault }
         ensures failures { self.new.failures ≡ self.old.failures }
     {
         let alloc = self.rt.alloc();
         match name {
-            Some(name) => match fs::open(self.rt, name) {
+            InputName::File(name) => match fs::open(self.rt, name) {
                 Ok(file) => Ok(OpenLines::File(LineFeed::new(alloc, Feed::new(file)))),
                 Err(error) => Err(self.not_opened(error.kind())),
             },
-            None => {
+            InputName::Stdin => {
                 let lines = LineFeed::new(alloc, Feed::new(self.rt.reader()));
                 Ok(OpenLines::Standard(lines))
             }
@@ -235,7 +244,7 @@ impl<R: Files + Input + AllocGlobal> Inputs for HostInputs<'_, R> {
 
     ghost failures = { λ s. s.failures };
 
-    fn tree(&mut self, name: Option<&str>) -> Result<Tree, InFault> {
+    fn tree(&mut self, name: InputName<'_>) -> Result<Tree, InFault> {
         match self.read(name) {
             Ok(tree) => Ok(tree),
             Err(InFault::Failed) => Err(self.count_failure()),
@@ -243,7 +252,7 @@ impl<R: Files + Input + AllocGlobal> Inputs for HostInputs<'_, R> {
         }
     }
 
-    fn open_lines(&mut self, name: Option<&str>) -> Result<(), InFault> {
+    fn open_lines(&mut self, name: InputName<'_>) -> Result<(), InFault> {
         match self.open(name) {
             Ok(lines) => {
                 self.lines = Some(lines);
@@ -273,16 +282,18 @@ impl<R: Files + Input + AllocGlobal> Inputs for HostInputs<'_, R> {
         }
     }
 
-    fn size(&self, name: Option<&str>) -> Option<u64> {
-        let metadata = fs::metadata(self.rt, name?).ok()?;
-        Some(metadata.len())
+    fn size(&self, name: InputName<'_>) -> Option<u64> {
+        match name {
+            InputName::Stdin => None,
+            InputName::File(name) => Some(fs::metadata(self.rt, name).ok()?.len()),
+        }
     }
 
-    fn unread(&self, name: Option<&str>) -> Unread {
+    fn unread(&self, name: InputName<'_>) -> Unread {
         match (self.unopened, name) {
             (Some(kind), _) => kind.into(),
-            (None, Some(name)) => unread_of(fs::metadata(self.rt, name)),
-            (None, None) => Unread::Other,
+            (None, InputName::File(name)) => unread_of(fs::metadata(self.rt, name)),
+            (None, InputName::Stdin) => Unread::Other,
         }
     }
 }

@@ -1,6 +1,5 @@
 -- Why a run has no answer, said of the documents at hand; the counts are those of the reads that failed, before and now.
-use Rattle.std.specs.Global.{Global}
-use Rattle.std.specs.Prelude.{◌≡◌, ◌≢◌, ◌⊎◌, ℕ, List, [], take, String, Bool, true, Option, IfSome, map, IsSomeAnd, Result, Ok, Err, IfOk, OnOk, IfErr, string_bytes}
+use Rattle.std.specs.Prelude.{◌≡◌, ◌≢◌, ◌⊎◌, ℕ, List, [], take, Bool, true, Option, IfSome, map, IsSomeAnd, Result, Ok, Err, IfOk, OnOk, IfErr, string_bytes}
 use Rattle.std.specs.Borrow.{Bor}
 use Rattle.std.specs.Io.KnownBytes.{Appends, Keeps}
 use Rattle.jtree.specs.Data.{Data}
@@ -14,6 +13,7 @@ use Rattle.crdx.specs.Output.Line.{lines}
 use Rattle.crdx.specs.Output.PartialOutput.{IsCutBetweenLines, IsCutByFailure}
 use Rattle.crdx.specs.Output.Walk.{WritesPage}
 use Rattle.jtree.specs.Failures.{HasFailed}
+use Rattle.crdx.specs.declared.inputs.InputName.{InputName}
 use Rattle.crdx.specs.Program.Documents.{Documents, Lines, file_name}
 use Rattle.crdx.specs.Internal.ExitStatus.{cause_of_suggestion}
 use Rattle.suggest.specs.Suggested.Fault.{IsSuggestFault}
@@ -21,26 +21,26 @@ use Rattle.suggest.specs.Suggested.Wanted.{Wanted}
 use Rattle.suggest.specs.declared.fault.SuggestFault.{SuggestFault}
 use Rattle.crdx.specs.Program.FieldAnswer.{IsFieldAnswer}
 use Rattle.crdx.specs.Program.ObjectAnswer.{IsObjectAnswer}
-use Rattle.crdx.specs.Program.Requested.{IsRequestedSchema, HasReadFault, HasPoolsFault, IsAcceptedSchema, IsRequested, pool_limits_of, total_of}
+use Rattle.crdx.specs.Program.Requested.{IsRequestedSchema, HasReadFault, HasPoolsFault, IsAcceptedSchema, IsRequested, IsRequestedWalk, pool_limits_of, total_of}
 use Rattle.crdx.specs.Program.Objects.{HasInput, IsNoText, IsBrokenAt}
 use Rattle.crdx.specs.Program.RunResult.{IsAnswer, IsCoverBegunOut, IsCoverCut, IsInputRefused, IsWanted, Effects, WritesNothing, lines_of}
 use Rattle.crdx.specs.Program.Requested.{IsRequestedRoot}
 use Rattle.crdx.specs.Internal.LineProgress.{IsLinesCause}
 use Rattle.plan.specs.Pools.Pools.{Pools as PoolsData}
 use Rattle.plan.specs.declared.pool_limits.PoolLimits.{PoolLimits}
-use Rattle.plan.specs.Pools.PlanFault.{HasGoodPaths, IsFirstBadPath}
+use Rattle.plan.specs.Pools.PlanFault.{IsFirstBadPath}
 use Rattle.plan.specs.Samples.Question.{Question}
 use Rattle.enumerate.specs.Page.{IsPage, IsSampleOf}
 use Rattle.jtree.specs.Reads.{IsNoDocument}
 use Rattle.crdx.specs.Program.InputFault.{IsOfBytes}
 use Rattle.crdx.specs.declared.walk.line.Envelope.{Envelope}
-use Rattle.crdx.specs.declared.walk.walking.Walked.{Walked}
 use Rattle.crdx.specs.declared.arguments.request.Request.{Request}
 use Rattle.crdx.specs.declared.arguments.request.Request.TheVariants.{Cover, ObjectLines, Sample, SuggestPools}
 use Rattle.crdx.specs.declared.arguments.request.CommonArguments.{CommonArguments}
 use Rattle.crdx.specs.declared.arguments.request.CoverArguments.{CoverArguments}
 use Rattle.crdx.specs.declared.arguments.request.ObjectArguments.{ObjectArguments}
 use Rattle.crdx.specs.declared.arguments.request.ObjectCommand.{ObjectCommand}
+use Rattle.crdx.specs.declared.arguments.request.PlanArguments.{PlanArguments}
 use Rattle.crdx.specs.declared.arguments.request.PoolsArguments.{PoolsArguments}
 use Rattle.crdx.specs.declared.arguments.request.SampleArguments.{SampleArguments}
 use Rattle.plan.specs.declared.fault.PFault.TheVariants.{Form}
@@ -48,6 +48,8 @@ use Rattle.crdx.specs.declared.running.causes.Input.{Input}
 use Rattle.crdx.specs.declared.running.causes.Input.TheVariants as input
 use Rattle.crdx.specs.declared.running.causes.PlaceCode.TheVariants as code
 use Rattle.crdx.specs.declared.running.causes.Cause.{Cause}
+use Rattle.crdx.specs.declared.running.ended.Ended.{Ended}
+use Rattle.crdx.specs.declared.running.refusal.Refusal.{Refusal}
 use Rattle.crdx.specs.declared.running.causes.Cause.TheVariants.{Read, Document, Line, Crd, Pools, Place, Violations, NoField, NotStored, NotASample, Write, NoMemory}
 
 -- why an input gives no document
@@ -79,7 +81,7 @@ IsSchemaCause has before now arguments cause =
     IsReadCause has before now arguments cause ⊎ ((raw : Data) × IsRequestedSchema has arguments raw × IsBrokenCause raw cause)
 
 -- why there are no pools
-abbrev pub IsPoolsCause : Documents → ℕ → ℕ → PoolLimits → Option (Option (Bor (List ℕ))) → Cause → Type 0
+abbrev pub IsPoolsCause : Documents → ℕ → ℕ → PoolLimits → Option InputName → Cause → Type 0
 IsPoolsCause has before now limits pools (Read i) = (i ≡ input.Pools) × HasFailed before now
 IsPoolsCause has before now limits pools (Document i fault) = (i ≡ input.Pools) × IsOfBytes fault × IsSomeAnd pools (λ name. has (file_name name) (Err fault))
 IsPoolsCause has before now limits pools (Pools fault) = HasPoolsFault has limits pools fault
@@ -102,10 +104,6 @@ IsTextCause text _ = ⊥
 -- why there is no tree to go on from
 abbrev pub IsAfterCause : Option (Bor (List ℕ)) → Cause → Type 0
 IsAfterCause after cause = IsSomeAnd after (λ text. IsTextCause text.now cause)
-
--- why no samples are listed of this schema over these pools
-abbrev pub IsSamplingCause : Node → PoolsData → Option (Bor (List ℕ)) → Cause → Type 0
-IsSamplingCause N P after cause = IsPlanCause N P cause ⊎ (HasGoodPaths N P × IsAfterCause after cause)
 
 -- why the fields of an accepted schema are not printed
 abbrev pub IsFieldCause : Node → Option (Bor (List ℕ)) → Cause → Type 0
@@ -136,6 +134,16 @@ IsInputCause has before now request (Write n) = ⊥
 IsInputCause has before now request NoMemory = Unit {0}
 IsInputCause has before now request _ = IsInputRefused has request
 
+-- the request asks for samples of this plan
+abbrev pub IsOfPlan : PlanArguments → Request → Type 0
+IsOfPlan plan (Sample arguments) = arguments.plan ≡ plan
+IsOfPlan plan (Cover arguments) = arguments.plan ≡ plan
+IsOfPlan plan _ = ⊥
+
+-- why such a request has no plan
+abbrev pub IsRequestedPlanCause : Documents → ℕ → ℕ → PlanArguments → Cause → Type 0
+IsRequestedPlanCause has before now plan cause = (request : Request) → IsOfPlan plan request → IsInputCause has before now request cause
+
 -- why a walk over the samples of a question stopped, by what is out and by the failures of standard output
 abbrev pub IsWalkCause : Question → Option Data → ℕ → Option Envelope → Option (List ℕ) → Option (List ℕ) → ℕ → ℕ → Cause → Type 0
 IsWalkCause q after count e old new before now NotASample = IsSomeAnd after (λ a. IsSampleOf q a → ⊥) × Keeps old new × (now ≡ before)
@@ -149,15 +157,16 @@ IsWalkCause q after count e old new before now _ = ⊥
 abbrev pub IsSampleCause : Effects → SampleArguments → Cause → Type 0
 IsSampleCause run arguments cause =
     (IsInputCause run.documents run.failed_reads_before run.failed_reads (Sample arguments) cause × WritesNothing run)
-    ⊎ ((q : Question) × (after : Option Data) × (e : Option Envelope) × IsRequested run.documents arguments q after e
+    ⊎ ((q : Question) × (after : Option Data) × (e : Option Envelope) × IsRequestedWalk run.documents arguments q after e
     × IsWalkCause q after (total_of arguments) e run.output_before run.output run.failed_writes_before run.failed_writes cause)
 
 -- what `sample` comes to: the samples that are asked for are written, and nothing failed, or why not
-pub record IsSampleResult (run : Effects) (arguments : SampleArguments) (result : Result Walked Cause) : Type 0 where
-  pub sampled : IfOk result (λ walked. (q : Question) × (after : Option Data) × (e : Option Envelope) × IsRequested run.documents arguments q after e
-      × IfSome after (IsSampleOf q) × WritesPage q after (total_of arguments) e walked.lines walked.end run.output_before run.output)
+pub record IsSampleResult (run : Effects) (arguments : SampleArguments) (result : Result Ended Refusal) : Type 0 where
+  pub done : IfOk result (λ ended. ended.status ≡ 0)
+  pub sampled : OnOk result ((q : Question) × (after : Option Data) × (e : Option Envelope) × IsRequestedWalk run.documents arguments q after e
+      × IfSome after (IsSampleOf q) × (count : ℕ) × (end : Bool) × WritesPage q after (total_of arguments) e count end run.output_before run.output)
   pub unfailed : OnOk result (run.failed_writes ≡ run.failed_writes_before)
-  pub cause : IfErr result (IsSampleCause run arguments)
+  pub cause : IfErr result (λ r. IsSampleCause run arguments r.cause)
 
 -- why a text is not out, or not whole
 abbrev pub IsCutText : List ℕ → Option (List ℕ) → Option (List ℕ) → ℕ → ℕ → Cause → Type 0
@@ -175,15 +184,16 @@ IsCoveringCause values q e old new before now _ = ⊥
 abbrev pub IsCoverCause : Effects → CoverArguments → Cause → Type 0
 IsCoverCause run arguments cause =
     (IsInputCause run.documents run.failed_reads_before run.failed_reads (Cover arguments) cause × WritesNothing run)
-    ⊎ ((q : Question) × (after : Option Data) × (e : Option Envelope) × IsRequested run.documents arguments.samples q after e
+    ⊎ ((q : Question) × (e : Option Envelope) × IsRequested run.documents arguments.plan q e
     × IsCoveringCause arguments.values q e run.output_before run.output run.failed_writes_before run.failed_writes cause)
 
 -- what `cover` comes to: the lines of the cover are out, and nothing failed, or why not
-pub record IsCoverResult (run : Effects) (arguments : CoverArguments) (result : Result (String Global) Cause) : Type 0 where
-  pub covered : OnOk result ((q : Question) × (after : Option Data) × (e : Option Envelope) × (c : Covered) × IsRequested run.documents arguments.samples q after e
+pub record IsCoverResult (run : Effects) (arguments : CoverArguments) (result : Result Ended Refusal) : Type 0 where
+  pub done : IfOk result (λ ended. ended.status ≡ 0)
+  pub covered : OnOk result ((q : Question) × (e : Option Envelope) × (c : Covered) × IsRequested run.documents arguments.plan q e
       × IsWholeCover arguments.values q c × Appends run.output_before run.output (lines e (objects_of c)))
   pub unfailed : OnOk result (run.failed_writes ≡ run.failed_writes_before)
-  pub cause : IfErr result (IsCoverCause run arguments)
+  pub cause : IfErr result (λ r. IsCoverCause run arguments r.cause)
 
 -- why not all lines of the input that is asked about have an answer
 abbrev pub IsObjectsCause : Effects → ObjectArguments → Cause → Type 0

@@ -88,5 +88,5 @@ status cause.NoMemory = 5
 -- what comes of an answer: all of it is out, or standard output failed after a beginning of it
 abbrev pub IsWritten : Answer → Option (List ℕ) → Option (List ℕ) → ℕ → ℕ → ℕ → Type 0
 IsWritten answer old new before now code =
-    ((code ≡ answer.status) × Appends old new (string_bytes answer.text) × (now ≡ before))
-    ⊎ (((code ≡ 4) ⊎ (code ≡ 5)) × HasFailed before now × ((n : ℕ) × Appends old new (take n (string_bytes answer.text))))
+    ((code ≡ answer.status) × Appends old new (string_bytes answer.out) × (now ≡ before))
+    ⊎ (((code ≡ 4) ⊎ (code ≡ 5)) × HasFailed before now × ((n : ℕ) × Appends old new (take n (string_bytes answer.out))))

@@ -19,6 +19,7 @@ use Rattle.crdx.specs.declared.arguments.request.ObjectArguments.{ObjectArgument
 use Rattle.crdx.specs.declared.arguments.request.ObjectCommand.{ObjectCommand}
 use Rattle.crdx.specs.declared.arguments.request.ObjectCommand.TheVariants.{Validate, Prune, Default, Leaves}
 use Rattle.crdx.specs.declared.arguments.request.PoolsArguments.{PoolsArguments}
+use Rattle.crdx.specs.declared.arguments.request.PlanArguments.{PlanArguments}
 use Rattle.crdx.specs.declared.arguments.request.SampleArguments.{SampleArguments}
 use Rattle.crdx.specs.declared.arguments.request.Request.{Request}
 use Rattle.crdx.specs.declared.arguments.request.Request.TheVariants.{Check, Explain, Object, ObjectLines, SuggestPools, Sample, Cover, Help, UsageError, NoMemory}
@@ -144,25 +145,22 @@ HasOptions rows _ = Unit {0}
 abbrev pub AreObjectArguments : ObjectCommand → List Row → ObjectArguments → Type 0
 AreObjectArguments command rows arguments = (arguments.command ≡ command) × HasOptions rows command × AreCommonArguments rows arguments.common × (file_name arguments.object ≡ object_input rows)
 
+-- what samples are made of
+abbrev pub ArePlanArguments : List Row → PlanArguments → Type 0
+ArePlanArguments rows arguments = AreCommonArguments rows arguments.common × (option_map file_name arguments.pools ≡ pools_input rows)
+    × IsNumberOf (codes "limit") 127 rows arguments.limit × (option_map (λ s. s.now) arguments.name ≡ first_of (codes "name") rows)
+
 abbrev pub AreSampleArguments : List Row → SampleArguments → Type 0
-AreSampleArguments rows arguments = AreCommonArguments rows arguments.common × (option_map file_name arguments.pools ≡ pools_input rows)
-    × (option_map (λ s. s.now) arguments.after ≡ first_of (codes "after") rows) × (option_map (λ s. s.now) arguments.name ≡ first_of (codes "name") rows)
-    × IsNumberOf (codes "limit") 127 rows arguments.limit × IsNumberOf (codes "count") 10000 rows arguments.count
-    × IsFlagOf (codes "all") rows arguments.all
+AreSampleArguments rows arguments = ArePlanArguments rows arguments.plan × (option_map (λ s. s.now) arguments.after ≡ first_of (codes "after") rows)
+    × IsNumberOf (codes "count") 10000 rows arguments.count × IsFlagOf (codes "all") rows arguments.all
 
 -- the words after these options, in order
 abbrev pub ArePoolsArguments : List Row → PoolsArguments → Type 0
 ArePoolsArguments rows arguments = AreCommonArguments rows arguments.common × (map (λ s. s.now) arguments.from.items ≡ values_of (codes "from") rows)
     × (map (λ s. s.now) arguments.varied.items ≡ values_of (codes "vary") rows) × (map (λ s. s.now) arguments.without.items ≡ values_of (codes "without") rows)
 
--- what samples are chosen from, where there is nothing to go on from
-abbrev pub AreChoiceArguments : List Row → SampleArguments → Type 0
-AreChoiceArguments rows arguments = AreCommonArguments rows arguments.common × (option_map file_name arguments.pools ≡ pools_input rows)
-    × (option_map (λ s. s.now) arguments.after ≡ None) × (option_map (λ s. s.now) arguments.name ≡ first_of (codes "name") rows)
-    × IsNumberOf (codes "limit") 127 rows arguments.limit
-
 abbrev pub AreCoverArguments : List Row → CoverArguments → Type 0
-AreCoverArguments rows arguments = AreChoiceArguments rows arguments.samples × IsFlagOf (codes "values") rows arguments.values
+AreCoverArguments rows arguments = ArePlanArguments rows arguments.plan × IsFlagOf (codes "values") rows arguments.values
 
 abbrev pub object_command_name : ObjectCommand → Text
 object_command_name (Validate strict) = codes "validate"

@@ -1,16 +1,17 @@
 -- Which documents are at hand (this project's own).
 use Rattle.std.specs.Prelude.{ℕ, List, Option, Some, None, Result}
-use Rattle.std.specs.Borrow.{Bor}
 use Rattle.jtree.specs.Data.{Data}
 use Rattle.jtree.specs.declared.fault.JFault.{JFault}
+use Rattle.crdx.specs.declared.inputs.InputName.{InputName}
+use Rattle.crdx.specs.declared.inputs.InputName.TheVariants.{Stdin, File}
 
 -- by the name of a file, or by none for the standard input: the document that is there, or why there is none
 abbrev pub Documents : Type 1
 Documents = Option (List ℕ) → Result Data JFault → Type 0
 
-abbrev pub file_name : Option (Bor (List ℕ)) → Option (List ℕ)
-file_name None = None
-file_name (Some name) = Some name.now
+abbrev pub file_name : InputName → Option (List ℕ)
+file_name Stdin = None
+file_name (File name) = Some name.now
 
 -- by the name of a file, or by none for the standard input: the lines that it has
 abbrev pub Lines : Type 1

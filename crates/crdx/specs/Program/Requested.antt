@@ -25,12 +25,14 @@ use Rattle.plan.specs.Pools.PlanFault.{HasGoodPaths}
 use Rattle.plan.specs.Samples.Question.{Question}
 use Rattle.plan.specs.declared.fault.PFault.{PFault}
 use Rattle.plan.specs.declared.fault.PFault.TheVariants as p
+use Rattle.crdx.specs.declared.inputs.InputName.{InputName}
 use Rattle.crdx.specs.Program.Documents.{Documents, file_name}
 use Rattle.crdx.specs.Program.Envelope.{body_of}
 use Rattle.jtree.specs.Reads.{IsNoDocument}
 use Rattle.crdx.specs.Program.InputFault.{IsOfBytes}
 use Rattle.crdx.specs.declared.arguments.request.CommonArguments.{CommonArguments}
 use Rattle.crdx.specs.declared.arguments.request.ObjectArguments.{ObjectArguments}
+use Rattle.crdx.specs.declared.arguments.request.PlanArguments.{PlanArguments}
 use Rattle.crdx.specs.declared.arguments.request.SampleArguments.{SampleArguments}
 use Rattle.crdx.specs.Output.Walk.{most_lines}
 use Rattle.crdx.specs.declared.walk.line.Envelope.{Envelope}
@@ -75,20 +77,20 @@ abbrev pub IsCrdRefused : Documents → CommonArguments → Type 0
 IsCrdRefused has arguments = ((fault : JFault) × IsOfBytes fault × has (file_name arguments.crd) (Err fault)) ⊎ ((fault : SFault) × HasReadFault has arguments fault)
 
 -- the pools of the document that is named, within the limits, and empty ones where none is
-abbrev pub ArePools : Documents → PoolLimits → Option (Option (Bor (List ℕ))) → Pools → Type 0
+abbrev pub ArePools : Documents → PoolLimits → Option InputName → Pools → Type 0
 ArePools has limits None P = P ≡ record { integers = []; strings = []; names = []; any = []; paths = no_members; fixed = no_members; present = [] }
 ArePools has limits (Some name) P = (document : Data) × has (file_name name) (Ok document) × HasForm document × (P ≡ pools_of document) × AreSmall limits P
 
 -- a fault of the document that is named as pools, read within the limits
-abbrev pub HasPoolsFault : Documents → PoolLimits → Option (Option (Bor (List ℕ))) → PFault → Type 0
+abbrev pub HasPoolsFault : Documents → PoolLimits → Option InputName → PFault → Type 0
 HasPoolsFault has limits pools fault = IsSomeAnd pools (λ name. (document : Data) × has (file_name name) (Ok document) × (fault ≢ p.NoMemory) × IsPoolsFault limits document fault)
 
 -- there is no document where one is named, or it has a fault as pools
-abbrev pub ArePoolsRefused : Documents → PoolLimits → Option (Option (Bor (List ℕ))) → Type 0
+abbrev pub ArePoolsRefused : Documents → PoolLimits → Option InputName → Type 0
 ArePoolsRefused has limits pools = ((fault : JFault) × IsOfBytes fault × IsSomeAnd pools (λ name. has (file_name name) (Err fault))) ⊎ ((fault : PFault) × HasPoolsFault has limits pools fault)
 
--- the root of the schema that the arguments of `sample` ask for, and the pools whose paths are judged by it
-pub record AreRootAndPools (has : Documents) (arguments : SampleArguments) (N : Node) (P : Pools) : Type 0 where
+-- the root of the schema that a plan is asked of, and the pools whose paths are judged by it
+pub record AreRootAndPools (has : Documents) (arguments : PlanArguments) (N : Node) (P : Pools) : Type 0 where
   pub root : IsRequestedRoot has arguments.common N
   pub pools : ArePools has (pool_limits_of arguments.common) arguments.pools P
 
@@ -110,8 +112,8 @@ abbrev pub envelope_for : List ℕ → List ℕ → List ℕ → Option (Bor (Li
 envelope_for group version kind None = None
 envelope_for group version kind (Some name) = Some (record { api_version = group ++ (codes "/" ++ version); kind = kind; name = name.now })
 
--- the question that the arguments of `sample` ask, the tree to go on from, and the envelope that its samples are printed with
-pub record IsRequested (has : Documents) (arguments : SampleArguments) (q : Question) (after : Option Data) (e : Option Envelope) : Type 0 where
+-- the question that the arguments of a plan ask, and the envelope that its samples are printed with
+pub record IsRequested (has : Documents) (arguments : PlanArguments) (q : Question) (e : Option Envelope) : Type 0 where
   pub group : List ℕ
   pub kind : List ℕ
   pub raw : Data
@@ -121,8 +123,11 @@ pub record IsRequested (has : Documents) (arguments : SampleArguments) (q : Ques
   pub pools : ArePools has (pool_limits_of arguments.common) arguments.pools q.pools
   pub paths : HasGoodPaths q.root q.pools
   pub limit : q.limit ≡ arguments.limit
-  pub resumed : IsAfter arguments.after after
   pub envelope : e ≡ envelope_for group arguments.common.version.now kind arguments.name
+
+-- the question that the arguments of `sample` ask, the tree to go on from, and the envelope
+abbrev pub IsRequestedWalk : Documents → SampleArguments → Question → Option Data → Option Envelope → Type 0
+IsRequestedWalk has arguments q after e = IsRequested has arguments.plan q e × IsAfter arguments.after after
 
 -- the document whose body is asked about, and the node of that
 pub record IsRequestedObject (has : Documents) (arguments : ObjectArguments) (N : Node) (document : Data) : Type 0 where

@@ -23,7 +23,7 @@ use Rattle.suggest.specs.Suggested.Fault.{IsSuggestFault}
 use Rattle.suggest.specs.Suggested.Wanted.{Wanted as PoolsWanted}
 use Rattle.suggest.specs.declared.fault.SuggestFault.{SuggestFault}
 use Rattle.suggest.specs.declared.fault.SuggestFault.TheVariants as suggest
-use Rattle.crdx.specs.Program.Requested.{pool_limits_of, total_of, IsRequestedSchema, IsAcceptedSchema, HasAcceptedSchema, IsCrdRefused, AreRootAndPools, IsAfterRefused, IsRequested, ArePoolsRefused, IsRequestedRoot, IsRequestedObject, IsObjectRefused}
+use Rattle.crdx.specs.Program.Requested.{pool_limits_of, total_of, IsRequestedSchema, IsAcceptedSchema, HasAcceptedSchema, IsCrdRefused, AreRootAndPools, IsAfterRefused, IsRequested, IsRequestedWalk, ArePoolsRefused, IsRequestedRoot, IsRequestedObject, IsObjectRefused}
 use Rattle.plan.specs.Pools.Pools.{Pools}
 use Rattle.plan.specs.Pools.PlanFault.{HasGoodPaths, IsFirstBadPath}
 use Rattle.plan.specs.Samples.Question.{Question}
@@ -34,6 +34,7 @@ use Rattle.crdx.specs.declared.arguments.request.CommonArguments.{CommonArgument
 use Rattle.crdx.specs.declared.arguments.request.CoverArguments.{CoverArguments}
 use Rattle.crdx.specs.declared.arguments.request.ExplainArguments.{ExplainArguments}
 use Rattle.crdx.specs.declared.arguments.request.ObjectArguments.{ObjectArguments}
+use Rattle.crdx.specs.declared.arguments.request.PlanArguments.{PlanArguments}
 use Rattle.crdx.specs.declared.arguments.request.PoolsArguments.{PoolsArguments}
 use Rattle.crdx.specs.declared.arguments.request.SampleArguments.{SampleArguments}
 use Rattle.crdx.specs.declared.arguments.request.Request.{Request}
@@ -60,28 +61,30 @@ pub data IsAnswer (has : Documents) : Request → ℕ → List ℕ → Type 0 wh
   no_object : (arguments : ObjectArguments) (breaks : List Break) → HasBreaks has arguments.common breaks → IsAnswer has (Object arguments) 1 []
   no_objects : (arguments : ObjectArguments) (breaks : List Break) → HasBreaks has arguments.common breaks → IsAnswer has (ObjectLines arguments) 1 []
   no_pools : (arguments : PoolsArguments) (breaks : List Break) → HasBreaks has arguments.common breaks → IsAnswer has (SuggestPools arguments) 1 []
-  samples : (arguments : SampleArguments) (q : Question) (after : Option Data) (e : Option Envelope) (items : List Data) (end : Bool) → IsRequested has arguments q after e
+  samples : (arguments : SampleArguments) (q : Question) (after : Option Data) (e : Option Envelope) (items : List Data) (end : Bool) → IsRequestedWalk has arguments q after e
       → IfSome after (IsSampleOf q) → IsPage q after (total_of arguments) items end → IsAnswer has (Sample arguments) 0 (lines e items)
   -- the tree to go on from is no sample
-  no_sample : (arguments : SampleArguments) (q : Question) (after : Data) (e : Option Envelope) → IsRequested has arguments q (Some after) e → (IsSampleOf q after → ⊥)
+  no_sample : (arguments : SampleArguments) (q : Question) (after : Data) (e : Option Envelope) → IsRequestedWalk has arguments q (Some after) e → (IsSampleOf q after → ⊥)
       → IsAnswer has (Sample arguments) 1 []
-  no_samples : (arguments : SampleArguments) (breaks : List Break) → HasBreaks has arguments.common breaks → IsAnswer has (Sample arguments) 1 []
+  no_samples : (arguments : SampleArguments) (breaks : List Break) → HasBreaks has arguments.plan.common breaks → IsAnswer has (Sample arguments) 1 []
   -- for each path, in the order of `explain`, the first sample in which it is there, where it is there in none of those before; and where
   -- values are asked for, then the same for each of its values
-  covers : (arguments : CoverArguments) (q : Question) (after : Option Data) (e : Option Envelope) (c : Covered) → IsRequested has arguments.samples q after e
+  covers : (arguments : CoverArguments) (q : Question) (e : Option Envelope) (c : Covered) → IsRequested has arguments.plan q e
       → IsWholeCover arguments.values q c → IsAnswer has (Cover arguments) 0 (lines e (objects_of c))
-  -- nothing is covered where no samples are listed
-  no_cover : (arguments : CoverArguments) → IsAnswer has (Sample arguments.samples) 1 [] → IsAnswer has (Cover arguments) 1 []
+  no_cover : (arguments : CoverArguments) (breaks : List Break) → HasBreaks has arguments.plan.common breaks → IsAnswer has (Cover arguments) 1 []
   help : (said : String Global) → IsAnswer has (Help said) 0 (string_bytes said)
   usage_error : (said : String Global) → IsAnswer has (UsageError said) 2 []
 
 -- an input of the request is refused: an object or pools only where the schema is taken, a path of the pools only where their
 -- document is, and the tree to go on from only where all paths are
-abbrev pub IsSamplingRefused : Documents → SampleArguments → Type 0
-IsSamplingRefused has arguments = IsCrdRefused has arguments.common
+abbrev pub IsPlanRefused : Documents → PlanArguments → Type 0
+IsPlanRefused has arguments = IsCrdRefused has arguments.common
     ⊎ ((HasAcceptedSchema has arguments.common × ArePoolsRefused has (pool_limits_of arguments.common) arguments.pools)
-    ⊎ ((N : Node) × (P : Pools) × AreRootAndPools has arguments N P
-    × (((text : List ℕ) × IsFirstBadPath N P text) ⊎ (HasGoodPaths N P × IsAfterRefused arguments.after))))
+    ⊎ ((N : Node) × (P : Pools) × AreRootAndPools has arguments N P × (text : List ℕ) × IsFirstBadPath N P text))
+
+abbrev pub IsSamplingRefused : Documents → SampleArguments → Type 0
+IsSamplingRefused has arguments = IsPlanRefused has arguments.plan
+    ⊎ ((N : Node) × (P : Pools) × AreRootAndPools has arguments.plan N P × HasGoodPaths N P × IsAfterRefused arguments.after)
 
 abbrev pub IsInputRefused : Documents → Request → Type 0
 IsInputRefused has (Check arguments) = IsCrdRefused has arguments
@@ -91,7 +94,7 @@ IsInputRefused has (Object arguments) = IsCrdRefused has arguments.common
 IsInputRefused has (ObjectLines arguments) = IsCrdRefused has arguments.common
 IsInputRefused has (SuggestPools arguments) = IsCrdRefused has arguments.common
 IsInputRefused has (Sample arguments) = IsSamplingRefused has arguments
-IsInputRefused has (Cover arguments) = IsSamplingRefused has arguments.samples
+IsInputRefused has (Cover arguments) = IsPlanRefused has arguments.plan
 IsInputRefused has _ = ⊥
 
 -- What a run finds outside of it and leaves there: the documents and the lines at hand before it, and, before it and after it, how often reads
@@ -105,6 +108,19 @@ pub record Effects : Type 1 where
   pub output : Option (List ℕ)
   pub failed_writes_before : ℕ
   pub failed_writes : ℕ
+
+-- those of a run from these inputs and this standard output to those, by what inputs and outputs say of themselves
+abbrev pub effects : {S T : Type 0} → (S → Documents) → (S → Lines) → (S → ℕ) → (T → Option (List ℕ)) → (T → ℕ) → S → S → T → T → Effects
+effects has lines unread taken unwritten before after old new = record {
+  documents = has before;
+  lines = lines before;
+  failed_reads_before = unread before;
+  failed_reads = unread after;
+  output_before = taken old;
+  output = taken new;
+  failed_writes_before = unwritten old;
+  failed_writes = unwritten new;
+}
 
 -- nothing is written to standard output, and it does not fail
 pub record WritesNothing (run : Effects) : Type 0 where
@@ -122,19 +138,19 @@ IsCoverCut values q e old new = (n : ℕ) × (c : Covered) × IsCoverBegun value
 -- what is out where standard output failed: a beginning of the answer, as a walk past a sample, or past nothing, or a cover leaves it
 abbrev pub IsCutByWrite : Effects → Request → Type 0
 IsCutByWrite run (Sample arguments) =
-    (q : Question) × (after : Option Data) × (e : Option Envelope) × IsRequested run.documents arguments q after e × IfSome after (IsSampleOf q)
+    (q : Question) × (after : Option Data) × (e : Option Envelope) × IsRequestedWalk run.documents arguments q after e × IfSome after (IsSampleOf q)
     × ((items : List Data) (end : Bool) → IsPage q after (total_of arguments) items end → IsCutByFailure e items run.output_before run.output)
-IsCutByWrite run (Cover arguments) = (q : Question) × (after : Option Data) × (e : Option Envelope) × IsRequested run.documents arguments.samples q after e
+IsCutByWrite run (Cover arguments) = (q : Question) × (e : Option Envelope) × IsRequested run.documents arguments.plan q e
     × IsCoverCut arguments.values q e run.output_before run.output
 IsCutByWrite run request = (status : ℕ) × (answer : List ℕ) × IsAnswer run.documents request status answer × (n : ℕ) × Appends run.output_before run.output (take n answer)
 
 -- what is out where memory ran out: nothing, or whole lines of samples, as a walk past a sample, or past nothing, or a cover leaves them
 abbrev pub IsCutByMemory : Effects → Request → Type 0
 IsCutByMemory run (Sample arguments) = Keeps run.output_before run.output
-    ⊎ ((q : Question) × (after : Option Data) × (e : Option Envelope) × IsRequested run.documents arguments q after e × IfSome after (IsSampleOf q)
+    ⊎ ((q : Question) × (after : Option Data) × (e : Option Envelope) × IsRequestedWalk run.documents arguments q after e × IfSome after (IsSampleOf q)
     × (n : ℕ) × ((items : List Data) (end : Bool) → IsPage q after (total_of arguments) items end → IsCutBetweenLines e items n run.output_before run.output))
 IsCutByMemory run (Cover arguments) = Keeps run.output_before run.output
-    ⊎ ((q : Question) × (after : Option Data) × (e : Option Envelope) × IsRequested run.documents arguments.samples q after e
+    ⊎ ((q : Question) × (e : Option Envelope) × IsRequested run.documents arguments.plan q e
     × IsCoverBegunOut arguments.values q e run.output_before run.output)
 IsCutByMemory run request = Keeps run.output_before run.output
 

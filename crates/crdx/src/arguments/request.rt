@@ -1,11 +1,13 @@
 //! What the arguments of the command line can ask for.
 ghost use Rattle.std.specs.Prelude.{◌≤◌};
 
+use crate::inputs::InputName;
+
 /// The arguments that every command takes.
 #[derive(Clone, Copy, Drop)]
 pub struct CommonArguments<'a> {
-    /// The file of the CustomResourceDefinition; `None` for the standard input.
-    pub crd: Option<&'a str>,
+    /// The input of the CustomResourceDefinition.
+    pub crd: InputName<'a>,
     /// The version whose schema is asked for.
     pub version: &'a str,
     /// Whether `--large` is given: `Limits::LARGE` and `PoolLimits::LARGE` are kept, and else the standard ones.
@@ -14,24 +16,30 @@ pub struct CommonArguments<'a> {
     pub why: bool,
 }
 
+/// What samples are made of.
+#[derive(Clone, Copy, Drop)]
+pub struct PlanArguments<'a> {
+    pub common: CommonArguments<'a>,
+    /// The input of the pools, where it is named.
+    pub pools: Option<InputName<'a>>,
+    /// The node limit, 1 to 127.
+    pub limit: u32,
+    /// The name in the envelope that samples are printed with, where there is one.
+    pub name: Option<&'a str>,
+    ghost limit_least: { 1 ≤ limit },
+    ghost limit_most: { limit ≤ 127 },
+}
+
 /// The arguments of `sample`.
 #[derive(Drop)]
 pub struct SampleArguments<'a> {
-    pub common: CommonArguments<'a>,
-    /// The pools, where they are named: their file, or `None` for the standard input.
-    pub pools: Option<Option<&'a str>>,
+    pub plan: PlanArguments<'a>,
     /// The JSON of the sample to go on from, where there is one; its envelope is not judged.
     pub after: Option<&'a str>,
-    /// The name in the envelope that samples are printed with, where there is one.
-    pub name: Option<&'a str>,
-    /// The node limit, 1 to 127.
-    pub limit: u32,
     /// How many samples are asked for, 1 to 10,000, where `all` is not.
     pub count: u32,
     /// Whether `--all` is given: whether all samples are asked for, and no number of them.
     pub all: bool,
-    ghost limit_least: { 1 ≤ limit },
-    ghost limit_most: { limit ≤ 127 },
     ghost count_least: { 1 ≤ count },
     ghost count_most: { count ≤ 10000 },
 }
@@ -51,8 +59,7 @@ pub struct PoolsArguments<'a> {
 /// The arguments of `cover`.
 #[derive(Drop)]
 pub struct CoverArguments<'a> {
-    /// What the samples are chosen from; there is nothing to go on from, and the count says nothing.
-    pub samples: SampleArguments<'a>,
+    pub plan: PlanArguments<'a>,
     /// Whether `--values` is given: whether each value of each scalar is wanted too.
     pub values: bool,
 }
@@ -86,8 +93,8 @@ pub enum ObjectCommand {
 pub struct ObjectArguments<'a> {
     pub common: CommonArguments<'a>,
     pub command: ObjectCommand,
-    /// The file of the object, or of the objects; `None` for the standard input.
-    pub object: Option<&'a str>,
+    /// The input of the object, or of the objects.
+    pub object: InputName<'a>,
 }
 
 /// What the arguments ask for.

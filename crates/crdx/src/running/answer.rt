@@ -10,11 +10,12 @@ ghost use Rattle.crdx.specs.Program.TextList.{text_list};
 use jtree::{Items, Text, Tree};
 use std::alloc::{AllocError, Global};
 
-/// A whole answer: the exit status, and the text for standard output.
+/// A whole answer: the exit status, and the texts for standard output and for standard error.
 #[derive(Drop)]
 pub(crate) struct Answer {
     pub status: u8,
-    pub text: String,
+    pub out: String,
+    pub err: String,
 }
 
 /// A text as JSON, quoted (RFC 8259).

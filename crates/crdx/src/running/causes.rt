@@ -2,6 +2,7 @@
 ghost use Rattle.std.specs.Prelude.{◌≡◌};
 ghost use Rattle.crdx.specs.Internal.ExitStatus.{status};
 
+use crate::running::exit_status::{FAILED, NO, NO_MEMORY, REFUSED};
 use crate::walk::WFault;
 use explain::XFault;
 use jtree::JFault;
@@ -99,11 +100,11 @@ impl Cause {
         ensures { result ≡ status self.now }
     {
         match self {
-            Cause::Violations(_) | Cause::NoField(_) | Cause::NotStored | Cause::NotASample => 1,
-            Cause::Document(_, _) | Cause::Line(_, _) => 3,
-            Cause::Crd(_) | Cause::Pools(_) | Cause::Place(_, _, _) => 3,
-            Cause::Read(_) | Cause::Write(_) => 4,
-            Cause::NoMemory => 5,
+            Cause::Violations(_) | Cause::NoField(_) | Cause::NotStored | Cause::NotASample => NO,
+            Cause::Document(_, _) | Cause::Line(_, _) => REFUSED,
+            Cause::Crd(_) | Cause::Pools(_) | Cause::Place(_, _, _) => REFUSED,
+            Cause::Read(_) | Cause::Write(_) => FAILED,
+            Cause::NoMemory => NO_MEMORY,
         }
     }
 }

@@ -11,43 +11,47 @@ use crate::arguments::CommonArguments;
 use crate::inputs::Inputs;
 use crate::phrases::{phrase, reason_phrase};
 use crate::running::answer::{Answer, json_text};
-use crate::running::causes::Cause;
-use crate::running::documents::crd_of;
-use crate::running::explanation::Explanation;
+use crate::running::documents::read_definition;
+use crate::running::exit_status::{DONE, NO};
 use crate::running::lines::{Lines, all_lines};
+use crate::running::refusal::Refusal;
 use schema::{Explained, Finding, RawSchema, Violation};
 use std::alloc::{AllocError, Global};
 use stored::{explained, violations};
 
 /// `structural` of a schema that breaks no rule, and else a line for each rule and place; where the reasons are asked for, a
 /// line for each of them below it.
-pub(crate) fn check<I: Inputs>(
+pub(crate) fn check<'a, I: Inputs>(
     alloc: Global,
-    arguments: &CommonArguments<'_>,
+    arguments: &CommonArguments<'a>,
     inputs: &mut I,
-    explanation: &mut Explanation,
-) -> Result<Answer, Cause>
-    ensures answer { IfOk result (λ a. IsAnswer (I.has inputs.old) (Check arguments.now) a.status (string_bytes a.text)) }
-    ensures cause { IfErr result (IsInputCause (I.has inputs.old) (I.failures inputs.old) (I.failures inputs.new) (Check arguments.now)) }
+) -> Result<Answer, Refusal<'a>>
+    ensures answer { IfOk result (λ a. IsAnswer (I.has inputs.old) (Check arguments.now) a.status (string_bytes a.out)) }
+    ensures cause { IfErr result (λ r. IsInputCause (I.has inputs.old) (I.failures inputs.old) (I.failures inputs.new) (Check arguments.now) r.cause) }
 {
-    let crd = crd_of(alloc, arguments, inputs, explanation)?;
-    let text = check_text(alloc, &crd.raw, arguments.why);
-    drop(crd);
+    let definition = read_definition(alloc, arguments, inputs)?;
+    let text = check_text(alloc, &definition.crd.raw, arguments.why);
+    drop(definition);
     Ok(verdict(alloc, text?)?)
 }
 
 /// `structural` where no line is said of a schema, and else the lines.
 fn verdict(alloc: Global, text: String) -> Result<Answer, AllocError>
-    ensures none { string_bytes text ≡ [] → IfOk result (λ a. (a.status ≡ 0) × (string_bytes a.text ≡ codes "structural\n")) }
-    ensures some { string_bytes text ≢ [] → IfOk result (λ a. (a.status ≡ 1) × (string_bytes a.text ≡ string_bytes text)) }
+    ensures none { string_bytes text ≡ [] → IfOk result (λ a. (a.status ≡ 0) × (string_bytes a.out ≡ codes "structural\n")) }
+    ensures some { string_bytes text ≢ [] → IfOk result (λ a. (a.status ≡ 1) × (string_bytes a.out ≡ string_bytes text)) }
 {
     if text.is_empty() {
         Ok(Answer {
-            status: 0,
-            text: String::from_str(alloc, "structural\n")?,
+            status: DONE,
+            out: String::from_str(alloc, "structural\n")?,
+            err: String::new(alloc),
         })
     } else {
-        Ok(Answer { status: 1, text })
+        Ok(Answer {
+            status: NO,
+            out: text,
+            err: String::new(alloc),
+        })
     }
 }
 

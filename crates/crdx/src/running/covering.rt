@@ -8,84 +8,66 @@ ghost use Rattle.cover.specs.Cover.{IsWholeCover, objects_of};
 ghost use Rattle.cover.specs.View.{covered_of};
 ghost use Rattle.crdx.specs.Internal.Cause.{IsCoverResult, IsCoveringCause, IsCutText};
 ghost use Rattle.crdx.specs.Output.Line.{line as line_of, lines as lines_of};
+ghost use Rattle.crdx.specs.Program.RunResult.{effects};
 
-use crate::arguments::{CoverArguments, SampleArguments};
+use crate::arguments::CoverArguments;
 use crate::inputs::Inputs;
 use crate::running::answer::{json_line, json_text, json_tree};
 use crate::running::causes::Cause;
-use crate::running::explanation::Explanation;
+use crate::running::ended::Ended;
+use crate::running::exit_status::DONE;
+use crate::running::refusal::Refusal;
 use crate::running::reporting::{newlines, put_text};
-use crate::running::sampling::{SampleInputs, WORD, sample_inputs};
+use crate::running::sampling::{PlanSource, WORD, plan_source};
 use crate::sink::Sink;
 use crate::walk::{Envelope, with_envelope};
-use cover::{Covered, Covering, Line};
+use cover::{Covered, Covering, Line, Wanted};
 use jtree::Tree;
 use plan::{Plan, SizeSet};
 use std::alloc::{AllocError, Global};
 
 /// Writes the samples that cover a schema, each when it is there, and answers what is to be said of what none of them has.
-pub(crate) fn cover_paths<I: Inputs, W: Sink>(
+pub(crate) fn cover_paths<'a, I: Inputs, W: Sink>(
     alloc: Global,
-    arguments: &CoverArguments<'_>,
+    arguments: &CoverArguments<'a>,
     inputs: &mut I,
-    explanation: &mut Explanation,
     out: &mut W,
-) -> Result<String, Cause>
-    ensures { IsCoverResult (record {
-      documents = I.has inputs.old;
-      lines = I.lines inputs.old;
-      failed_reads_before = I.failures inputs.old;
-      failed_reads = I.failures inputs.new;
-      output_before = W.taken out.old;
-      output = W.taken out.new;
-      failed_writes_before = W.failures out.old;
-      failed_writes = W.failures out.new;
-    }) arguments.now result }
+) -> Result<Ended, Refusal<'a>>
+    ensures { IsCoverResult (effects I.has I.lines I.failures W.taken W.failures inputs.old inputs.new out.old out.new) arguments.now result }
 {
-    if arguments.samples.limit < WORD {
-        cover_with::<u64, I, W>(alloc, arguments, inputs, explanation, out)
+    if arguments.plan.limit < WORD {
+        cover_with::<u64, I, W>(alloc, arguments, inputs, out)
     } else {
-        cover_with::<u128, I, W>(alloc, arguments, inputs, explanation, out)
+        cover_with::<u128, I, W>(alloc, arguments, inputs, out)
     }
 }
 
 /// As `cover_paths`, by plans over these sets of sizes.
-fn cover_with<Z: SizeSet, I: Inputs, W: Sink>(
+fn cover_with<'a, Z: SizeSet, I: Inputs, W: Sink>(
     alloc: Global,
-    arguments: &CoverArguments<'_>,
+    arguments: &CoverArguments<'a>,
     inputs: &mut I,
-    explanation: &mut Explanation,
     out: &mut W,
-) -> Result<String, Cause>
-    requires { arguments.now.samples.limit < Z.BITS }
-    ensures { IsCoverResult (record {
-      documents = I.has inputs.old;
-      lines = I.lines inputs.old;
-      failed_reads_before = I.failures inputs.old;
-      failed_reads = I.failures inputs.new;
-      output_before = W.taken out.old;
-      output = W.taken out.new;
-      failed_writes_before = W.failures out.old;
-      failed_writes = W.failures out.new;
-    }) arguments.now result }
+) -> Result<Ended, Refusal<'a>>
+    requires { arguments.now.plan.limit < Z.BITS }
+    ensures { IsCoverResult (effects I.has I.lines I.failures W.taken W.failures inputs.old inputs.new out.old out.new) arguments.now result }
 {
-    let found = match sample_inputs::<Z, I>(alloc, &arguments.samples, inputs, explanation) {
+    let found = match plan_source::<Z, I>(alloc, &arguments.plan, inputs) {
         Ok(found) => found,
-        Err(cause) => return Err(cause),
+        Err(refusal) => return Err(refusal),
     };
-    let SampleInputs {
-        plan,
-        after: _,
-        envelope,
-    } = found;
+    let PlanSource { plan, envelope } = found;
     let covered = match write_cover(alloc, plan, arguments.values, envelope.as_ref(), out) {
         Ok(covered) => covered,
-        Err(cause) => return Err(cause),
+        Err(cause) => return Err(cause.into()),
     };
-    explanation.withdraw();
     match missed_lines(alloc, &covered, arguments) {
-        Ok(said) => Ok(said),
-        Err(_) => Err(Cause::NoMemory),
+        Ok(said) => Ok(Ended {
+            status: DONE,
+            line: "",
+            lines: Some(said),
+        }),
+        Err(error) => Err(error.into()),
     }
 }
 
@@ -178,62 +160,85 @@ fn missed_lines(
         return String::from_str(alloc, "crdx: all paths and values are in some sample\n");
     }
     let mut said = String::new(alloc);
-    say_paths(alloc, covered, &arguments.samples, &mut said)?;
-    say_values(alloc, covered, &arguments.samples, &mut said)?;
+    say_missed(alloc, covered, arguments, Kind::Path, &mut said)?;
+    say_missed(alloc, covered, arguments, Kind::Value, &mut said)?;
     Ok(said)
 }
 
-fn say_paths(
+/// What a sample is wanted to have.
+#[derive(Clone, Copy, PartialEq, Eq, Drop)]
+enum Kind {
+    Path,
+    Value,
+}
+
+impl Kind {
+    fn of(wanted: &Wanted) -> Kind {
+        match wanted.value {
+            None => Kind::Path,
+            Some(_) => Kind::Value,
+        }
+    }
+}
+
+/// Adds how many of this kind no sample has, and with `--why` which ones.
+fn say_missed(
     alloc: Global,
     covered: &Covered,
-    arguments: &SampleArguments<'_>,
+    arguments: &CoverArguments<'_>,
+    kind: Kind,
     said: &mut String,
 ) -> Result<(), AllocError> {
-    let most = node_count(alloc, arguments.limit)?;
-    let missed = covered.missed.iter().filter(|w| w.value.is_none()).count();
-    let first = match missed {
-        0 => String::from_str(alloc, "crdx: all paths are in some sample\n")?,
-        1 => format!(in alloc; "crdx: 1 path is in no sample of at most {most}\n")?,
-        count => format!(in alloc; "crdx: {count} paths are in no sample of at most {most}\n")?,
-    };
+    let count = covered
+        .missed
+        .iter()
+        .filter(|w| Kind::of(w) == kind)
+        .count();
+    let first = count_line(alloc, kind, count, arguments.plan.limit)?;
     said.push_str(first.as_str())?;
-    if arguments.common.why {
+    if arguments.plan.common.why {
         for wanted in &covered.missed {
-            if wanted.value.is_none() {
-                let path = json_text(alloc, wanted.path.as_str())?;
-                let line = format!(in alloc; "    {path}\n")?;
-                said.push_str(line.as_str())?;
+            if Kind::of(wanted) == kind {
+                said.push_str(missed_line(alloc, wanted)?.as_str())?;
             }
         }
     }
     Ok(())
 }
 
-fn say_values(
-    alloc: Global,
-    covered: &Covered,
-    arguments: &SampleArguments<'_>,
-    said: &mut String,
-) -> Result<(), AllocError> {
-    let most = node_count(alloc, arguments.limit)?;
-    let missed = covered.missed.iter().filter(|w| w.value.is_some()).count();
-    let first = match missed {
-        0 => return Ok(()),
-        1 => format!(in alloc; "crdx: 1 value is in no sample of at most {most}\n")?,
-        count => format!(in alloc; "crdx: {count} values are in no sample of at most {most}\n")?,
-    };
-    said.push_str(first.as_str())?;
-    if arguments.common.why {
-        for wanted in &covered.missed {
-            if let Some(value) = &wanted.value {
-                let path = json_text(alloc, wanted.path.as_str())?;
-                let value = json_tree(alloc, value)?;
-                let line = format!(in alloc; "    {path} {value}\n")?;
-                said.push_str(line.as_str())?;
-            }
+/// How many of a kind are in no sample within the limit.
+fn count_line(alloc: Global, kind: Kind, count: usize, limit: u32) -> Result<String, AllocError> {
+    let most = node_count(alloc, limit)?;
+    match (kind, count) {
+        (Kind::Path, 0) => String::from_str(alloc, "crdx: all paths are in some sample\n"),
+        (Kind::Value, 0) => Ok(String::new(alloc)),
+        (_, 1) => {
+            let one = match kind {
+                Kind::Path => "path",
+                Kind::Value => "value",
+            };
+            format!(in alloc; "crdx: 1 {one} is in no sample of at most {most}\n")
+        }
+        _ => {
+            let several = match kind {
+                Kind::Path => "paths",
+                Kind::Value => "values",
+            };
+            format!(in alloc; "crdx: {count} {several} are in no sample of at most {most}\n")
         }
     }
-    Ok(())
+}
+
+/// The line of a path, or of a value at a path.
+fn missed_line(alloc: Global, wanted: &Wanted) -> Result<String, AllocError> {
+    let path = json_text(alloc, wanted.path.as_str())?;
+    match &wanted.value {
+        None => format!(in alloc; "    {path}\n"),
+        Some(value) => {
+            let value = json_tree(alloc, value)?;
+            format!(in alloc; "    {path} {value}\n")
+        }
+    }
 }
 
 /// A number of nodes, in words.

@@ -11,72 +11,92 @@ ghost use Rattle.crdx.specs.Program.Requested.{limits_of, pool_limits_of, IsRequ
 ghost use Rattle.crdx.specs.Program.Documents.{AreAmong, AreLinesAmong, file_name};
 ghost use Rattle.crdx.specs.Program.Envelope.{body_of as body};
 
-use crate::arguments::{CommonArguments, SampleArguments};
+use crate::arguments::{CommonArguments, PlanArguments};
 use crate::envelope::split;
-use crate::inputs::{InFault, Inputs};
+use crate::inputs::{InFault, InputName, Inputs};
 use crate::running::causes::{Cause, Input};
-use crate::running::explanation::Explanation;
+use crate::running::refusal::{Refusal, Subject};
 use jtree::{JFault, Text, Tree};
 use plan::{PoolLimits, Pools};
 use schema::{Crd, Limits, read_crd_within};
 use std::alloc::Global;
 use stored::{Schema, accept};
 
-/// A schema that breaks no rule, and the group and the kind of its resources.
+/// A CustomResourceDefinition, and what is read of it.
+#[derive(Drop)]
+pub(crate) struct Definition {
+    pub document: Tree,
+    pub crd: Crd,
+}
+
+/// A schema that breaks no rule, with the CustomResourceDefinition that has it, and the group and the kind of its resources.
 #[derive(Drop)]
 pub(crate) struct Accepted {
+    pub document: Tree,
     pub group: Text,
     pub kind: Text,
     pub schema: Schema,
 }
 
+/// Pools, with their document where one is named.
+#[derive(Drop)]
+pub(crate) struct PoolsRead {
+    pub document: Option<Tree>,
+    pub pools: Pools,
+}
+
 /// The schema of a version of the CustomResourceDefinition of this name, where it breaks no rule.
-pub(crate) fn accepted_schema<I: Inputs>(
+pub(crate) fn accepted_schema<'a, I: Inputs>(
     alloc: Global,
-    arguments: &CommonArguments<'_>,
+    arguments: &CommonArguments<'a>,
     inputs: &mut I,
-    explanation: &mut Explanation,
-) -> Result<Accepted, Cause>
+) -> Result<Accepted, Refusal<'a>>
     ensures accepted { IfOk result (λ a. (raw : Data) × IsRequestedCrd (I.has inputs.old) arguments.now a.group a.kind raw × IsUnbroken (IsBroken raw) × AreNodesOf true a.schema raw) }
-    ensures cause { IfErr result (IsSchemaCause (I.has inputs.old) (I.failures inputs.old) (I.failures inputs.new) arguments.now) }
+    ensures cause { IfErr result (λ r. IsSchemaCause (I.has inputs.old) (I.failures inputs.old) (I.failures inputs.new) arguments.now r.cause) }
     ensures stays { AreAmong (I.has inputs.new) (I.has inputs.old) }
     ensures lines { AreLinesAmong (I.lines inputs.new) (I.lines inputs.old) }
     ensures unfailed { OnOk result (I.failures inputs.new ≡ I.failures inputs.old) }
 {
-    let crd = crd_of(alloc, arguments, inputs, explanation)?;
-    explanation.explain_violations(alloc, &crd.raw);
-    let schema = accept(alloc, crd.raw)?;
-    Ok(Accepted {
-        group: crd.group,
-        kind: crd.kind,
-        schema,
-    })
+    let Definition { document, crd } = read_definition(alloc, arguments, inputs)?;
+    match accept(alloc, crd.raw) {
+        Ok(schema) => Ok(Accepted {
+            document,
+            group: crd.group,
+            kind: crd.kind,
+            schema,
+        }),
+        Err(refused) => Err(Refusal {
+            cause: refused.into(),
+            subject: Subject::Definition(document),
+        }),
+    }
 }
 
 /// What is read of the CustomResourceDefinition of this name.
-pub(crate) fn crd_of<I: Inputs>(
+pub(crate) fn read_definition<'a, I: Inputs>(
     alloc: Global,
-    arguments: &CommonArguments<'_>,
+    arguments: &CommonArguments<'a>,
     inputs: &mut I,
-    explanation: &mut Explanation,
-) -> Result<Crd, Cause>
-    ensures ok { IfOk result (λ c. IsRequestedCrd (I.has inputs.old) arguments.now c.group c.kind c.raw) }
-    ensures cause { IfErr result (IsReadCause (I.has inputs.old) (I.failures inputs.old) (I.failures inputs.new) arguments.now) }
+) -> Result<Definition, Refusal<'a>>
+    ensures ok { IfOk result (λ d. IsRequestedCrd (I.has inputs.old) arguments.now d.crd.group d.crd.kind d.crd.raw) }
+    ensures cause { IfErr result (λ r. IsReadCause (I.has inputs.old) (I.failures inputs.old) (I.failures inputs.new) arguments.now r.cause) }
     ensures stays { AreAmong (I.has inputs.new) (I.has inputs.old) }
     ensures lines { AreLinesAmong (I.lines inputs.new) (I.lines inputs.old) }
     ensures unfailed { OnOk result (I.failures inputs.new ≡ I.failures inputs.old) }
 {
-    let document = document(alloc, inputs, Input::Crd, arguments.crd, explanation)?;
+    let document = read_document(inputs, Input::Crd, arguments.crd)?;
     let limits = limits_of(arguments);
-    let read = read_crd_within(alloc, &document, arguments.version, limits);
-    if read.is_err() {
-        explanation.explain_definition(alloc, &document, arguments.version, limits);
+    match read_crd_within(alloc, &document, arguments.version, limits) {
+        Ok(crd) => Ok(Definition { document, crd }),
+        Err(fault) => Err(Refusal {
+            cause: fault.into(),
+            subject: Subject::Definition(document),
+        }),
     }
-    Ok(read?)
 }
 
 /// The limits of a definition that the arguments ask for.
-fn limits_of(arguments: &CommonArguments<'_>) -> Limits
+pub(crate) fn limits_of(arguments: &CommonArguments<'_>) -> Limits
     ensures { result ≡ limits_of arguments.now }
 {
     schema::laws::limits_by_name();
@@ -100,86 +120,89 @@ pub(crate) fn pool_limits_of(arguments: &CommonArguments<'_>) -> PoolLimits
 }
 
 /// The pools of the document that is named, and empty pools where none is.
-pub(crate) fn pools_of<I: Inputs>(
+pub(crate) fn pools_of<'a, I: Inputs>(
     alloc: Global,
-    arguments: &SampleArguments<'_>,
+    arguments: &PlanArguments<'a>,
     inputs: &mut I,
-    explanation: &mut Explanation,
-) -> Result<Pools, Cause>
-    ensures ok { IfOk result (λ pools. ArePools (I.has inputs.old) (pool_limits_of arguments.now.common) arguments.now.pools pools) }
-    ensures cause { IfErr result (IsPoolsCause (I.has inputs.old) (I.failures inputs.old) (I.failures inputs.new) (pool_limits_of arguments.now.common) arguments.now.pools) }
+) -> Result<PoolsRead, Refusal<'a>>
+    ensures ok { IfOk result (λ read. ArePools (I.has inputs.old) (pool_limits_of arguments.now.common) arguments.now.pools read.pools) }
+    ensures cause { IfErr result (λ r. IsPoolsCause (I.has inputs.old) (I.failures inputs.old) (I.failures inputs.new) (pool_limits_of arguments.now.common) arguments.now.pools r.cause) }
 {
-    match arguments.pools {
-        Some(name) => {
-            let document = document(alloc, inputs, Input::Pools, name, explanation)?;
-            let limits = pool_limits_of(&arguments.common);
-            let read = Pools::read_within(alloc, &document, limits);
-            if let Err(fault) = &read {
-                explanation.explain_pools(alloc, &document, fault, limits);
-            }
-            Ok(read?)
-        }
-        None => Ok(Pools::new(alloc)),
+    let Some(name) = arguments.pools else {
+        return Ok(PoolsRead {
+            document: None,
+            pools: Pools::new(alloc),
+        });
+    };
+    let document = read_document(inputs, Input::Pools, name)?;
+    let limits = pool_limits_of(&arguments.common);
+    match Pools::read_within(alloc, &document, limits) {
+        Ok(pools) => Ok(PoolsRead {
+            document: Some(document),
+            pools,
+        }),
+        Err(fault) => Err(Refusal {
+            cause: fault.into(),
+            subject: Subject::Pools(document),
+        }),
     }
 }
 
-/// The document of the file of this name, or of the standard input where there is no name.
-pub(crate) fn document<I: Inputs>(
-    alloc: Global,
+/// The document of the input of this name.
+pub(crate) fn read_document<'a, I: Inputs>(
     inputs: &mut I,
     input: Input,
-    name: Option<&str>,
-    explanation: &mut Explanation,
-) -> Result<Tree, Cause>
+    name: InputName<'a>,
+) -> Result<Tree, Refusal<'a>>
     ensures ok { IfOk result (λ t. I.has inputs.old (file_name name.entry) (Ok (data_of t))) }
-    ensures cause { IfErr result (IsReadFailure (I.has inputs.old) (I.failures inputs.old) (I.failures inputs.new) input (file_name name.entry)) }
+    ensures cause { IfErr result (λ r. IsReadFailure (I.has inputs.old) (I.failures inputs.old) (I.failures inputs.new) input (file_name name.entry) r.cause) }
     ensures stays { AreAmong (I.has inputs.new) (I.has inputs.old) }
     ensures lines { AreLinesAmong (I.lines inputs.new) (I.lines inputs.old) }
     ensures unfailed { OnOk result (I.failures inputs.new ≡ I.failures inputs.old) }
 {
+    let subject = Subject::Input(name);
     match inputs.tree(name) {
         Ok(tree) => Ok(tree),
         Err(InFault::Failed) => {
-            explanation.explain_unread(alloc, name, inputs.unread(name));
-            Err(Cause::Read(input))
+            let cause = Cause::Read(input);
+            Err(Refusal { cause, subject })
         }
-        Err(InFault::Document(JFault::NoMemory)) => Err(Cause::NoMemory),
+        Err(InFault::Document(JFault::NoMemory)) => Err(Cause::NoMemory.into()),
         Err(InFault::Document(fault)) => {
-            explanation.explain_document(alloc, inputs.refused(), inputs.size(name));
-            Err(Cause::Document(input, fault))
+            let cause = Cause::Document(input, fault);
+            Err(Refusal { cause, subject })
         }
     }
 }
 
 /// The tree to go on from: what the text is read as, without its envelope; none without a text.
-pub(crate) fn after_of(
+pub(crate) fn after_of<'a>(
     alloc: Global,
-    text: Option<&str>,
-    explanation: &mut Explanation,
-) -> Result<Option<Tree>, Cause>
+    text: Option<&'a str>,
+) -> Result<Option<Tree>, Refusal<'a>>
     ensures ok { IfOk result (λ t. IsAfter text.entry (option_map data_of t)) }
-    ensures cause { IfErr result (IsAfterCause text.entry) }
+    ensures cause { IfErr result (λ r. IsAfterCause text.entry r.cause) }
 {
     match text {
-        Some(text) => Ok(Some(body_of(alloc, text, explanation)?)),
+        Some(text) => Ok(Some(body_of(alloc, text)?)),
         None => Ok(None),
     }
 }
 
 /// What the text is read as, without its envelope.
-fn body_of(alloc: Global, text: &str, explanation: &mut Explanation) -> Result<Tree, Cause>
+fn body_of<'a>(alloc: Global, text: &'a str) -> Result<Tree, Refusal<'a>>
     ensures ok { IfOk result (λ t. (document : Data) × Reads text.now document × (data_of t ≡ body document)) }
-    ensures cause { IfErr result (IsTextCause text.now) }
+    ensures cause { IfErr result (λ r. IsTextCause text.now r.cause) }
 {
     match Tree::from_bytes(alloc, text.as_bytes()) {
         Ok(mut tree) => {
             drop(split(&mut tree));
             Ok(tree)
         }
-        Err(JFault::NoMemory) => Err(Cause::NoMemory),
-        Err(fault) => {
-            explanation.explain_document(alloc, text.as_bytes(), None);
-            Err(Cause::Document(Input::After, fault))
-        }
+        Err(JFault::NoMemory) => Err(Cause::NoMemory.into()),
+        Err(fault) => Err(Refusal {
+            cause: Cause::Document(Input::After, fault),
+            subject: Subject::Text(text),
+        }),
     }
 }

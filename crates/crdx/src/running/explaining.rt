@@ -4,7 +4,7 @@ ghost use Rattle.jtree.specs.View.{data_of};
 ghost use Rattle.explain.specs.Fields.View.{field_of};
 ghost use Rattle.crdx.specs.Internal.Cause.{IsInputCause, IsFieldCause};
 ghost use Rattle.crdx.specs.Program.FieldAnswer.{IsFieldAnswer};
-ghost use Rattle.crdx.specs.Program.FieldLines.{word_if as word_if_of, list_type_word as list_type_word_of, keys_word as keys_word_of, map_type_word as map_type_word_of, default_word as default_word_of, field_line, description_line as description_line_of, enum_line as enum_line_of, all_of_field as all_of_field_of};
+ghost use Rattle.crdx.specs.Program.FieldLines as said;
 ghost use Rattle.crdx.specs.Program.RunResult.{IsAnswer};
 ghost use Rattle.crdx.specs.declared.arguments.request.Request.TheVariants.{Explain};
 ghost use Rattle.crdx.specs.declared.running.causes.Cause.TheVariants.{NoMemory};
@@ -13,9 +13,10 @@ use crate::arguments::ExplainArguments;
 use crate::inputs::Inputs;
 use crate::running::answer::{Answer, json_items, json_text, json_texts, json_tree};
 use crate::running::causes::Cause;
-use crate::running::documents::accepted_schema;
-use crate::running::explanation::Explanation;
+use crate::running::documents::{Accepted, accepted_schema};
+use crate::running::exit_status::DONE;
 use crate::running::lines::{Lines, all_lines};
+use crate::running::refusal::{Refusal, Subject};
 use explain::{Field, Listing, resolve};
 use jtree::{Items, Text};
 use schema::{ListType, MapType};
@@ -23,74 +24,71 @@ use std::alloc::{AllocError, Global};
 use stored::Schema;
 
 /// A line for each field of the schema, or all that is known of the field of a path. The schema is judged before the path.
-pub(crate) fn explain<I: Inputs>(
+pub(crate) fn explain<'a, I: Inputs>(
     alloc: Global,
-    arguments: &ExplainArguments<'_>,
+    arguments: &ExplainArguments<'a>,
     inputs: &mut I,
-    explanation: &mut Explanation,
-) -> Result<Answer, Cause>
-    ensures answer { IfOk result (λ a. IsAnswer (I.has inputs.old) (Explain arguments.now) a.status (string_bytes a.text)) }
-    ensures cause { IfErr result (IsInputCause (I.has inputs.old) (I.failures inputs.old) (I.failures inputs.new) (Explain arguments.now)) }
+) -> Result<Answer, Refusal<'a>>
+    ensures answer { IfOk result (λ a. IsAnswer (I.has inputs.old) (Explain arguments.now) a.status (string_bytes a.out)) }
+    ensures cause { IfErr result (λ r. IsInputCause (I.has inputs.old) (I.failures inputs.old) (I.failures inputs.new) (Explain arguments.now) r.cause) }
 {
-    let accepted = accepted_schema(alloc, &arguments.common, inputs, explanation)?;
-    let answer = explain_schema(alloc, &accepted.schema, arguments.path, explanation);
-    drop(accepted);
-    answer
+    let Accepted {
+        document: _,
+        group: _,
+        kind: _,
+        schema,
+    } = accepted_schema(alloc, &arguments.common, inputs)?;
+    let path = arguments.path;
+    match explain_schema(alloc, &schema, path) {
+        Ok(answer) => Ok(answer),
+        Err(cause) => Err(Refusal {
+            cause,
+            subject: Subject::Field { schema, path },
+        }),
+    }
 }
 
-fn explain_schema(
-    alloc: Global,
-    schema: &Schema,
-    path: Option<&str>,
-    explanation: &mut Explanation,
-) -> Result<Answer, Cause>
-    ensures answer { IfOk result (λ a. IsFieldAnswer schema.now path.entry a.status (string_bytes a.text)) }
+fn explain_schema(alloc: Global, schema: &Schema, path: Option<&str>) -> Result<Answer, Cause>
+    ensures answer { IfOk result (λ a. IsFieldAnswer schema.now path.entry a.status (string_bytes a.out)) }
     ensures cause { IfErr result (IsFieldCause schema.now path.entry) }
 {
     match path {
-        Some(path) => explain_field(alloc, schema, path, explanation),
+        Some(path) => explain_field(alloc, schema, path),
         None => explain_fields(alloc, schema),
     }
 }
 
 /// The lines of all fields.
 fn explain_fields(alloc: Global, schema: &Schema) -> Result<Answer, Cause>
-    ensures answer { IfOk result (λ a. IsFieldAnswer schema.now None a.status (string_bytes a.text)) }
+    ensures answer { IfOk result (λ a. IsFieldAnswer schema.now None a.status (string_bytes a.out)) }
     ensures memory { IfErr result (λ cause. cause ≡ NoMemory) }
 {
     let listing = Listing::new(alloc, schema)?;
     Ok(Answer {
-        status: 0,
-        text: all_lines(alloc, listing.fields())?,
+        status: DONE,
+        out: all_lines(alloc, listing.fields())?,
+        err: String::new(alloc),
     })
 }
 
 /// All that is known of the field of a path. A path that leads to none is refused before memory is taken for the fields.
-fn explain_field(
-    alloc: Global,
-    schema: &Schema,
-    path: &str,
-    explanation: &mut Explanation,
-) -> Result<Answer, Cause>
-    ensures answer { IfOk result (λ a. IsFieldAnswer schema.now (Some path.entry) a.status (string_bytes a.text)) }
+fn explain_field(alloc: Global, schema: &Schema, path: &str) -> Result<Answer, Cause>
+    ensures answer { IfOk result (λ a. IsFieldAnswer schema.now (Some path.entry) a.status (string_bytes a.out)) }
     ensures cause { IfErr result (IsFieldCause schema.now (Some path.entry)) }
 {
-    let found = resolve(schema, path);
-    if found.is_err() {
-        explanation.explain_field(alloc, schema, path);
-    }
-    found?;
+    resolve(schema, path)?;
     let listing = Listing::new(alloc, schema)?;
     let field = listing.field(path)?;
     Ok(Answer {
-        status: 0,
-        text: all_of_field(alloc, field)?,
+        status: DONE,
+        out: all_of_field(alloc, field)?,
+        err: String::new(alloc),
     })
 }
 
 /// The line of a field, and a line each for its description and its values where it has them.
 fn all_of_field(alloc: Global, field: &Field) -> Result<String, AllocError>
-    ensures { IfOk result (λ s. string_bytes s ≡ all_of_field_of (field_of field.now)) }
+    ensures { IfOk result (λ s. string_bytes s ≡ said.all_of_field (field_of field.now)) }
 {
     let line = field.lines(alloc)?;
     let description = description_line(alloc, field)?;
@@ -100,7 +98,7 @@ fn all_of_field(alloc: Global, field: &Field) -> Result<String, AllocError>
 
 /// The path as a JSON text, the type, and what else applies.
 impl Lines for Field {
-    ghost text = { λ field. field_line (field_of field) };
+    ghost text = { λ field. said.field_line (field_of field) };
 
     fn lines(&self, alloc: Global) -> Result<String, AllocError> {
         let path = json_text(alloc, self.path.as_str())?;
@@ -118,13 +116,13 @@ impl Lines for Field {
 }
 
 fn word_if(applies: bool, word: &'static str) -> &'static str
-    ensures { result.now ≡ word_if_of applies word.now }
+    ensures { result.now ≡ said.word_if applies word.now }
 {
     if applies { word } else { "" }
 }
 
 fn list_type_word(list_type: Option<ListType>) -> &'static str
-    ensures { result.now ≡ list_type_word_of list_type }
+    ensures { result.now ≡ said.list_type_word list_type }
 {
     match list_type {
         Some(ListType::Set) => " list-type=set",
@@ -134,7 +132,7 @@ fn list_type_word(list_type: Option<ListType>) -> &'static str
 }
 
 fn map_type_word(map_type: Option<MapType>) -> &'static str
-    ensures { result.now ≡ map_type_word_of map_type }
+    ensures { result.now ≡ said.map_type_word map_type }
 {
     match map_type {
         Some(MapType::Atomic) => " map-type=atomic",
@@ -143,7 +141,7 @@ fn map_type_word(map_type: Option<MapType>) -> &'static str
 }
 
 fn keys_word(alloc: Global, keys: &[Text]) -> Result<String, AllocError>
-    ensures { IfOk result (λ s. string_bytes s ≡ keys_word_of keys.now) }
+    ensures { IfOk result (λ s. string_bytes s ≡ said.keys_word keys.now) }
 {
     if keys.is_empty() {
         return Ok(String::new(alloc));
@@ -153,7 +151,7 @@ fn keys_word(alloc: Global, keys: &[Text]) -> Result<String, AllocError>
 }
 
 fn default_word(alloc: Global, field: &Field) -> Result<String, AllocError>
-    ensures { IfOk result (λ s. string_bytes s ≡ default_word_of (option_map data_of field.now.default)) }
+    ensures { IfOk result (λ s. string_bytes s ≡ said.default_word (option_map data_of field.now.default)) }
 {
     match &field.default {
         Some(default) => {
@@ -165,7 +163,7 @@ fn default_word(alloc: Global, field: &Field) -> Result<String, AllocError>
 }
 
 fn description_line(alloc: Global, field: &Field) -> Result<String, AllocError>
-    ensures { IfOk result (λ s. string_bytes s ≡ description_line_of field.now.description) }
+    ensures { IfOk result (λ s. string_bytes s ≡ said.description_line field.now.description) }
 {
     match &field.description {
         Some(description) => {
@@ -177,7 +175,7 @@ fn description_line(alloc: Global, field: &Field) -> Result<String, AllocError>
 }
 
 fn enum_line(alloc: Global, choices: &Items) -> Result<String, AllocError>
-    ensures { IfOk result (λ s. string_bytes s ≡ enum_line_of choices.now) }
+    ensures { IfOk result (λ s. string_bytes s ≡ said.enum_line choices.now) }
 {
     if choices.items.as_slice().is_empty() {
         return Ok(String::new(alloc));

@@ -8,8 +8,10 @@ mod pools;
 mod samples;
 mod values;
 
-use crate::inputs::Unread;
+use crate::arguments::CommonArguments;
+use crate::inputs::{InputName, Inputs};
 use crate::running::causes::Cause;
+use crate::running::documents::{limits_of, pool_limits_of};
 use crate::running::explanation::definitions::definition_text;
 use crate::running::explanation::documents::{after_text, document_text, unread_text};
 use crate::running::explanation::fields::field_text;
@@ -17,150 +19,86 @@ use crate::running::explanation::objects::unstored_text;
 use crate::running::explanation::pools::{path_text, pools_text, suggestion_text};
 use crate::running::explanation::samples::no_sample_text;
 use crate::running::lines::all_lines;
+use crate::running::refusal::{Refusal, Subject};
 use jtree::Tree;
-use plan::{PFault, Plan, PoolLimits, Pools, SizeSet};
-use schema::{Limits, Node, RawSchema};
+use plan::{Plan, SizeSet};
+use schema::{Crd, read_crd_within};
 use std::alloc::{AllocError, Global};
-use stored::{Schema, explained};
-use suggest::SuggestFault;
+use stored::explained;
 
-/// What is said of a refusal where `--why` asks for it.
-#[derive(Drop)]
-pub(crate) struct Explanation {
-    is_asked: bool,
-    lines: Result<Option<String>, AllocError>,
+/// What is said of a refusal, each line with its end; nothing where there is no more to say. The lines of violations have those
+/// of the cause in them.
+pub(crate) fn explanation_of<I: Inputs>(
+    alloc: Global,
+    refusal: &Refusal<'_>,
+    arguments: &CommonArguments<'_>,
+    inputs: &I,
+) -> Result<Option<String>, AllocError> {
+    match (&refusal.cause, &refusal.subject) {
+        (Cause::Write(_) | Cause::NoMemory, _) => Ok(None),
+        (Cause::Violations(_), Subject::Definition(document)) => {
+            violation_lines(alloc, document, arguments)
+        }
+        (_, Subject::Input(name)) => line_of(
+            alloc,
+            input_text(alloc, &refusal.cause, *name, inputs),
+        ),
+        _ => line_of(alloc, subject_text(alloc, refusal, arguments)),
+    }
 }
 
-impl Explanation {
-    /// Nothing so far.
-    pub fn new(is_asked: bool) -> Explanation {
-        Explanation {
-            is_asked,
-            lines: Ok(None),
+/// The line of what is wrong with the bytes of a document.
+pub(crate) fn bytes_line(alloc: Global, bytes: &[u8]) -> Result<Option<String>, AllocError> {
+    line_of(alloc, document_text(alloc, bytes, None))
+}
+
+/// The line of why there is no sample.
+pub(crate) fn no_sample_line<Z: SizeSet>(
+    alloc: Global,
+    plan: Plan<Z>,
+) -> Result<Option<String>, AllocError> {
+    line_of(alloc, no_sample_text(alloc, plan))
+}
+
+/// Why an input is not read, or is no document.
+fn input_text<I: Inputs>(
+    alloc: Global,
+    cause: &Cause,
+    name: InputName<'_>,
+    inputs: &I,
+) -> Result<Option<String>, AllocError> {
+    match cause {
+        Cause::Read(_) => unread_text(alloc, name, inputs.unread(name)),
+        _ => document_text(alloc, inputs.refused(), inputs.size(name)),
+    }
+}
+
+/// Why what was read is refused.
+fn subject_text(
+    alloc: Global,
+    refusal: &Refusal<'_>,
+    arguments: &CommonArguments<'_>,
+) -> Result<Option<String>, AllocError> {
+    let cause = &refusal.cause;
+    match &refusal.subject {
+        Subject::Nothing | Subject::Input(_) => Ok(None),
+        Subject::Bytes(bytes) => document_text(alloc, bytes.as_slice(), None),
+        Subject::Text(text) => document_text(alloc, text.as_bytes(), None),
+        Subject::Definition(document) => {
+            definition_text(alloc, document, arguments.version, limits_of(arguments))
         }
-    }
-
-    /// The lines to be said, each with its end; an `Err` where an allocation failed.
-    pub fn lines(&self) -> Result<Option<&str>, AllocError> {
-        match &self.lines {
-            Ok(Some(lines)) => Ok(Some(lines.as_str())),
-            Ok(None) => Ok(None),
-            Err(_) => Err(AllocError),
+        Subject::Pools(document) => {
+            pools_text(alloc, document, cause, pool_limits_of(arguments))
         }
-    }
-
-    /// Why bytes are no document; of a file its size is given where it is known.
-    pub fn explain_document(&mut self, alloc: Global, bytes: &[u8], size: Option<u64>) {
-        if self.is_asked {
-            self.say(alloc, document_text(alloc, bytes, size));
+        Subject::Paths { definition, pools } => {
+            path_text(alloc, definition, pools.as_ref(), cause, arguments)
         }
-    }
-
-    /// Why the file of this name, or the standard input where there is no name, was not read.
-    pub fn explain_unread(&mut self, alloc: Global, name: Option<&str>, unread: Unread) {
-        if self.is_asked {
-            self.say(alloc, unread_text(alloc, name, unread));
+        Subject::Field { schema, path } => field_text(alloc, schema, *path),
+        Subject::Object { schema, body } => unstored_text(alloc, schema.root(), body),
+        Subject::After { limit, body } => after_text(alloc, *limit, body.as_ref()),
+        Subject::Objects { schema, count } => {
+            suggestion_text(alloc, schema, cause, *count, pool_limits_of(arguments))
         }
-    }
-
-    /// Why no schema is read of a document.
-    pub fn explain_definition(
-        &mut self,
-        alloc: Global,
-        document: &Tree,
-        version: &str,
-        limits: Limits,
-    ) {
-        if self.is_asked {
-            self.say(alloc, definition_text(alloc, document, version, limits));
-        }
-    }
-
-    /// Which rules a schema breaks, with the reasons, where it breaks some. These lines stand in place of those of the violations.
-    pub fn explain_violations(&mut self, alloc: Global, raw: &RawSchema) {
-        if self.is_asked {
-            self.lines = violation_lines(alloc, raw);
-        }
-    }
-
-    /// Why a document is no pools.
-    pub fn explain_pools(
-        &mut self,
-        alloc: Global,
-        document: &Tree,
-        fault: &PFault,
-        limits: PoolLimits,
-    ) {
-        if self.is_asked {
-            self.say(alloc, pools_text(alloc, document, fault, limits));
-        }
-    }
-
-    /// Why a path of the pools is refused, where one is.
-    pub fn explain_paths(&mut self, alloc: Global, schema: &Schema, pools: &Pools) {
-        if self.is_asked {
-            self.say(alloc, path_text(alloc, schema, pools));
-        }
-    }
-
-    /// Why no pools are suggested for a schema and so many objects.
-    pub fn explain_suggestion(
-        &mut self,
-        alloc: Global,
-        schema: &Schema,
-        fault: &SuggestFault,
-        objects: usize,
-        limits: PoolLimits,
-    ) {
-        if self.is_asked {
-            self.say(
-                alloc,
-                suggestion_text(alloc, schema, fault, objects, limits),
-            );
-        }
-    }
-
-    /// Why an object is no sample, where it is none.
-    pub fn explain_after(&mut self, alloc: Global, limit: u32, after: Option<&Tree>) {
-        if self.is_asked {
-            self.say(alloc, after_text(alloc, limit, after));
-        }
-    }
-
-    /// Why there is no sample.
-    pub fn explain_end<Z: SizeSet>(
-        &mut self,
-        alloc: Global,
-        plan: Plan<Z>,
-    ) -> Result<(), AllocError> {
-        if self.is_asked {
-            self.lines = Ok(line_of(alloc, no_sample_text(alloc, plan))?);
-        }
-        Ok(())
-    }
-
-    /// Nothing is to be said, since nothing is refused.
-    pub fn withdraw(&mut self) {
-        self.lines = Ok(None);
-    }
-
-    /// Why a path leads to no field.
-    pub fn explain_field(&mut self, alloc: Global, schema: &Schema, path: &str) {
-        if self.is_asked {
-            self.say(alloc, field_text(alloc, schema, path));
-        }
-    }
-
-    /// Why an object is not stored.
-    pub fn explain_unstored(&mut self, alloc: Global, node: &Node, body: &Tree) {
-        if self.is_asked {
-            self.say(alloc, unstored_text(alloc, node, body));
-        }
-    }
-
-    /// Says one line; nothing where there is no text.
-    fn say(&mut self, alloc: Global, text: Result<Option<String>, AllocError>) {
-        self.lines = line_of(alloc, text);
     }
 }
 
@@ -175,7 +113,23 @@ fn line_of(
     }
 }
 
-/// The lines of violations, with their reasons.
-fn violation_lines(alloc: Global, raw: &RawSchema) -> Result<Option<String>, AllocError> {
-    Ok(Some(all_lines(alloc, explained(alloc, raw)?.as_slice())?))
+/// The lines of the violations of the schema of a definition, with their reasons.
+fn violation_lines(
+    alloc: Global,
+    document: &Tree,
+    arguments: &CommonArguments<'_>,
+) -> Result<Option<String>, AllocError> {
+    let crd = crd_again(alloc, document, arguments)?;
+    Ok(Some(all_lines(alloc, explained(alloc, &crd.raw)?.as_slice())?))
+}
+
+/// What is read of a definition of which it was read before.
+fn crd_again(
+    alloc: Global,
+    document: &Tree,
+    arguments: &CommonArguments<'_>,
+) -> Result<Crd, AllocError> {
+    read_crd_within(alloc, document, arguments.version, limits_of(arguments)).map_err(
+        |_| AllocError,
+    )
 }

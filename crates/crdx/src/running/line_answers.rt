@@ -1,11 +1,12 @@
 //! What `validate`, `prune`, `default` and `leaves` answer of the objects on the lines of an input.
-ghost use Rattle.std.specs.Prelude.{◌≡◌, ◌==◌, ◌+◌, ◌<◌, ◌-◌, ◌^◌, ℕ, List, [], ◌∷◌, ◌++◌, take, max, true, None, IfOk, IfErr, OnOk, OnErr, IfSome, string_bytes, codes};
+ghost use Rattle.std.specs.Prelude.{◌≡◌, ◌==◌, ◌+◌, ◌<◌, ◌-◌, ◌^◌, ℕ, List, [], ◌∷◌, ◌++◌, take, max, true, None, IfOk, IfErr, OnOk, OnErr, IfSome};
+ghost use Rattle.std.specs.Prelude.{string_bytes, codes};
 ghost use Rattle.std.specs.Io.KnownBytes.{Appends};
 ghost use Rattle.jtree.specs.Failures.{HasFailed};
 ghost use Rattle.schema.specs.Nodes.Node.{Node as NodeData};
 ghost use Rattle.schema.specs.Nodes.View.{node_of};
 ghost use Rattle.crdx.specs.Internal.Cause.{IsObjectsCause};
-ghost use Rattle.crdx.specs.Internal.LineProgress.{IsNextAnswer, IsUnreadCause, IsCutCause, IsLinesCause, cause_of_line};
+ghost use Rattle.crdx.specs.Internal.LineProgress.{IsNextAnswer, IsUnreadCause, IsCutCause, IsLinesCause};
 ghost use Rattle.crdx.specs.Program.Documents.{file_name};
 ghost use Rattle.crdx.specs.Program.InputFault.{IsOfBytes};
 ghost use Rattle.crdx.specs.Program.LineAnswers.{with_front, numbered, printed_at, document_code, code_at, IsLineAnswer, AreAnswered};
@@ -13,14 +14,18 @@ ghost use Rattle.crdx.specs.Program.Requested.{IsRequestedRoot};
 ghost use Rattle.jtree.specs.Lines.{newline};
 ghost use Rattle.jtree.specs.Reads.{Reads, IsNoDocument};
 ghost use Rattle.jtree.specs.View.{data_of};
+ghost use Rattle.crdx.specs.Program.RunResult.{effects};
 
 use crate::arguments::{ObjectArguments, ObjectCommand};
-use crate::inputs::{InFault, Inputs};
+use crate::inputs::{InFault, InputName, Inputs};
 use crate::running::answer::Answer;
 use crate::running::causes::{Cause, Input};
-use crate::running::documents::accepted_schema;
-use crate::running::explanation::Explanation;
+use crate::running::documents::{Accepted, accepted_schema};
+use crate::running::ended::Ended;
+use crate::running::exit_status::{DONE, NO, REFUSED};
+use crate::running::explanation::bytes_line;
 use crate::running::objects::answer_of;
+use crate::running::refusal::{Refusal, Subject};
 use crate::running::reporting::{newlines, say};
 use crate::sink::{Sink, put_all};
 use jtree::{JFault, Tree};
@@ -60,46 +65,48 @@ struct SoFar {
 /// line is read. It answers the exit status, the greatest of the lines. Inputs are judged in the order CustomResourceDefinition, its
 /// schema, lines. A line that is no document is answered with its code; what is said of it besides goes to `err`. Where there are
 /// 2^64 - 1 lines, it gives up after them as where memory runs out.
-pub(crate) fn judge_lines<I: Inputs, W: Sink, E: Sink>(
+pub(crate) fn judge_lines<'a, I: Inputs, W: Sink, E: Sink>(
     alloc: Global,
-    arguments: &ObjectArguments<'_>,
+    arguments: &ObjectArguments<'a>,
     inputs: &mut I,
-    explanation: &mut Explanation,
     out: &mut W,
     err: &mut E,
-) -> Result<u8, Cause>
-    ensures answered { IfOk result (λ status. (N : NodeData) × IsRequestedRoot (I.has inputs.old) arguments.now.common N × (lines : List (List ℕ)) × (text : List ℕ)
-        × AreAnswered (I.lines inputs.old (file_name arguments.now.object)) N arguments.now.command lines [] status text × Appends (W.taken out.old) (W.taken out.new) text) }
+) -> Result<Ended, Refusal<'a>>
+    ensures answered { IfOk result (λ ended. (N : NodeData) × IsRequestedRoot (I.has inputs.old) arguments.now.common N × (lines : List (List ℕ)) × (text : List ℕ)
+        × AreAnswered (I.lines inputs.old (file_name arguments.now.object)) N arguments.now.command lines [] ended.status text × Appends (W.taken out.old) (W.taken out.new) text) }
     ensures unfailed { OnOk result (W.failures out.new ≡ W.failures out.old) }
-    ensures cause { IfErr result (IsObjectsCause (record {
-      documents = I.has inputs.old;
-      lines = I.lines inputs.old;
-      failed_reads_before = I.failures inputs.old;
-      failed_reads = I.failures inputs.new;
-      output_before = W.taken out.old;
-      output = W.taken out.new;
-      failed_writes_before = W.failures out.old;
-      failed_writes = W.failures out.new;
-    }) arguments.now) }
+    ensures cause { IfErr result (λ r. IsObjectsCause (effects I.has I.lines I.failures W.taken W.failures inputs.old inputs.new out.old out.new) arguments.now r.cause) }
 {
-    let accepted = accepted_schema(alloc, &arguments.common, inputs, explanation)?;
+    let Accepted {
+        document: _,
+        group: _,
+        kind: _,
+        schema,
+    } = accepted_schema(alloc, &arguments.common, inputs)?;
     let asked = Asked {
         alloc,
         command: arguments.command,
-        node: accepted.schema.root(),
+        node: schema.root(),
         why: arguments.common.why,
     };
-    let answered = judge_lines_of(&asked, arguments.object, inputs, explanation, out, err);
-    drop(accepted);
-    answered
+    match judge_lines_of(&asked, arguments.object, inputs, out, err) {
+        Ok(status) => Ok(Ended {
+            status,
+            line: "",
+            lines: None,
+        }),
+        Err(cause) => Err(Refusal {
+            cause,
+            subject: Subject::Input(arguments.object),
+        }),
+    }
 }
 
 /// The same of the lines of the input of this name.
 fn judge_lines_of<I: Inputs, W: Sink, E: Sink>(
     asked: &Asked<'_>,
-    name: Option<&str>,
+    name: InputName<'_>,
     inputs: &mut I,
-    explanation: &mut Explanation,
     out: &mut W,
     err: &mut E,
 ) -> Result<u8, Cause>
@@ -109,15 +116,11 @@ fn judge_lines_of<I: Inputs, W: Sink, E: Sink>(
     ensures cause { IfErr result (IsLinesCause (I.lines inputs.old (file_name name.entry)) (node_of asked.now.node.now) asked.now.command
         (I.failures inputs.old) (I.failures inputs.new) (W.taken out.old) (W.taken out.new) (W.failures out.old) (W.failures out.new)) }
 {
-    let answered = match inputs.open_lines(name) {
+    match inputs.open_lines(name) {
         Ok(()) => answer_lines(asked, inputs, out, err),
         Err(InFault::Failed) => Err(Cause::Read(Input::Object)),
         Err(_) => Err(Cause::NoMemory),
-    };
-    if let Err(Cause::Read(_)) = &answered {
-        explanation.explain_unread(asked.alloc, name, inputs.unread(name));
     }
-    answered
 }
 
 /// The answers to the lines of the input that was opened.
@@ -136,7 +139,7 @@ fn answer_lines<I: Inputs, W: Sink, E: Sink>(
     let mut line = Vec::new(asked.alloc);
     let mut so_far = SoFar {
         lines: 0,
-        status: 0,
+        status: DONE,
         written: 0,
     };
     'lines: while so_far.lines < u64::MAX {
@@ -169,7 +172,7 @@ fn next_answer<I: Inputs, E: Sink>(
     match inputs.next_line(line) {
         Ok(true) => Ok(Some(answer_to(asked, number, line.as_slice(), err)?)),
         Ok(false) => Ok(None),
-        Err(InFault::Document(JFault::TooLong)) => Ok(Some(answer_to_none(
+        Err(InFault::Document(JFault::TooLong)) => Ok(Some(answer_to_fault(
             asked,
             number,
             JFault::TooLong,
@@ -190,15 +193,15 @@ fn answer_to<E: Sink>(
 ) -> Result<LineAnswer, AllocError>
     ensures { IfOk result (λ a. IsLineAnswer (node_of asked.now.node.now) asked.now.command number line.now a.status a.text.items) }
 {
-    match read_line(asked.alloc, line) {
+    match parse_line(asked.alloc, line) {
         Ok(Ok(document)) => answer_to_document(asked, number, document),
-        Ok(Err(fault)) => answer_to_none(asked, number, fault, line, err),
+        Ok(Err(fault)) => answer_to_fault(asked, number, fault, line, err),
         Err(_) => Err(AllocError),
     }
 }
 
 /// The document on a line, or why it is none.
-fn read_line(alloc: Global, line: &[u8]) -> Result<Result<Tree, JFault>, AllocError>
+fn parse_line(alloc: Global, line: &[u8]) -> Result<Result<Tree, JFault>, AllocError>
     ensures document { IfOk result (λ read. IfOk read (λ t. Reads line.now (data_of t))) }
     ensures none { IfOk result (λ read. IfErr read (λ fault. IsOfBytes fault × IsNoDocument line.now fault)) }
 {
@@ -223,23 +226,23 @@ fn answer_to_document(
         node,
         why: _,
     } = *asked;
-    // what a run says of one object alone goes to standard error, and so is not asked for
-    let mut unasked = Explanation::new(false);
-    match answer_of(alloc, command, node, document, &mut unasked) {
-        Ok(alone) => print_at(alloc, number, command, &alone),
+    let mut body = document;
+    match answer_of(alloc, command, node, &mut body) {
+        Ok(alone) => numbered_answer(alloc, number, command, &alone),
         Err(Cause::NotStored) => {
             let alone = Answer {
-                status: 1,
-                text: String::new(alloc),
+                status: NO,
+                out: String::new(alloc),
+                err: String::new(alloc),
             };
-            print_at(alloc, number, command, &alone)
+            numbered_answer(alloc, number, command, &alone)
         }
         Err(_) => Err(AllocError),
     }
 }
 
 /// The answer to a line that is no document, of which at least a beginning is at hand.
-fn answer_to_none<E: Sink>(
+fn answer_to_fault<E: Sink>(
     asked: &Asked<'_>,
     number: u64,
     fault: JFault,
@@ -249,17 +252,23 @@ fn answer_to_none<E: Sink>(
     ensures { IfOk result (λ a. (a.status ≡ 3) × (a.text.items ≡ code_at number asked.now.command fault)) }
 {
     let alloc = asked.alloc;
-    let text = code_text(alloc, number, asked.command, &fault)?;
+    let text = fault_text(alloc, number, asked.command, &fault)?;
     if asked.why || text.is_empty() {
-        let mut explanation = Explanation::new(asked.why);
-        explanation.explain_document(alloc, line, None);
+        let explanation = if asked.why {
+            bytes_line(alloc, line)?
+        } else {
+            None
+        };
         say(alloc, &Cause::Line(number, fault), &explanation, err)?;
     }
-    Ok(LineAnswer { status: 3, text })
+    Ok(LineAnswer {
+        status: REFUSED,
+        text,
+    })
 }
 
 /// The text of what is printed of a line that is no document.
-fn code_text(
+fn fault_text(
     alloc: Global,
     number: u64,
     command: ObjectCommand,
@@ -269,14 +278,14 @@ fn code_text(
 {
     match command {
         ObjectCommand::Validate { strict: _ } | ObjectCommand::Leaves => {
-            with_number(alloc, number, code_line(fault))
+            with_number(alloc, number, fault_code(fault))
         }
         ObjectCommand::Prune | ObjectCommand::Default => Ok(Vec::new(alloc)),
     }
 }
 
 /// The code of a fault, with the end of its line.
-fn code_line(fault: &JFault) -> &'static [u8]
+fn fault_code(fault: &JFault) -> &'static [u8]
     ensures { result.now ≡ document_code fault.now ++ codes "\n" }
 {
     match fault {
@@ -285,27 +294,6 @@ fn code_line(fault: &JFault) -> &'static [u8]
         JFault::NotJson => b"J3\n",
         JFault::TooLong => b"J4\n",
         JFault::ReadFailed => b"J5\n",
-    }
-}
-
-/// Why the line after so many was not read; `line` has what was read of it.
-pub(crate) fn unread_line(
-    alloc: Global,
-    lines: u64,
-    fault: InFault,
-    line: &[u8],
-    explanation: &mut Explanation,
-) -> Cause
-    requires { lines < 2 ^ 64 - 1 }
-    ensures { result ≡ cause_of_line (lines + 1) fault }
-{
-    match fault {
-        InFault::Failed => Cause::Read(Input::Object),
-        InFault::Document(JFault::NoMemory) => Cause::NoMemory,
-        InFault::Document(fault) => {
-            explanation.explain_document(alloc, line, None);
-            Cause::Line(lines + 1, fault)
-        }
     }
 }
 
@@ -328,22 +316,22 @@ fn write_answer<W: Sink>(before: SoFar, answer: &LineAnswer, out: &mut W) -> Res
 }
 
 /// What is printed of the document on the line of this number, by its answer alone.
-fn print_at(
+fn numbered_answer(
     alloc: Global,
     number: u64,
     command: ObjectCommand,
     alone: &Answer,
 ) -> Result<LineAnswer, AllocError>
-    ensures { IfOk result (λ a. (a.status ≡ alone.now.status) × (a.text.items ≡ printed_at number command alone.now.status (string_bytes alone.now.text))) }
+    ensures { IfOk result (λ a. (a.status ≡ alone.now.status) × (a.text.items ≡ printed_at number command alone.now.status (string_bytes alone.now.out))) }
 {
     Ok(LineAnswer {
         status: alone.status,
-        text: text_at(alloc, number, command, alone.status, alone.text.as_bytes())?,
+        text: numbered_text(alloc, number, command, alone.status, alone.out.as_bytes())?,
     })
 }
 
 /// The text of what is printed.
-fn text_at(
+fn numbered_text(
     alloc: Global,
     number: u64,
     command: ObjectCommand,

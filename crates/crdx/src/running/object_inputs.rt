@@ -1,9 +1,10 @@
 //! The objects that `pools` is given: inputs with one document, or with one on each line.
-ghost use Rattle.std.specs.Prelude.{◌≡◌, ◌++◌, ◌∷◌, [], ℕ, List, map, IfOk, IfErr, OnOk, MatchOption};
+ghost use Rattle.std.specs.Prelude.{◌≡◌, ◌<◌, ◌+◌, ◌-◌, ◌^◌, ◌++◌, ◌∷◌, [], ℕ, List, map, IfOk, IfErr, OnOk, MatchOption};
 ghost use Rattle.jtree.specs.Data.{Data};
 ghost use Rattle.jtree.specs.Reads.{Reads};
 ghost use Rattle.jtree.specs.View.{data_of};
 ghost use Rattle.crdx.specs.Internal.Cause.{IsObjectInputCause, HasComing};
+ghost use Rattle.crdx.specs.Internal.LineProgress.{cause_of_line};
 ghost use Rattle.crdx.specs.Internal.ObjectInputs.{AreAdded, AddsLines, AddsText, IsBrokenLine, IsLaterCause, IsTextCause, IsRefusedText, cause_of_text};
 ghost use Rattle.crdx.specs.Program.CommandLine.{input_of};
 ghost use Rattle.crdx.specs.Program.Documents.{AreLinesAmong};
@@ -16,81 +17,79 @@ use crate::arguments::input_named;
 use crate::envelope::split;
 use crate::inputs::{InFault, Inputs};
 use crate::running::causes::{Cause, Input};
-use crate::running::explanation::Explanation;
-use crate::running::line_answers::unread_line;
+use crate::running::refusal::{Refusal, Subject};
 use jtree::{JFault, MOST_BYTES, Tree};
 use std::alloc::{AllocError, Global};
 
 /// The bodies of the documents of the inputs that these words name, one input after the other: a file, or for `-` the standard input.
-pub(crate) fn read_objects<I: Inputs>(
+pub(crate) fn read_objects<'a, I: Inputs>(
     alloc: Global,
     inputs: &mut I,
-    words: &[&str],
-    explanation: &mut Explanation,
-) -> Result<Vec<Tree>, Cause>
+    words: &[&'a str],
+) -> Result<Vec<Tree>, Refusal<'a>>
     ensures objects { IfOk result (λ os. AreObjects (I.lines inputs.old) (map (λ w. w.now) words.now) (map data_of os.items)) }
-    ensures cause { IfErr result (IsObjectInputCause (HasInput (I.lines inputs.old) (map (λ w. w.now) words.now)) (I.failures inputs.old) (I.failures inputs.new)) }
+    ensures cause { IfErr result (λ r. IsObjectInputCause (HasInput (I.lines inputs.old) (map (λ w. w.now) words.now)) (I.failures inputs.old) (I.failures inputs.new) r.cause) }
 {
     let mut objects = Vec::new(alloc);
     for word in words {
-        match read_input(alloc, inputs, word, explanation, &mut objects) {
+        match read_input(alloc, inputs, word, &mut objects) {
             Ok(()) => {}
-            Err(cause) => return Err(cause),
+            Err(refusal) => return Err(refusal),
         }
     }
     Ok(objects)
 }
 
 /// Adds the bodies of the documents of the input that a word names.
-fn read_input<I: Inputs>(
+fn read_input<'a, I: Inputs>(
     alloc: Global,
     inputs: &mut I,
-    word: &str,
-    explanation: &mut Explanation,
+    word: &'a str,
     objects: &mut Vec<Tree>,
-) -> Result<(), Cause>
+) -> Result<(), Refusal<'a>>
     ensures objects { OnOk result ((ls : List (List ℕ)) × I.lines inputs.old (input_of word.now) ls × (ds : List Data) × AreDocuments ls ds × AreAdded ds objects.old.items objects.new.items) }
-    ensures cause { IfErr result (IsObjectInputCause (HasComing (I.lines inputs.old (input_of word.now))) (I.failures inputs.old) (I.failures inputs.new)) }
+    ensures cause { IfErr result (λ r. IsObjectInputCause (HasComing (I.lines inputs.old (input_of word.now))) (I.failures inputs.old) (I.failures inputs.new) r.cause) }
     ensures lines { AreLinesAmong (I.lines inputs.new) (I.lines inputs.old) }
     ensures unfailed { OnOk result (I.failures inputs.new ≡ I.failures inputs.old) }
 {
     let name = input_named(word);
-    let read = match inputs.open_lines(name) {
-        Ok(()) => read_lines(alloc, inputs, explanation, objects),
-        Err(InFault::Failed) => Err(Cause::Read(Input::Object)),
-        Err(_) => Err(Cause::NoMemory),
-    };
-    if let Err(Cause::Read(_)) = &read {
-        explanation.explain_unread(alloc, name, inputs.unread(name));
+    match inputs.open_lines(name) {
+        Ok(()) => match read_lines(alloc, inputs, objects) {
+            Ok(()) => Ok(()),
+            Err(refusal) => Err(refusal.about(Subject::Input(name))),
+        },
+        Err(InFault::Failed) => Err(Refusal {
+            cause: Cause::Read(Input::Object),
+            subject: Subject::Input(name),
+        }),
+        Err(_) => Err(Cause::NoMemory.into()),
     }
-    read
 }
 
 /// Adds those of the input that was opened: one on each line where the first line has one, and else one on all lines together.
 fn read_lines<I: Inputs>(
     alloc: Global,
     inputs: &mut I,
-    explanation: &mut Explanation,
     objects: &mut Vec<Tree>,
-) -> Result<(), Cause>
+) -> Result<(), Refusal<'static>>
     ensures objects { OnOk result ((ls : List (List ℕ)) × I.coming inputs.old ls × (ds : List Data) × AreDocuments ls ds × AreAdded ds objects.old.items objects.new.items) }
-    ensures cause { IfErr result (IsObjectInputCause (HasComing (I.coming inputs.old)) (I.failures inputs.old) (I.failures inputs.new)) }
+    ensures cause { IfErr result (λ r. IsObjectInputCause (HasComing (I.coming inputs.old)) (I.failures inputs.old) (I.failures inputs.new) r.cause) }
     ensures lines { AreLinesAmong (I.lines inputs.new) (I.lines inputs.old) }
     ensures unfailed { OnOk result (I.failures inputs.new ≡ I.failures inputs.old) }
 {
     let mut line = Vec::new(alloc);
     match inputs.next_line(&mut line) {
         Ok(true) => {}
-        Ok(false) => return add_text(alloc, &[], explanation, objects),
-        Err(fault) => return Err(unread_text(alloc, line.as_slice(), fault, explanation)),
+        Ok(false) => return add_text(alloc, Vec::new(alloc), objects),
+        Err(fault) => return Err(unread_text(fault, line)),
     }
     match document_of(alloc, line.as_slice()) {
         Ok(Some(document)) => match push_body(objects, document) {
-            Ok(()) => read_more(alloc, inputs, explanation, objects, line),
-            Err(_) => Err(Cause::NoMemory),
+            Ok(()) => read_more(alloc, inputs, objects, line),
+            Err(error) => Err(error.into()),
         },
-        Ok(None) => read_on(alloc, inputs, explanation, objects, line),
-        Err(_) => Err(Cause::NoMemory),
+        Ok(None) => read_on(alloc, inputs, objects, line),
+        Err(error) => Err(error.into()),
     }
 }
 
@@ -109,12 +108,11 @@ fn document_of(alloc: Global, line: &[u8]) -> Result<Option<Tree>, AllocError>
 fn read_more<I: Inputs>(
     alloc: Global,
     inputs: &mut I,
-    explanation: &mut Explanation,
     objects: &mut Vec<Tree>,
     first: Vec<u8>,
-) -> Result<(), Cause>
+) -> Result<(), Refusal<'static>>
     ensures objects { OnOk result (AddsLines (I.coming inputs.old) objects.old.items objects.new.items) }
-    ensures cause { IfErr result (IsLaterCause (I.coming inputs.old) (I.failures inputs.old) (I.failures inputs.new)) }
+    ensures cause { IfErr result (λ r. IsLaterCause (I.coming inputs.old) (I.failures inputs.old) (I.failures inputs.new) r.cause) }
     ensures lines { AreLinesAmong (I.lines inputs.new) (I.lines inputs.old) }
     ensures unfailed { OnOk result (I.failures inputs.new ≡ I.failures inputs.old) }
 {
@@ -124,25 +122,24 @@ fn read_more<I: Inputs>(
         match inputs.next_line(&mut line) {
             Ok(true) => {}
             Ok(false) => return Ok(()),
-            Err(fault) => return Err(unread_line(alloc, read, fault, line.as_slice(), explanation)),
+            Err(fault) => return Err(unread_line(read, fault, line)),
         }
-        match add_line(alloc, read + 1, line.as_slice(), explanation, objects) {
+        match add_line(alloc, read + 1, line.as_slice(), objects) {
             Ok(()) => {}
-            Err(cause) => return Err(cause),
+            Err(cause) => {
+                return Err(Refusal {
+                    cause,
+                    subject: Subject::Bytes(line),
+                });
+            }
         }
         read += 1;
     }
-    Err(Cause::NoMemory)
+    Err(Cause::NoMemory.into())
 }
 
 /// Adds that of the line of this number.
-fn add_line(
-    alloc: Global,
-    number: u64,
-    line: &[u8],
-    explanation: &mut Explanation,
-    objects: &mut Vec<Tree>,
-) -> Result<(), Cause>
+fn add_line(alloc: Global, number: u64, line: &[u8], objects: &mut Vec<Tree>) -> Result<(), Cause>
     ensures added { OnOk result ((d : Data) × Reads line.now d × AreAdded (d ∷ []) objects.old.items objects.new.items) }
     ensures cause { IfErr result (IsBrokenLine number line.now) }
 {
@@ -152,10 +149,7 @@ fn add_line(
             Err(_) => Err(Cause::NoMemory),
         },
         Err(JFault::NoMemory) => Err(Cause::NoMemory),
-        Err(fault) => {
-            explanation.explain_document(alloc, line, None);
-            Err(Cause::Line(number, fault))
-        }
+        Err(fault) => Err(Cause::Line(number, fault)),
     }
 }
 
@@ -163,12 +157,11 @@ fn add_line(
 fn read_on<I: Inputs>(
     alloc: Global,
     inputs: &mut I,
-    explanation: &mut Explanation,
     objects: &mut Vec<Tree>,
     first: Vec<u8>,
-) -> Result<(), Cause>
+) -> Result<(), Refusal<'static>>
     ensures objects { OnOk result (AddsText (I.coming inputs.old) first.items objects.old.items objects.new.items) }
-    ensures cause { IfErr result (IsTextCause (I.coming inputs.old) first.items (I.failures inputs.old) (I.failures inputs.new)) }
+    ensures cause { IfErr result (λ r. IsTextCause (I.coming inputs.old) first.items (I.failures inputs.old) (I.failures inputs.new) r.cause) }
     ensures lines { AreLinesAmong (I.lines inputs.new) (I.lines inputs.old) }
     ensures unfailed { OnOk result (I.failures inputs.new ≡ I.failures inputs.old) }
 {
@@ -177,15 +170,15 @@ fn read_on<I: Inputs>(
     'lines: while text.len() <= MOST_BYTES {
         match inputs.next_line(&mut line) {
             Ok(true) => {}
-            Ok(false) => return add_text(alloc, text.as_slice(), explanation, objects),
-            Err(fault) => return Err(unread_text(alloc, line.as_slice(), fault, explanation)),
+            Ok(false) => return add_text(alloc, text, objects),
+            Err(fault) => return Err(unread_text(fault, line)),
         }
         match add_to_text(&mut text, line.as_slice()) {
             Ok(()) => {}
-            Err(_) => return Err(Cause::NoMemory),
+            Err(error) => return Err(error.into()),
         }
     }
-    Err(no_document(alloc, text.as_slice(), JFault::TooLong, explanation))
+    Err(no_document(JFault::TooLong, text))
 }
 
 /// A line after those that there are.
@@ -197,22 +190,17 @@ fn add_to_text(text: &mut Vec<u8>, line: &[u8]) -> Result<(), AllocError>
 }
 
 /// Adds that of the text of an input.
-fn add_text(
-    alloc: Global,
-    text: &[u8],
-    explanation: &mut Explanation,
-    objects: &mut Vec<Tree>,
-) -> Result<(), Cause>
-    ensures added { OnOk result ((d : Data) × Reads text.now d × AreAdded (d ∷ []) objects.old.items objects.new.items) }
-    ensures cause { IfErr result (IsRefusedText text.now) }
+fn add_text(alloc: Global, text: Vec<u8>, objects: &mut Vec<Tree>) -> Result<(), Refusal<'static>>
+    ensures added { OnOk result ((d : Data) × Reads text.items d × AreAdded (d ∷ []) objects.old.items objects.new.items) }
+    ensures cause { IfErr result (λ r. IsRefusedText text.items r.cause) }
 {
-    match Tree::from_bytes(alloc, text) {
+    match Tree::from_bytes(alloc, text.as_slice()) {
         Ok(document) => match push_body(objects, document) {
             Ok(()) => Ok(()),
-            Err(_) => Err(Cause::NoMemory),
+            Err(error) => Err(error.into()),
         },
-        Err(JFault::NoMemory) => Err(Cause::NoMemory),
-        Err(fault) => Err(no_document(alloc, text, fault, explanation)),
+        Err(JFault::NoMemory) => Err(Cause::NoMemory.into()),
+        Err(fault) => Err(no_document(fault, text)),
     }
 }
 
@@ -226,20 +214,37 @@ fn push_body(objects: &mut Vec<Tree>, document: Tree) -> Result<(), AllocError>
 }
 
 /// Why an input has no document, which has this text as far as it was read.
-fn no_document(alloc: Global, text: &[u8], fault: JFault, explanation: &mut Explanation) -> Cause
-    ensures { result ≡ Document Object fault }
+fn no_document(fault: JFault, text: Vec<u8>) -> Refusal<'static>
+    ensures { result.cause ≡ Document Object fault }
 {
-    explanation.explain_document(alloc, text, None);
-    Cause::Document(Input::Object, fault)
+    Refusal {
+        cause: Cause::Document(Input::Object, fault),
+        subject: Subject::Bytes(text),
+    }
 }
 
 /// Why the next line was not read, and so no document is that goes over all of them.
-fn unread_text(alloc: Global, line: &[u8], fault: InFault, explanation: &mut Explanation) -> Cause
-    ensures { result ≡ cause_of_text fault }
+fn unread_text(fault: InFault, line: Vec<u8>) -> Refusal<'static>
+    ensures { result.cause ≡ cause_of_text fault }
 {
     match fault {
-        InFault::Failed => Cause::Read(Input::Object),
-        InFault::Document(JFault::NoMemory) => Cause::NoMemory,
-        InFault::Document(fault) => no_document(alloc, line, fault, explanation),
+        InFault::Failed => Cause::Read(Input::Object).into(),
+        InFault::Document(JFault::NoMemory) => Cause::NoMemory.into(),
+        InFault::Document(fault) => no_document(fault, line),
+    }
+}
+
+/// Why the line after so many was not read; `line` has what was read of it.
+pub(crate) fn unread_line(lines: u64, fault: InFault, line: Vec<u8>) -> Refusal<'static>
+    requires { lines < 2 ^ 64 - 1 }
+    ensures { result.cause ≡ cause_of_line (lines + 1) fault }
+{
+    match fault {
+        InFault::Failed => Cause::Read(Input::Object).into(),
+        InFault::Document(JFault::NoMemory) => Cause::NoMemory.into(),
+        InFault::Document(fault) => Refusal {
+            cause: Cause::Line(lines + 1, fault),
+            subject: Subject::Bytes(line),
+        },
     }
 }

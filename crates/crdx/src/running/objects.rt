@@ -22,112 +22,107 @@ use crate::inputs::Inputs;
 use crate::phrases::fault_phrase;
 use crate::running::answer::{Answer, json_line, json_text, json_texts};
 use crate::running::causes::{Cause, Input};
-use crate::running::documents::{accepted_schema, document};
-use crate::running::explanation::Explanation;
+use crate::running::documents::{Accepted, accepted_schema, read_document};
+use crate::running::exit_status::{DONE, NO};
 use crate::running::lines::{Lines, all_lines};
+use crate::running::refusal::{Refusal, Subject};
 use jtree::Tree;
 use schema::Node;
 use std::alloc::{AllocError, Global};
-use stored::{Fault, Leaf, complete, faults, leaves, prune, strict_faults};
+use stored::{Fault, Leaf, Schema, complete, faults, leaves, prune, strict_faults};
 
 /// What is asked about an object, whose envelope is taken off before it is judged, and put back where it is printed. Inputs are
 /// judged in the order CustomResourceDefinition, its schema, object, and the first refusal ends the run.
-pub(crate) fn judge_object<I: Inputs>(
+pub(crate) fn judge_object<'a, I: Inputs>(
     alloc: Global,
-    arguments: &ObjectArguments<'_>,
+    arguments: &ObjectArguments<'a>,
     inputs: &mut I,
-    explanation: &mut Explanation,
-) -> Result<Answer, Cause>
-    ensures answer { IfOk result (λ a. IsAnswer (I.has inputs.old) (Object arguments.now) a.status (string_bytes a.text)) }
-    ensures cause { IfErr result (IsInputCause (I.has inputs.old) (I.failures inputs.old) (I.failures inputs.new) (Object arguments.now)) }
+) -> Result<Answer, Refusal<'a>>
+    ensures answer { IfOk result (λ a. IsAnswer (I.has inputs.old) (Object arguments.now) a.status (string_bytes a.out)) }
+    ensures cause { IfErr result (λ r. IsInputCause (I.has inputs.old) (I.failures inputs.old) (I.failures inputs.new) (Object arguments.now) r.cause) }
 {
-    let accepted = accepted_schema(alloc, &arguments.common, inputs, explanation)?;
-    let answer = judge_at(
-        alloc,
-        arguments,
-        accepted.schema.root(),
-        inputs,
-        explanation,
-    );
-    drop(accepted);
-    answer
+    let Accepted {
+        document: _,
+        group: _,
+        kind: _,
+        schema,
+    } = accepted_schema(alloc, &arguments.common, inputs)?;
+    judge_by(alloc, arguments, schema, inputs)
 }
 
-/// What is said of the document that is asked about, at the node of its body.
-fn judge_at<I: Inputs>(
+/// What is said of the document that is asked about, by the schema of its body.
+fn judge_by<'a, I: Inputs>(
     alloc: Global,
-    arguments: &ObjectArguments<'_>,
-    node: &Node,
+    arguments: &ObjectArguments<'a>,
+    schema: Schema,
     inputs: &mut I,
-    explanation: &mut Explanation,
-) -> Result<Answer, Cause>
+) -> Result<Answer, Refusal<'a>>
     ensures answer { IfOk result (λ a. (document : Data) × I.has inputs.old (file_name arguments.now.object) (Ok document)
-        × IsObjectAnswer (node_of node.now) document arguments.now.command a.status (string_bytes a.text)) }
-    ensures cause { IfErr result (IsDocumentCause (I.has inputs.old) (I.failures inputs.old) (I.failures inputs.new) (node_of node.now) arguments.now) }
+        × IsObjectAnswer schema document arguments.now.command a.status (string_bytes a.out)) }
+    ensures cause { IfErr result (λ r. IsDocumentCause (I.has inputs.old) (I.failures inputs.old) (I.failures inputs.new) schema arguments.now r.cause) }
 {
-    let document = document(alloc, inputs, Input::Object, arguments.object, explanation)?;
-    answer_of(alloc, arguments.command, node, document, explanation)
+    let mut body = read_document(inputs, Input::Object, arguments.object)?;
+    match answer_of(alloc, arguments.command, schema.root(), &mut body) {
+        Ok(answer) => Ok(answer),
+        Err(cause) => Err(Refusal {
+            cause,
+            subject: Subject::Object { schema, body },
+        }),
+    }
 }
 
-/// What is said of a document at the node of its body.
+/// What is said of a document at the node of its body, which it is made.
 pub(crate) fn answer_of(
     alloc: Global,
     command: ObjectCommand,
     node: &Node,
-    mut document: Tree,
-    explanation: &mut Explanation,
+    document: &mut Tree,
 ) -> Result<Answer, Cause>
-    ensures answer { IfOk result (λ a. IsObjectAnswer (node_of node.now) (data_of document) command a.status (string_bytes a.text)) }
-    ensures cause { IfErr result (IsObjectCause (node_of node.now) (data_of document) command) }
+    ensures answer { IfOk result (λ a. IsObjectAnswer (node_of node.now) (data_of document.old) command a.status (string_bytes a.out)) }
+    ensures cause { IfErr result (IsObjectCause (node_of node.now) (data_of document.old) command) }
 {
-    let envelope = split(&mut document);
+    let envelope = split(document);
     match command {
         ObjectCommand::Validate { strict } => {
             drop(envelope);
-            let answer = validate(alloc, node, &document, strict);
-            drop(document);
-            answer
+            validate(alloc, node, document, strict)
         }
         ObjectCommand::Prune => {
-            prune(node, &mut document);
+            prune(node, document);
             print(alloc, document, envelope)
         }
-        ObjectCommand::Default => {
-            let completed = complete(alloc, node, &document);
-            drop(document);
-            match completed {
-                Ok(body) => print(alloc, body, envelope),
-                Err(_) => {
-                    drop(envelope);
-                    Err(Cause::NoMemory)
-                }
+        ObjectCommand::Default => match complete(alloc, node, document) {
+            Ok(mut body) => print(alloc, &mut body, envelope),
+            Err(_) => {
+                drop(envelope);
+                Err(Cause::NoMemory)
             }
-        }
+        },
         ObjectCommand::Leaves => {
             drop(envelope);
-            let answer = list_leaves(alloc, node, &document, explanation);
-            drop(document);
-            answer
+            list_leaves(alloc, node, document)
         }
     }
 }
 
 /// `valid`, or a line for each fault.
 fn validate(alloc: Global, node: &Node, body: &Tree, strict: bool) -> Result<Answer, Cause>
-    ensures answer { IfOk result (λ a. (document : Data) → body_of document ≡ data_of body.now → IsObjectAnswer (node_of node.now) document (Validate strict) a.status (string_bytes a.text)) }
+    ensures answer { IfOk result (λ a. (document : Data) → body_of document ≡ data_of body.now → IsObjectAnswer (node_of node.now) document (Validate strict) a.status (string_bytes a.out)) }
     ensures memory { IfErr result (λ cause. cause ≡ NoMemory) }
 {
     stored::laws::strictly_valid_is_pruned();
     let found = find_faults(alloc, node, body, strict)?;
     if found.as_slice().is_empty() {
         Ok(Answer {
-            status: 0,
-            text: String::from_str(alloc, "valid\n")?,
+            status: DONE,
+            out: String::from_str(alloc, "valid\n")?,
+            err: String::new(alloc),
         })
     } else {
         Ok(Answer {
-            status: 1,
-            text: all_lines(alloc, found.as_slice())?,
+            status: NO,
+            out: all_lines(alloc, found.as_slice())?,
+            err: String::new(alloc),
         })
     }
 }
@@ -149,15 +144,16 @@ fn find_faults(
 }
 
 /// The line of a body with its envelope.
-fn print(alloc: Global, mut body: Tree, envelope: Parts) -> Result<Answer, Cause>
-    ensures answer { IfOk result (λ a. (a.status ≡ 0) × IsTree (data_of body) × ((whole : Data) × IsJoined (data_of body) envelope whole × (string_bytes a.text ≡ line None whole))) }
+fn print(alloc: Global, body: &mut Tree, envelope: Parts) -> Result<Answer, Cause>
+    ensures answer { IfOk result (λ a. (a.status ≡ 0) × IsTree (data_of body.old) × ((whole : Data) × IsJoined (data_of body.old) envelope whole × (string_bytes a.out ≡ line None whole))) }
     ensures memory { IfErr result (λ cause. cause ≡ NoMemory) }
 {
     body.reveal_invariant();
-    join(&mut body, envelope)?;
+    join(body, envelope)?;
     Ok(Answer {
-        status: 0,
-        text: json_line(alloc, &body)?,
+        status: DONE,
+        out: json_line(alloc, body)?,
+        err: String::new(alloc),
     })
 }
 
@@ -178,23 +174,15 @@ impl Lines for Fault {
 }
 
 /// A line for each leaf, where the body is stored.
-fn list_leaves(
-    alloc: Global,
-    node: &Node,
-    body: &Tree,
-    explanation: &mut Explanation,
-) -> Result<Answer, Cause>
-    ensures answer { IfOk result (λ a. (document : Data) → body_of document ≡ data_of body.now → IsObjectAnswer (node_of node.now) document Leaves a.status (string_bytes a.text)) }
+fn list_leaves(alloc: Global, node: &Node, body: &Tree) -> Result<Answer, Cause>
+    ensures answer { IfOk result (λ a. (document : Data) → body_of document ≡ data_of body.now → IsObjectAnswer (node_of node.now) document Leaves a.status (string_bytes a.out)) }
     ensures cause { IfErr result (λ cause. (document : Data) → body_of document ≡ data_of body.now → IsObjectCause (node_of node.now) document Leaves cause) }
 {
-    let found = leaves(alloc, node, body);
-    if found.is_err() {
-        explanation.explain_unstored(alloc, node, body);
-    }
-    let leaves = found?;
+    let found = leaves(alloc, node, body)?;
     Ok(Answer {
-        status: 0,
-        text: all_lines(alloc, leaves.as_slice())?,
+        status: DONE,
+        out: all_lines(alloc, found.as_slice())?,
+        err: String::new(alloc),
     })
 }
 

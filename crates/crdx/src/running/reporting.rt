@@ -1,34 +1,62 @@
 //! What is said on the standard streams, and the exit status.
-ghost use Rattle.std.specs.Prelude.{◌≡◌, ◌⊎◌, ◌≤◌, IfOk, IfErr, OnOk, OnErr, length, take};
+ghost use Rattle.std.specs.Prelude.{◌≡◌, ◌⊎◌, ◌≤◌, ℕ, IfOk, IfErr, OnOk, OnErr, length, take};
 ghost use Rattle.std.specs.Io.KnownBytes.{Appends, Keeps};
 ghost use Rattle.jtree.specs.Failures.{HasFailed};
 ghost use Rattle.crdx.specs.Internal.ExitStatus.{status, IsWritten};
 
+use crate::arguments::CommonArguments;
+use crate::inputs::Inputs;
 use crate::running::answer::{Answer, json_text};
 use crate::running::causes::Cause;
-use crate::running::explanation::Explanation;
+use crate::running::ended::Ended;
+use crate::running::exit_status::NO_MEMORY;
+use crate::running::explanation::explanation_of;
 use crate::running::lines::all_lines;
+use crate::running::refusal::Refusal;
 use crate::sink::{Sink, put_all};
-use crate::walk::Walked;
 use std::alloc::{AllocError, Global};
 use stored::LFault;
 
 /// Writes an answer, or says on `err` why there is none, and answers the exit status.
-pub(crate) fn finish<W: Sink, E: Sink>(
+pub(crate) fn finish<I: Inputs, W: Sink, E: Sink>(
     alloc: Global,
-    answer: &Result<Answer, Cause>,
-    explanation: &Explanation,
+    arguments: &CommonArguments<'_>,
+    answer: &Result<Answer, Refusal<'_>>,
+    inputs: &I,
     out: &mut W,
     err: &mut E,
 ) -> u8
     ensures written { IfOk answer.now (λ a. IsWritten a (W.taken out.old) (W.taken out.new) (W.failures out.old) (W.failures out.new) result) }
-    ensures said { IfErr answer.now (λ cause. (result ≡ status cause) ⊎ (result ≡ 5)) }
+    ensures said { IfErr answer.now (λ r. (result ≡ status r.cause) ⊎ (result ≡ 5)) }
     ensures kept { OnErr answer.now (Keeps (W.taken out.old) (W.taken out.new)) }
     ensures unfailed { OnErr answer.now (W.failures out.new ≡ W.failures out.old) }
 {
     match answer {
         Ok(answer) => write_answer(alloc, answer, out, err),
-        Err(cause) => report(alloc, cause, explanation, err),
+        Err(refusal) => report(alloc, arguments, refusal, inputs, err),
+    }
+}
+
+/// Says on `err` how a command ended that has written its answer, or why it has none, and answers the exit status.
+pub(crate) fn finish_written<I: Inputs, E: Sink>(
+    alloc: Global,
+    arguments: &CommonArguments<'_>,
+    ended: &Result<Ended, Refusal<'_>>,
+    inputs: &I,
+    err: &mut E,
+) -> u8
+    ensures done { IfOk ended.now (λ e. result ≡ e.status) }
+    ensures said { IfErr ended.now (λ r. (result ≡ status r.cause) ⊎ (result ≡ 5)) }
+{
+    match ended {
+        Ok(ended) => {
+            let _ = put_all(err, ended.line.as_bytes());
+            if let Some(lines) = &ended.lines {
+                let _ = put_all(err, lines.as_bytes());
+            }
+            ended.status
+        }
+        Err(refusal) => report(alloc, arguments, refusal, inputs, err),
     }
 }
 
@@ -41,10 +69,29 @@ pub(crate) fn write_answer<W: Sink, E: Sink>(
 ) -> u8
     ensures { IsWritten answer.now (W.taken out.old) (W.taken out.new) (W.failures out.old) (W.failures out.new) result }
 {
-    let text = answer.text.as_bytes();
-    match put_text(out, text) {
-        Ok(()) => answer.status,
-        Err(taken) => report_alone(alloc, &Cause::Write(newlines(&text[..taken])), err),
+    match put_out(&answer.out, out) {
+        Ok(()) => {
+            let _ = put_all(err, answer.err.as_bytes());
+            answer.status
+        }
+        Err(lines) => report_alone(alloc, &Cause::Write(lines), err),
+    }
+}
+
+/// Puts out a text and flushes, where there is some; on an error, how many lines of it are out.
+fn put_out<W: Sink>(text: &str, out: &mut W) -> Result<(), u64>
+    ensures ok { OnOk result (Appends (W.taken out.old) (W.taken out.new) text.now) }
+    ensures unfailed { OnOk result (W.failures out.new ≡ W.failures out.old) }
+    ensures part { OnErr result ((n : ℕ) × Appends (W.taken out.old) (W.taken out.new) (take n text.now)) }
+    ensures failed { OnErr result (HasFailed (W.failures out.old) (W.failures out.new)) }
+{
+    if text.is_empty() {
+        return Ok(());
+    }
+    let bytes = text.as_bytes();
+    match put_text(out, bytes) {
+        Ok(()) => Ok(()),
+        Err(taken) => Err(newlines(&bytes[..taken])),
     }
 }
 
@@ -68,126 +115,66 @@ pub(crate) fn newlines(text: &[u8]) -> u64 {
     text.iter().filter(|byte| **byte == b'\n').count() as u64
 }
 
-/// Says on `err` why a run has no answer, with the explanation, and answers its status, or 5 where there is no memory for that.
-pub(crate) fn report<E: Sink>(
+/// Says on `err` why a run has no answer, explained where that is asked for, and answers its status, or 5 where there is no
+/// memory for that.
+fn report<I: Inputs, E: Sink>(
     alloc: Global,
-    cause: &Cause,
-    explanation: &Explanation,
+    arguments: &CommonArguments<'_>,
+    refusal: &Refusal<'_>,
+    inputs: &I,
     err: &mut E,
 ) -> u8
-    ensures { (result ≡ status cause.now) ⊎ (result ≡ 5) }
+    ensures { (result ≡ status refusal.now.cause) ⊎ (result ≡ 5) }
 {
-    match say(alloc, cause, explanation, err) {
-        Ok(()) => cause.status(),
-        Err(_) => {
-            let _ = put_all(err, b"crdx: out of memory\n");
-            5
+    let said = if arguments.why {
+        match explanation_of(alloc, refusal, arguments, inputs) {
+            Ok(explanation) => say(alloc, &refusal.cause, &explanation, err),
+            Err(error) => Err(error),
         }
+    } else {
+        say(alloc, &refusal.cause, &None, err)
+    };
+    match said {
+        Ok(()) => refusal.cause.status(),
+        Err(_) => say_no_memory(err),
     }
-}
-
-/// Says a cause on `err`, with the explanation.
-pub(crate) fn say<E: Sink>(
-    alloc: Global,
-    cause: &Cause,
-    explanation: &Explanation,
-    err: &mut E,
-) -> Result<(), AllocError> {
-    let lines = lines_of(alloc, cause, explanation)?;
-    let _ = put_all(err, lines.as_bytes());
-    Ok(())
 }
 
 /// As `report`, of a cause that has no explanation.
 pub(crate) fn report_alone<E: Sink>(alloc: Global, cause: &Cause, err: &mut E) -> u8
     ensures { (result ≡ status cause.now) ⊎ (result ≡ 5) }
 {
-    report(alloc, cause, &Explanation::new(false), err)
+    match say(alloc, cause, &None, err) {
+        Ok(()) => cause.status(),
+        Err(_) => say_no_memory(err),
+    }
 }
 
-/// Says on `err` whether more samples are left, with the explanation of a listing that is empty, or why the listing ended early, and
-/// answers the exit status.
-pub(crate) fn finish_samples<E: Sink>(
-    alloc: Global,
-    walked: &Result<Walked, Cause>,
-    explanation: &Explanation,
-    err: &mut E,
-) -> u8
-    ensures done { OnOk walked.now (result ≡ 0) }
-    ensures said { IfErr walked.now (λ cause. (result ≡ status cause) ⊎ (result ≡ 5)) }
+/// Says on `err` that memory ran out, and answers the status of that.
+fn say_no_memory<E: Sink>(err: &mut E) -> u8
+    ensures { result ≡ 5 }
 {
-    match walked {
-        Ok(walked) => {
-            say_end(walked, err);
-            if let Ok(Some(lines)) = explanation.lines() {
-                let _ = put_all(err, lines.as_bytes());
-            }
-            0
+    let _ = put_all(err, b"crdx: out of memory\n");
+    NO_MEMORY
+}
+
+/// Says a cause on `err`, with the explanation below it; violations have their lines in their explanation.
+pub(crate) fn say<E: Sink>(
+    alloc: Global,
+    cause: &Cause,
+    explanation: &Option<String>,
+    err: &mut E,
+) -> Result<(), AllocError> {
+    let lines = match (cause, explanation) {
+        (Cause::Violations(_), Some(explained)) => String::from_str(alloc, explained.as_str())?,
+        (_, Some(explained)) => {
+            let line = line_of(alloc, cause)?;
+            format!(in alloc; "{line}{explained}")?
         }
-        Err(cause) => report(alloc, cause, explanation, err),
-    }
-}
-
-/// Says on `err` what no line of a cover has, or why the cover ended early, and answers the exit status.
-pub(crate) fn finish_cover<E: Sink>(
-    alloc: Global,
-    covered: &Result<String, Cause>,
-    explanation: &Explanation,
-    err: &mut E,
-) -> u8
-    ensures done { OnOk covered.now (result ≡ 0) }
-    ensures said { IfErr covered.now (λ cause. (result ≡ status cause) ⊎ (result ≡ 5)) }
-{
-    match covered {
-        Ok(said) => {
-            let _ = put_all(err, said.as_bytes());
-            0
-        }
-        Err(cause) => report(alloc, cause, explanation, err),
-    }
-}
-
-/// Says on `err` why not all lines of an input were answered, where they were not, and answers the exit status.
-pub(crate) fn finish_lines<E: Sink>(
-    alloc: Global,
-    answered: &Result<u8, Cause>,
-    explanation: &Explanation,
-    err: &mut E,
-) -> u8
-    ensures done { IfOk answered.now (λ status. result ≡ status) }
-    ensures said { IfErr answered.now (λ cause. (result ≡ status cause) ⊎ (result ≡ 5)) }
-{
-    match answered {
-        Ok(status) => *status,
-        Err(cause) => report(alloc, cause, explanation, err),
-    }
-}
-
-/// Says on `err` whether more samples are left.
-fn say_end<E: Sink>(walked: &Walked, err: &mut E) {
-    let line: &[u8] = if walked.end {
-        b"crdx: end\n"
-    } else {
-        b"crdx: more\n"
+        (_, None) => line_of(alloc, cause)?,
     };
-    let _ = put_all(err, line);
-}
-
-/// The line of a cause, and the explanation of a refusal below it; violations have their lines in their explanation.
-fn lines_of(alloc: Global, cause: &Cause, explanation: &Explanation) -> Result<String, AllocError> {
-    let explained = explanation.lines()?;
-    match (cause, explained) {
-        (Cause::Violations(_), Some(explained)) => String::from_str(alloc, explained),
-        (Cause::Read(_), Some(explained)) => {
-            let line = line_of(alloc, cause)?;
-            format!(in alloc; "{line}{explained}")
-        }
-        (_, Some(explained)) if cause.status() < 4 => {
-            let line = line_of(alloc, cause)?;
-            format!(in alloc; "{line}{explained}")
-        }
-        _ => line_of(alloc, cause),
-    }
+    let _ = put_all(err, lines.as_bytes());
+    Ok(())
 }
 
 /// The line, or the lines, of a cause.

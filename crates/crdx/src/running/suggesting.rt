@@ -18,9 +18,10 @@ use crate::arguments::PoolsArguments;
 use crate::inputs::Inputs;
 use crate::running::answer::{Answer, json_line};
 use crate::running::causes::Cause;
-use crate::running::documents::{crd_of, pool_limits_of};
-use crate::running::explanation::Explanation;
+use crate::running::documents::{Definition, pool_limits_of, read_definition};
+use crate::running::exit_status::DONE;
 use crate::running::object_inputs::read_objects;
+use crate::running::refusal::{Refusal, Subject};
 use jtree::Tree;
 use plan::PoolLimits;
 use schema::RawSchema;
@@ -37,29 +38,31 @@ struct Written {
 
 /// A pools document: one to start with, or one for the samples around an object. Inputs are judged in the order
 /// CustomResourceDefinition, its schema, objects, paths, and the first refusal ends the run.
-pub(crate) fn suggest_pools<I: Inputs>(
+pub(crate) fn suggest_pools<'a, I: Inputs>(
     alloc: Global,
-    arguments: &PoolsArguments<'_>,
+    arguments: &PoolsArguments<'a>,
     inputs: &mut I,
-    explanation: &mut Explanation,
-) -> Result<Answer, Cause>
+) -> Result<Answer, Refusal<'a>>
     ensures status { IfOk result (λ a. a.status ≡ 0) }
     ensures answer { IfOk result (λ a. (raw : Data) × (N : Node) × (w : WantedData) × IsPoolsRequest (I.has inputs.old) (I.lines inputs.old) arguments.now raw N w
-        × (string_bytes a.text ≡ pools_line arguments.now raw N w)) }
-    ensures cause { IfErr result (IsPoolsRequestCause (I.has inputs.old) (I.lines inputs.old) (I.failures inputs.old) (I.failures inputs.new) arguments.now) }
+        × (string_bytes a.out ≡ pools_line arguments.now raw N w)) }
+    ensures cause { IfErr result (λ r. IsPoolsRequestCause (I.has inputs.old) (I.lines inputs.old) (I.failures inputs.old) (I.failures inputs.new) arguments.now r.cause) }
 {
-    let crd = match crd_of(alloc, &arguments.common, inputs, explanation) {
-        Ok(crd) => crd,
-        Err(cause) => return Err(cause),
+    let Definition { document, crd } = match read_definition(alloc, &arguments.common, inputs) {
+        Ok(definition) => definition,
+        Err(refusal) => return Err(refusal),
     };
-    explanation.explain_violations(alloc, &crd.raw);
     let written = match accept_written(alloc, crd.raw) {
         Ok(written) => written,
-        Err(cause) => return Err(cause),
+        Err(cause) => {
+            return Err(Refusal {
+                cause,
+                subject: Subject::Definition(document),
+            });
+        }
     };
-    let answer = suggest_at(alloc, arguments, &written, inputs, explanation);
-    drop(written);
-    answer
+    drop(document);
+    suggest_at(alloc, arguments, written, inputs)
 }
 
 /// A schema that breaks no rule, with a copy of it as it is written.
@@ -85,20 +88,19 @@ fn accept_written(alloc: Global, raw: RawSchema) -> Result<Written, Cause>
 }
 
 /// The line of the document for an accepted schema.
-fn suggest_at<I: Inputs>(
+fn suggest_at<'a, I: Inputs>(
     alloc: Global,
-    arguments: &PoolsArguments<'_>,
-    written: &Written,
+    arguments: &PoolsArguments<'a>,
+    written: Written,
     inputs: &mut I,
-    explanation: &mut Explanation,
-) -> Result<Answer, Cause>
+) -> Result<Answer, Refusal<'a>>
     ensures status { IfOk result (λ a. a.status ≡ 0) }
-    ensures answer { IfOk result (λ a. (w : WantedData) × IsWanted (I.lines inputs.old) arguments.now w × (string_bytes a.text ≡ pools_line arguments.now (data_of written.now.raw) written.now.schema w)) }
-    ensures cause { IfErr result (IsSuggestionCause (I.lines inputs.old) (I.failures inputs.old) (I.failures inputs.new) arguments.now (data_of written.now.raw) written.now.schema) }
+    ensures answer { IfOk result (λ a. (w : WantedData) × IsWanted (I.lines inputs.old) arguments.now w × (string_bytes a.out ≡ pools_line arguments.now (data_of written.raw) written.schema w)) }
+    ensures cause { IfErr result (λ r. IsSuggestionCause (I.lines inputs.old) (I.failures inputs.old) (I.failures inputs.new) arguments.now (data_of written.raw) written.schema r.cause) }
 {
-    let objects = match read_objects(alloc, inputs, arguments.from.as_slice(), explanation) {
+    let objects = match read_objects(alloc, inputs, arguments.from.as_slice()) {
         Ok(objects) => objects,
-        Err(cause) => return Err(cause),
+        Err(refusal) => return Err(refusal),
     };
     let wanted = Wanted {
         objects: objects.as_slice(),
@@ -106,12 +108,19 @@ fn suggest_at<I: Inputs>(
         without: arguments.without.as_slice(),
     };
     let limits = pool_limits_of(&arguments.common);
-    match suggested_line(alloc, written, &wanted, limits) {
-        Ok(text) => Ok(Answer { status: 0, text }),
-        Err(fault) => {
-            explanation.explain_suggestion(alloc, &written.schema, &fault, objects.len(), limits);
-            Err(fault.into())
-        }
+    match suggested_line(alloc, &written, &wanted, limits) {
+        Ok(out) => Ok(Answer {
+            status: DONE,
+            out,
+            err: String::new(alloc),
+        }),
+        Err(fault) => Err(Refusal {
+            cause: fault.into(),
+            subject: Subject::Objects {
+                schema: written.schema,
+                count: objects.len(),
+            },
+        }),
     }
 }
 

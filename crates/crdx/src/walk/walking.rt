@@ -1,18 +1,15 @@
 //! The walk over the samples of a plan, written line by line.
-ghost use Rattle.std.specs.Prelude.{◌≡◌, ◌⊎◌, ◌≤◌, ◌+◌, ◌-◌, ◌*◌, ◌^◌, ℕ, Err, IfOk, IfErr, OnOk, Option, IsSome, IfSome, IsSomeAnd};
+ghost use Rattle.std.specs.Prelude.{◌≡◌, ◌≤◌, ◌+◌, IfOk, IfErr, OnOk, Option, IsSome};
 ghost use Rattle.std.specs.Io.KnownBytes.{Keeps};
+ghost use Rattle.std.specs.Option.{option_copied};
 ghost use Rattle.jtree.specs.Data.{Data};
-ghost use Rattle.plan.specs.Samples.Candidates.{IsWidth};
-ghost use Rattle.plan.specs.Samples.Steps.{delay};
-ghost use Rattle.enumerate.specs.Page.{IsSampleOf};
+ghost use Rattle.jtree.specs.Failures.{HasFailed};
 ghost use Rattle.enumerate.specs.Live.{IsNextSample};
 ghost use Rattle.enumerate.specs.View.{resume_point};
-ghost use Rattle.std.specs.Option.{option_copied};
-ghost use Rattle.crdx.specs.Output.PartialOutput.{IsPartialOutput, CanGoOn};
-ghost use Rattle.crdx.specs.Output.Walk.{WritesPage, most_lines};
+ghost use Rattle.crdx.specs.Output.Walk.{most_lines};
+ghost use Rattle.crdx.specs.Output.WalkResult.{IsWalk};
 ghost use Rattle.crdx.specs.Internal.Progress.{AddsBlock, IsPartialBlock, IsWithinLines};
-ghost use Rattle.jtree.specs.Failures.{HasFailed};
-ghost use Rattle.crdx.specs.declared.walk.fault.WFault.TheVariants.{NotASample, NoMemory, Write};
+ghost use Rattle.crdx.specs.declared.walk.fault.WFault.TheVariants.{Write};
 
 use crate::sink::{Sink, put_all};
 use crate::walk::blocks::{Block, whole_lines};
@@ -80,15 +77,7 @@ pub fn walk<Z: SizeSet, W: Sink>(
     requires page_most { page ≤ 10000 }
     requires total_least { 1 ≤ total }
     requires total_most { total ≤ 10000 }
-    ensures lines { IfOk result (λ walked. WritesPage plan.now (resume_point after.entry) total (option_copied envelope.entry) walked.lines walked.end (W.taken out.old) (W.taken out.new)) }
-    ensures sample { OnOk result (IfSome (resume_point after.entry) (IsSampleOf plan.now)) }
-    ensures refused { IsSomeAnd (resume_point after.entry) (λ a. IsSampleOf plan.now a → ⊥)
-        → ((result ≡ Err NotASample) ⊎ (result ≡ Err (NoMemory 0))) × Keeps (W.taken out.old) (W.taken out.new) }
-    ensures cut { IfErr result (λ e. IsPartialOutput plan.now (resume_point after.entry) total (option_copied envelope.entry) (W.taken out.old) (W.taken out.new) (W.failures out.old) (W.failures out.new) e) }
-    ensures goes_on { IfErr result (CanGoOn plan.now (resume_point after.entry) total) }
-    ensures unfailed { OnOk result (W.failures out.new ≡ W.failures out.old) }
-    ensures steps { IfOk result (λ walked. (width : ℕ) → IsWidth plan.now width
-        → meter.new ≤ meter.old + (walked.lines + 1) * delay plan.now.limit width) }
+    ensures { IsWalk plan.now (resume_point after.entry) total (option_copied envelope.entry) (W.taken out.old) (W.taken out.new) (W.failures out.old) (W.failures out.new) meter.old meter.new result }
 {
     let extent = Extent {
         page,
@@ -110,15 +99,7 @@ pub fn walk_to_end<Z: SizeSet, W: Sink>(
     meter: &mut Meter,
     out: &mut W,
 ) -> Result<Walked, WFault>
-    ensures lines { IfOk result (λ walked. WritesPage plan.now (resume_point after.entry) most_lines (option_copied envelope.entry) walked.lines walked.end (W.taken out.old) (W.taken out.new)) }
-    ensures sample { OnOk result (IfSome (resume_point after.entry) (IsSampleOf plan.now)) }
-    ensures refused { IsSomeAnd (resume_point after.entry) (λ a. IsSampleOf plan.now a → ⊥)
-        → ((result ≡ Err NotASample) ⊎ (result ≡ Err (NoMemory 0))) × Keeps (W.taken out.old) (W.taken out.new) }
-    ensures cut { IfErr result (λ e. IsPartialOutput plan.now (resume_point after.entry) most_lines (option_copied envelope.entry) (W.taken out.old) (W.taken out.new) (W.failures out.old) (W.failures out.new) e) }
-    ensures goes_on { IfErr result (CanGoOn plan.now (resume_point after.entry) most_lines) }
-    ensures unfailed { OnOk result (W.failures out.new ≡ W.failures out.old) }
-    ensures steps { IfOk result (λ walked. (width : ℕ) → IsWidth plan.now width
-        → meter.new ≤ meter.old + (walked.lines + 1) * delay plan.now.limit width) }
+    ensures { IsWalk plan.now (resume_point after.entry) most_lines (option_copied envelope.entry) (W.taken out.old) (W.taken out.new) (W.failures out.old) (W.failures out.new) meter.old meter.new result }
 {
     let extent = Extent {
         page: BLOCK_LINES,
@@ -138,15 +119,7 @@ fn walk_within<Z: SizeSet, W: Sink>(
     meter: &mut Meter,
     out: &mut W,
 ) -> Result<Walked, WFault>
-    ensures lines { IfOk result (λ walked. WritesPage plan.now (resume_point after.entry) extent.total (option_copied envelope.entry) walked.lines walked.end (W.taken out.old) (W.taken out.new)) }
-    ensures sample { OnOk result (IfSome (resume_point after.entry) (IsSampleOf plan.now)) }
-    ensures refused { IsSomeAnd (resume_point after.entry) (λ a. IsSampleOf plan.now a → ⊥)
-        → ((result ≡ Err NotASample) ⊎ (result ≡ Err (NoMemory 0))) × Keeps (W.taken out.old) (W.taken out.new) }
-    ensures cut { IfErr result (λ e. IsPartialOutput plan.now (resume_point after.entry) extent.total (option_copied envelope.entry) (W.taken out.old) (W.taken out.new) (W.failures out.old) (W.failures out.new) e) }
-    ensures goes_on { IfErr result (CanGoOn plan.now (resume_point after.entry) extent.total) }
-    ensures unfailed { OnOk result (W.failures out.new ≡ W.failures out.old) }
-    ensures steps { IfOk result (λ walked. (width : ℕ) → IsWidth plan.now width
-        → meter.new ≤ meter.old + (walked.lines + 1) * delay plan.now.limit width) }
+    ensures { IsWalk plan.now (resume_point after.entry) extent.total (option_copied envelope.entry) (W.taken out.old) (W.taken out.new) (W.failures out.old) (W.failures out.new) meter.old meter.new result }
 {
     enumerate::laws::pages_agree();
     let live = match Live::past(alloc, plan, after, meter) {

@@ -6,6 +6,7 @@ use crdx::arguments::{
     CommonArguments, CoverArguments, ExplainArguments, ObjectArguments, ObjectCommand,
     PoolsArguments, Request, SampleArguments, parse_arguments,
 };
+use crdx::inputs::InputName;
 use std::alloc::{AllocError, Global};
 use std::fmt::Write;
 use std::test::Fail;
@@ -215,11 +216,14 @@ static FIELDS_AND_SAMPLES: [CommandLine; 8] = [
 ];
 
 /// The name of a file, or `(input)` for the standard input.
-fn input_text(name: Option<&str>) -> &str {
-    name.unwrap_or("(input)")
+fn input_text(name: InputName<'_>) -> &str {
+    match name {
+        InputName::Stdin => "(input)",
+        InputName::File(name) => name,
+    }
 }
 
-fn pools_text(pools: Option<Option<&str>>) -> &str {
+fn pools_text(pools: Option<InputName<'_>>) -> &str {
     match pools {
         Some(pools) => input_text(pools),
         None => "-",
@@ -263,18 +267,16 @@ fn joined(alloc: Global, front: &str, words: &[&str]) -> Result<String, AllocErr
 
 fn sample_text(alloc: Global, arguments: &SampleArguments<'_>) -> Result<String, AllocError> {
     let SampleArguments {
-        common,
-        pools,
+        plan,
         after,
-        name,
-        limit,
         count,
         all,
     } = arguments;
-    let common = common_text(alloc, common)?;
-    let pools = pools_text(*pools);
+    let common = common_text(alloc, &plan.common)?;
+    let pools = pools_text(plan.pools);
     let after = after.unwrap_or("-");
-    let name = name.unwrap_or("-");
+    let name = plan.name.unwrap_or("-");
+    let limit = plan.limit;
     if *all {
         return format!(in alloc; "sample {common} {pools} {after} {name} {limit} all");
     }
@@ -282,11 +284,11 @@ fn sample_text(alloc: Global, arguments: &SampleArguments<'_>) -> Result<String,
 }
 
 fn cover_text(alloc: Global, arguments: &CoverArguments<'_>) -> Result<String, AllocError> {
-    let CoverArguments { samples, values } = arguments;
-    let common = common_text(alloc, &samples.common)?;
-    let pools = pools_text(samples.pools);
-    let name = samples.name.unwrap_or("-");
-    let limit = samples.limit;
+    let CoverArguments { plan, values } = arguments;
+    let common = common_text(alloc, &plan.common)?;
+    let pools = pools_text(plan.pools);
+    let name = plan.name.unwrap_or("-");
+    let limit = plan.limit;
     let values = if *values { " values" } else { "" };
     format!(in alloc; "cover {common} {pools} {name} {limit}{values}")
 }

@@ -4,7 +4,7 @@ use crate::support::fakes::{FailingSink, FakeInputs, Reads};
 use crate::support::harness::{Run, is_answer, is_said, run_on, try_run};
 use crate::support::report::Report;
 use crate::support::texts::padded;
-use crdx::inputs::{HostInputs, InFault, Inputs};
+use crdx::inputs::{HostInputs, InFault, InputName, Inputs};
 use jtree::Tree;
 use std::alloc::{AllocError, Global};
 use std::env::Env;
@@ -53,7 +53,7 @@ fn said_of_read(alloc: Global, read: Result<Tree, InFault>) -> Result<String, Fa
 }
 
 fn said_of_file(rt: &(impl Files + Input + AllocGlobal), path: &str) -> Result<String, Fail> {
-    said_of_read(rt.alloc(), HostInputs::new(rt).tree(Some(path)))
+    said_of_read(rt.alloc(), HostInputs::new(rt).tree(InputName::File(path)))
 }
 
 fn said_of_text(

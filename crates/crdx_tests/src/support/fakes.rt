@@ -7,7 +7,7 @@ ghost use Rattle.jtree.specs.View.{data_of};
 ghost use Rattle.crdx.specs.Program.InputFault.{IsReading, IsFaultOf, TakesLongLine, failures_after_read};
 ghost use Rattle.crdx.specs.Output.Sink.{failures_after};
 
-use crdx::inputs::{InFault, Inputs, Unread};
+use crdx::inputs::{InFault, InputName, Inputs, Unread};
 use crdx::sink::{Sink, SinkFault};
 use jtree::lines::{LineFeed, LineSource};
 use jtree::source::{Source, SourceFault};
@@ -251,25 +251,25 @@ impl<'a> Inputs for FakeInputs<'a> {
     ghost failures = { λ s. s.failures };
 
     #[tactic(auto, using(crate::proofs::FakeLemmas::fault_of_first, crate::proofs::FakeLemmas::fault_of_second))]
-    fn tree(&mut self, name: Option<&str>) -> Result<Tree, InFault> {
+    fn tree(&mut self, name: InputName<'_>) -> Result<Tree, InFault> {
         match name {
-            Some("crd.json") => {
+            InputName::File("crd.json") => {
                 self.reads.crd = self.reads.crd.saturating_add(1);
                 self.read(self.crd, self.crd_left)
             }
-            Some("pools.json") => {
+            InputName::File("pools.json") => {
                 self.reads.pools = self.reads.pools.saturating_add(1);
                 self.read(self.second, self.second_left)
             }
-            Some("object.json") => {
+            InputName::File("object.json") => {
                 self.reads.object = self.reads.object.saturating_add(1);
                 self.read(self.second, self.second_left)
             }
-            None => {
+            InputName::Stdin => {
                 self.reads.other = self.reads.other.saturating_add(1);
                 self.read(self.second, self.second_left)
             }
-            Some(_) => {
+            InputName::File(_) => {
                 self.reads.other = self.reads.other.saturating_add(1);
                 self.failures = self.failures.saturating_add(1);
                 Err(InFault::Failed)
@@ -277,19 +277,19 @@ impl<'a> Inputs for FakeInputs<'a> {
         }
     }
 
-    fn open_lines(&mut self, name: Option<&str>) -> Result<(), InFault> {
+    fn open_lines(&mut self, name: InputName<'_>) -> Result<(), InFault> {
         match name {
-            Some("object.json") => {
+            InputName::File("object.json") => {
                 self.reads.object = self.reads.object.saturating_add(1);
                 self.feed = Some(line_feed(self.alloc, self.second, self.second_left));
                 Ok(())
             }
-            None => {
+            InputName::Stdin => {
                 self.reads.other = self.reads.other.saturating_add(1);
                 self.feed = Some(line_feed(self.alloc, self.second, self.second_left));
                 Ok(())
             }
-            Some(_) => {
+            InputName::File(_) => {
                 self.reads.other = self.reads.other.saturating_add(1);
                 self.failures = self.failures.saturating_add(1);
                 Err(InFault::Failed)
@@ -316,15 +316,19 @@ impl<'a> Inputs for FakeInputs<'a> {
         self.refused
     }
 
-    fn size(&self, name: Option<&str>) -> Option<u64> {
-        name?;
-        Some(self.refused.len() as u64)
+    fn size(&self, name: InputName<'_>) -> Option<u64> {
+        match name {
+            InputName::Stdin => None,
+            InputName::File(_) => Some(self.refused.len() as u64),
+        }
     }
 
-    fn unread(&self, name: Option<&str>) -> Unread {
+    fn unread(&self, name: InputName<'_>) -> Unread {
         match name {
-            Some("crd.json" | "pools.json" | "object.json") | None => Unread::Other,
-            Some(_) => Unread::NotThere,
+            InputName::File("crd.json" | "pools.json" | "object.json") | InputName::Stdin => {
+                Unread::Other
+            }
+            InputName::File(_) => Unread::NotThere,
         }
     }
 }

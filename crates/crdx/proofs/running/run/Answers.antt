@@ -1,6 +1,6 @@
-use Rattle.std.proofs.Common.{◌≡◌, [], refl, inl, inr}
-use Rattle.std.proofs.KnownBytes.{Keeps-refl, Appends-nil}
-use Rattle.crdx.specs.Program.RunResult.{answered, help, usage_error}
+use Rattle.std.proofs.Common.{◌≡◌, refl, sym, subst, inl, inr}
+use Rattle.std.proofs.KnownBytes.{Keeps-refl}
+use Rattle.crdx.specs.Program.RunResult.{IsAnswer, help, usage_error}
 use Rattle.crdx.specs.declared.arguments.request.Request.TheVariants.{Check, Explain, Object, ObjectLines, SuggestPools, Sample, Cover, Help, UsageError, NoMemory}
 use Rattle.crdx.proofs.RunLemmas.{result_of_finished, result_of_written, result_of_sample, result_of_cover, result_of_nothing}
 use Rattle.crdx.proofs.LineAnswerLemmas.{result_of_lines}
@@ -39,8 +39,8 @@ returns-in-ObjectLines g c =
     let arguments = c.in-ObjectLines.arguments in (
       ObjectLines arguments,
       c.in-ObjectLines.ensures,
-      result_of_lines _ arguments c.judge_lines-answered.result c.finish_lines.result c.judge_lines-answered.ensures.answered c.judge_lines-answered.ensures.unfailed c.judge_lines-answered.ensures.cause
-          c.finish_lines.ensures.done c.finish_lines.ensures.said,
+      result_of_lines _ arguments c.judge_lines-ended.result c.finish_written.result c.judge_lines-ended.ensures.answered c.judge_lines-ended.ensures.unfailed c.judge_lines-ended.ensures.cause
+          c.finish_written.ensures.done c.finish_written.ensures.said,
     )
 
 pub returns-in-SuggestPools : goal.returns-in-SuggestPools
@@ -57,7 +57,7 @@ returns-in-Sample g c =
     let arguments = c.in-Sample.arguments in (
       Sample arguments,
       c.in-Sample.ensures,
-      result_of_sample _ arguments c.sample-walked.result c.finish_samples.result c.sample-walked.ensures c.finish_samples.ensures.done c.finish_samples.ensures.said,
+      result_of_sample _ arguments c.sample-ended.result c.finish_written-in-Sample.result c.sample-ended.ensures c.finish_written-in-Sample.ensures.done c.finish_written-in-Sample.ensures.said,
     )
 
 pub returns-in-Cover : goal.returns-in-Cover
@@ -65,17 +65,19 @@ returns-in-Cover g c =
     let arguments = c.in-Cover.arguments in (
       Cover arguments,
       c.in-Cover.ensures,
-      result_of_cover _ arguments c.cover_paths-covered.result c.finish_cover.result c.cover_paths-covered.ensures c.finish_cover.ensures.done c.finish_cover.ensures.said,
+      result_of_cover _ arguments c.cover_paths-ended.result c.finish_written-in-Cover.result c.cover_paths-ended.ensures c.finish_written-in-Cover.ensures.done c.finish_written-in-Cover.ensures.said,
     )
 
 pub returns-in-Help : goal.returns-in-Help
 returns-in-Help g c =
     let said = c.in-Help.text in
-    (Help said, c.in-Help.ensures, result_of_written _ (Help said) (record { status = 0; text = said }) c.write_answer.result (help said) (λ status text is n out. (status, text, is, n, out)) c.write_answer.ensures)
+    (Help said, c.in-Help.ensures, result_of_written _ (Help said) (record { status = 0; out = said; err = c.new.result }) c.write_answer.result (help said) (λ status text is n out. (status, text, is, n, out)) c.write_answer.ensures)
 
 pub returns-in-UsageError : goal.returns-in-UsageError
 returns-in-UsageError g c =
-    (UsageError c.in-UsageError.text, c.in-UsageError.ensures, answered 2 [] (usage_error c.in-UsageError.text) (Appends-nil (g.W.Sink.taken c.args.out.now)) refl)
+    let said = c.in-UsageError.text in
+    let is = subst (IsAnswer (g.I.Inputs.has c.args.inputs.now) (UsageError said) 2) (sym c.new-in-UsageError.ensures.bytes) (usage_error said) in
+    (UsageError said, c.in-UsageError.ensures, result_of_written _ (UsageError said) (record { status = 2; out = c.new-in-UsageError.result; err = said }) c.write_answer-in-UsageError.result is (λ status text is n out. (status, text, is, n, out)) c.write_answer-in-UsageError.ensures)
 
 pub returns-in-NoMemory : goal.returns-in-NoMemory
 returns-in-NoMemory g c =

@@ -1,6 +1,6 @@
 //! Why bytes are no document, and why an object is no sample.
 
-use crate::inputs::Unread;
+use crate::inputs::{InputName, Unread};
 use crate::running::answer::json_text;
 use jtree::{MOST_BYTES, Refusal, Tree};
 use std::alloc::{AllocError, Global};
@@ -47,15 +47,15 @@ fn refusal_text(alloc: Global, refusal: &Refusal, size: Option<u64>) -> Result<S
 /// Why an input was not opened or read.
 pub(crate) fn unread_text(
     alloc: Global,
-    name: Option<&str>,
+    name: InputName<'_>,
     unread: Unread,
 ) -> Result<Option<String>, AllocError> {
     let text = match name {
-        Some(name) => {
+        InputName::File(name) => {
             let name = json_text(alloc, name)?;
             format!(in alloc; "{name} {unread}")?
         }
-        None => format!(in alloc; "the standard input {unread}")?,
+        InputName::Stdin => format!(in alloc; "the standard input {unread}")?,
     };
     Ok(Some(text))
 }
@@ -64,12 +64,12 @@ pub(crate) fn unread_text(
 pub(crate) fn after_text(
     alloc: Global,
     limit: u32,
-    after: Option<&Tree>,
+    body: Option<&Tree>,
 ) -> Result<Option<String>, AllocError> {
-    let Some(after) = after else {
+    let Some(body) = body else {
         return Ok(None);
     };
-    let nodes = after.nodes();
+    let nodes = body.nodes();
     if nodes > limit as u64 {
         return Ok(Some(format!(in alloc; "found {nodes} nodes; allowed are {limit} (--limit)")?));
     }

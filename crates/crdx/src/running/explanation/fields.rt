@@ -13,8 +13,11 @@ const SPELLING: &str =
 pub(crate) fn field_text(
     alloc: Global,
     schema: &Schema,
-    path: &str,
+    path: Option<&str>,
 ) -> Result<Option<String>, AllocError> {
+    let Some(path) = path else {
+        return Ok(None);
+    };
     match resolve(schema, path) {
         Ok(_node) => Ok(None),
         Err(XFault::BadPath) => Ok(Some(String::from_str(alloc, SPELLING)?)),

@@ -1,25 +1,30 @@
 //! Why a document is no pools, why a path of pools is refused, and why no pools are suggested.
 
+use crate::arguments::CommonArguments;
 use crate::running::answer::json_text;
+use crate::running::causes::{Cause, PlaceCode};
+use crate::running::documents::pool_limits_of;
+use crate::running::explanation::crd_again;
 use crate::running::explanation::values::found_text;
 use explain::{XFault, resolve};
 use jtree::{Members, Tree, push_name};
-use plan::{PFault, PoolLimits, PoolName, Pools, first_bad_path, oversized_pool};
+use plan::{PFault, PoolLimits, PoolName, Pools, oversized_pool};
 use schema::{Node, Sort};
 use std::alloc::{AllocError, Global};
-use stored::Schema;
-use suggest::SuggestFault;
+use stored::{Schema, accept};
 
 /// What is wrong with a pools document.
 pub(crate) fn pools_text(
     alloc: Global,
     document: &Tree,
-    fault: &PFault,
+    cause: &Cause,
     limits: PoolLimits,
 ) -> Result<Option<String>, AllocError> {
-    match fault {
-        PFault::Form(pointer) => Ok(Some(form_text(alloc, document, pointer.as_str())?)),
-        PFault::TooLarge => size_text(alloc, document, limits),
+    match cause {
+        Cause::Place(_, PlaceCode::Form, pointer) => {
+            Ok(Some(form_text(alloc, document, pointer.as_str())?))
+        }
+        Cause::Pools(PFault::TooLarge) => size_text(alloc, document, limits),
         _ => Ok(None),
     }
 }
@@ -149,16 +154,23 @@ fn entry_text(name: &str) -> &'static str {
     }
 }
 
-/// Why the first path of pools that is refused is, where one is.
+/// Why a path of pools is refused, where one is. The schema and the pools are read again.
 pub(crate) fn path_text(
     alloc: Global,
-    schema: &Schema,
-    pools: &Pools,
+    definition: &Tree,
+    pools: Option<&Tree>,
+    cause: &Cause,
+    arguments: &CommonArguments<'_>,
 ) -> Result<Option<String>, AllocError> {
-    match first_bad_path(schema, pools) {
-        Some(path) => Ok(Some(String::from_str(alloc, refused_path_text(schema, pools, path))?)),
-        None => Ok(None),
-    }
+    let (Some(document), Cause::Place(_, PlaceCode::BadPath, path)) = (pools, cause) else {
+        return Ok(None);
+    };
+    let crd = crd_again(alloc, definition, arguments)?;
+    let schema = accept(alloc, crd.raw).map_err(|_| AllocError)?;
+    let pools = Pools::read_within(alloc, document, pool_limits_of(arguments)).map_err(
+        |_| AllocError,
+    )?;
+    Ok(Some(String::from_str(alloc, refused_path_text(&schema, &pools, path.as_str()))?))
 }
 
 fn refused_path_text(schema: &Schema, pools: &Pools, path: &str) -> &'static str {
@@ -178,24 +190,24 @@ fn refused_path_text(schema: &Schema, pools: &Pools, path: &str) -> &'static str
 pub(crate) fn suggestion_text(
     alloc: Global,
     schema: &Schema,
-    fault: &SuggestFault,
+    cause: &Cause,
     objects: usize,
     limits: PoolLimits,
 ) -> Result<Option<String>, AllocError> {
-    match fault {
-        SuggestFault::BadPath(path) => {
+    match cause {
+        Cause::Place(_, PlaceCode::BadPath, path) => {
             let text = bad_path_text(schema, path.as_str());
             Ok(Some(String::from_str(alloc, text)?))
         }
-        SuggestFault::NotInObject(_) if objects == 1 => Ok(Some(String::from_str(
+        Cause::Place(_, PlaceCode::NotInObject, _) if objects == 1 => Ok(Some(String::from_str(
             alloc,
             "the object has no object to which this field belongs; vary a path that is further up",
         )?)),
-        SuggestFault::NotInObject(_) => Ok(Some(format!(in alloc;
+        Cause::Place(_, PlaceCode::NotInObject, _) => Ok(Some(format!(in alloc;
             "found {objects} objects; --vary takes one"
         )?)),
-        SuggestFault::TooLarge => Ok(Some(large_text(alloc, limits)?)),
-        SuggestFault::NoMemory => Ok(None),
+        Cause::Pools(PFault::TooLarge) => Ok(Some(large_text(alloc, limits)?)),
+        _ => Ok(None),
     }
 }
 

@@ -4,13 +4,11 @@ ghost use Rattle.plan.specs.Samples.Sites.{sites_of, site_at};
 ghost use Rattle.plan.specs.Samples.Candidates.{sort_of};
 ghost use Rattle.plan.specs.declared.sort.Sort.TheVariants as sort;
 
+use crate::arguments::MOST_LIMIT;
 use crate::running::answer::json_text;
 use explain::{Step, path_below};
 use plan::{Meter, Plan, PlanNode, SizeSet, Slot, Sort};
 use std::alloc::{AllocError, Global};
-
-/// The greatest node limit.
-const MOST_NODES: u32 = 127;
 
 /// Why a plan has no sample: its limit is below the fewest nodes of a sample, or a field that has to be there has no value.
 pub(crate) fn no_sample_text<Z: SizeSet>(
@@ -19,7 +17,7 @@ pub(crate) fn no_sample_text<Z: SizeSet>(
 ) -> Result<Option<String>, AllocError> {
     let limit = plan.limit();
     let (schema, pools) = plan.into_parts();
-    match Plan::new(alloc, schema, pools, MOST_NODES) {
+    match Plan::new(alloc, schema, pools, MOST_LIMIT) {
         Ok(mut plan) => {
             let text = reason_text(alloc, &mut plan, limit);
             drop(plan);
@@ -38,11 +36,11 @@ fn reason_text(alloc: Global, plan: &mut Plan<u128>, limit: u32) -> Result<Strin
     }
     let path = missing_path(alloc, plan)?;
     if path.is_empty() {
-        return format!(in alloc; "found no sample of at most {MOST_NODES} nodes");
+        return format!(in alloc; "found no sample of at most {MOST_LIMIT} nodes");
     }
     let path = json_text(alloc, &path)?;
     format!(in alloc;
-        "found no value of at most {MOST_NODES} nodes for {path}, which has to be there"
+        "found no value of at most {MOST_LIMIT} nodes for {path}, which has to be there"
     )
 }
 
@@ -51,7 +49,7 @@ fn missing_path(alloc: Global, plan: &mut Plan<u128>) -> Result<String, AllocErr
     let mut meter = plan.meter();
     let mut node = plan.root();
     let mut path = String::new(alloc);
-    for _ in 0..MOST_NODES {
+    for _ in 0..MOST_LIMIT {
         let Some(slot) = missing_slot(plan, node, &mut meter) else {
             break;
         };

@@ -5,16 +5,16 @@ use Rattle.crdx.proofs.CheckLemmas.{check_answer}
 use Rattle.crdx.proofs.RunLemmas.{input_of_reading}
 use Rattle.crdx.proofs.running.checking.check.Goals as goal
 
-pub returns-in_err-crd-clause-cause : goal.returns-in_err-crd-clause-cause
-returns-in_err-crd-clause-cause g c =
+pub returns-in_err-definition-clause-cause : goal.returns-in_err-definition-clause-cause
+returns-in_err-definition-clause-cause g c =
     let arguments = c.args.arguments.now in
     let p = err_from_is_err_and c.from_residual.result c.from_residual.ensures.1 in
-    rw (p.1, p.2) (input_of_reading (g.I.Inputs.has c.args.inputs.now) (g.I.Inputs.failures c.args.inputs.now) (g.I.Inputs.failures c.crd_of.new.inputs) arguments
-    (Check arguments) c.in_err-crd.field-0.0 (λ r. r) c.in_err-crd.ensures.cause)
+    rw (p.1, p.2) (input_of_reading (g.I.Inputs.has c.args.inputs.now) (g.I.Inputs.failures c.args.inputs.now) (g.I.Inputs.failures c.read_definition.new.inputs) arguments
+    (Check arguments) c.in_err-definition.field-0.0.cause (λ r. r) c.in_err-definition.ensures.cause)
 
 pub returns-clause-answer : goal.returns-clause-answer
 returns-clause-answer g c =
-    let crd = c.in_ok-crd.crd in
+    let crd = c.in_ok-definition.definition.crd in
     let arguments = c.args.arguments.now in
-    check_answer (g.I.Inputs.has c.args.inputs.now) arguments crd.raw (string_bytes c.in_ok-text.field-0) c.in_ok-verdict.field-0 (crd.group, (crd.kind, c.in_ok-crd.ensures.ok))
+    check_answer (g.I.Inputs.has c.args.inputs.now) arguments crd.raw (string_bytes c.in_ok-text.field-0) c.in_ok-verdict.field-0 (crd.group, (crd.kind, c.in_ok-definition.ensures.ok))
     c.in_ok-verdict.ensures.none c.in_ok-verdict.ensures.some arguments.why refl c.in_ok-text.ensures

@@ -1,9 +1,13 @@
 use Rattle.std.proofs.Common.{inr}
-use Rattle.std.proofs.lemmas.Result.{err_from_is_err_and}
 use Rattle.crdx.proofs.RunLemmas.{refused_schema}
 use Rattle.crdx.proofs.running.documents.accepted_schema.Goals as goal
 
-pub returns-in_err-schema-clause-cause : goal.returns-in_err-schema-clause-cause
-returns-in_err-schema-clause-cause g c =
-    let p = err_from_is_err_and c.from_residual-in_err-schema.result c.from_residual-in_err-schema.ensures.1 in
-    rw (p.1, p.2) (inr (c.in_ok-crd.crd.raw, (c.in_ok-crd.crd.group, (c.in_ok-crd.crd.kind, c.in_ok-crd.ensures.ok)), refused_schema c.in_ok-crd.crd.raw _ c.in_err-schema.ensures.refused))
+pub returns-in-Err-clause-cause : goal.returns-in-Err-clause-cause
+returns-in-Err-clause-cause g c =
+    let d = c.in_ok-document.field-0 in
+    rw c.into.ensures (inr (d.crd.raw, (d.crd.group, (d.crd.kind, c.in_ok-document.ensures.ok)), refused_schema d.crd.raw _ c.in-Err.ensures.refused))
+
+pub returns-in-Ok-clause-accepted : goal.returns-in-Ok-clause-accepted
+returns-in-Ok-clause-accepted g c =
+    let d = c.in_ok-document.field-0 in
+    (d.crd.raw, c.in_ok-document.ensures.ok, c.in-Ok.ensures.unbroken, c.in-Ok.ensures.nodes)

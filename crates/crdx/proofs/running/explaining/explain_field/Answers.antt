@@ -5,10 +5,10 @@ use Rattle.explain.specs.Fields.View.{field_of}
 use Rattle.crdx.specs.Program.FieldAnswer.{found, not_found}
 use Rattle.crdx.proofs.running.explaining.explain_field.Goals as goal
 
-pub returns-in_err-found-clause-cause : goal.returns-in_err-found-clause-cause
-returns-in_err-found-clause-cause c =
+pub returns-in_err-resolve-clause-cause : goal.returns-in_err-resolve-clause-cause
+returns-in_err-resolve-clause-cause c =
     let p = err_from_is_err_and c.from_residual.result c.from_residual.ensures.1 in
-    rw (p.1, p.2) (not_found c.args.path c.in_err-found.field-0.0 (IfErr-at_err (IsPathFault (IsDeclared c.args.schema.now) c.args.path.now) c.in_err-found.was c.resolve-found.ensures.fault))
+    rw (p.1, p.2) (not_found c.args.path c.in_err-resolve.field-0.0 (IfErr-at_err (IsPathFault (IsDeclared c.args.schema.now) c.args.path.now) c.in_err-resolve.was c.resolve.ensures.fault))
 
 pub returns-in_err-field-clause-cause : goal.returns-in_err-field-clause-cause
 returns-in_err-field-clause-cause c =

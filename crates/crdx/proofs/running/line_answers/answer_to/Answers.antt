@@ -9,5 +9,5 @@ returns-in-Ok-Err g c =
     let asked = c.args.asked.now in
     let line = c.args.line.now in
     let none = rw c.in-Ok-Err.field-0-is at c.in-Ok-Err.ensures.none in
-    IfOk-weaker c.answer_to_none.result _ _ (λ a is. subst (λ n. IsLineAnswer (node_of asked.node.now) asked.command c.args.number line n a.text.items) (sym is.0)
-    (no_document c.in-Ok-Err.fault a.text.items none.0 none.1 is.1)) c.answer_to_none.ensures
+    IfOk-weaker c.answer_to_fault.result _ _ (λ a is. subst (λ n. IsLineAnswer (node_of asked.node.now) asked.command c.args.number line n a.text.items) (sym is.0)
+    (no_document c.in-Ok-Err.fault a.text.items none.0 none.1 is.1)) c.answer_to_fault.ensures

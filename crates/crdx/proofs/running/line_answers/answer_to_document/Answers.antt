@@ -10,11 +10,11 @@ pub returns-in-Ok : goal.returns-in-Ok
 returns-in-Ok c =
     let asked = c.args.asked.now in
     let alone = c.in-Ok.alone in
-    IfOk-weaker c.print_at.result _ _ (λ a printed line reads. subst (λ n. IsLineAnswer (node_of asked.node.now) asked.command c.args.number line n a.text.items) (sym printed.0)
-    (document (data_of c.args.document) alone.status (string_bytes alone.text) a.text.items reads c.in-Ok.ensures.answer printed.1)) c.print_at.ensures
+    IfOk-weaker c.numbered_answer.result _ _ (λ a printed line reads. subst (λ n. IsLineAnswer (node_of asked.node.now) asked.command c.args.number line n a.text.items) (sym printed.0)
+    (document (data_of c.args.document) alone.status (string_bytes alone.out) a.text.items reads c.in-Ok.ensures.answer printed.1)) c.numbered_answer.ensures
 
 pub returns-in-Err-NotStored : goal.returns-in-Err-NotStored
 returns-in-Err-NotStored c =
     let asked = c.args.asked.now in
-    IfOk-weaker c.print_at-in-Err-NotStored.result _ _ (λ a printed line reads. subst (λ n. IsLineAnswer (node_of asked.node.now) asked.command c.args.number line n a.text.items) (sym printed.0)
-    (document (data_of c.args.document) 1 [] a.text.items reads (rw c.in-Err-NotStored.field-0-is at c.in-Err-NotStored.ensures.cause) (subst (λ alone. a.text.items ≡ printed_at c.args.number asked.command 1 alone) c.new.ensures.bytes printed.1))) c.print_at-in-Err-NotStored.ensures
+    IfOk-weaker c.numbered_answer-in-Err-NotStored.result _ _ (λ a printed line reads. subst (λ n. IsLineAnswer (node_of asked.node.now) asked.command c.args.number line n a.text.items) (sym printed.0)
+    (document (data_of c.args.document) 1 [] a.text.items reads (rw c.in-Err-NotStored.field-0-is at c.in-Err-NotStored.ensures.cause) (subst (λ alone. a.text.items ≡ printed_at c.args.number asked.command 1 alone) c.new.ensures.bytes printed.1))) c.numbered_answer-in-Err-NotStored.ensures

@@ -5,11 +5,11 @@ use Rattle.crdx.specs.Program.InputFault.{TakesLongLine}
 use Rattle.crdx.specs.Program.LineAnswers.{IsLineAnswer, no_document}
 use Rattle.crdx.proofs.running.line_answers.next_answer.Goals as goal
 
-pub returns-in_ok-answer_to_none-in-Err-Document-TooLong-clause-some : goal.returns-in_ok-answer_to_none-in-Err-Document-TooLong-clause-some
-returns-in_ok-answer_to_none-in-Err-Document-TooLong-clause-some g c =
+pub returns-in_ok-answer_to_fault-in-Err-Document-TooLong-clause-some : goal.returns-in_ok-answer_to_fault-in-Err-Document-TooLong-clause-some
+returns-in_ok-answer_to_fault-in-Err-Document-TooLong-clause-some g c =
     let asked = c.args.asked.now in
-    let answer = c.in_ok-answer_to_none-in-Err-Document-TooLong.field-0 in
-    let said = c.in_ok-answer_to_none-in-Err-Document-TooLong.ensures in
+    let answer = c.in_ok-answer_to_fault-in-Err-Document-TooLong.field-0 in
+    let said = c.in_ok-answer_to_fault-in-Err-Document-TooLong.ensures in
     let h : TakesLongLine (g.I.Inputs.coming c.args.inputs.now) (g.I.Inputs.coming c.next_line.new.self) = rw (c.in-Err-Document-TooLong.field-0-is, c.in-Err-Document-TooLong.field-0-0-is) at c.in-Err-Document-TooLong.ensures.refused in
     record {
       line = h.line;

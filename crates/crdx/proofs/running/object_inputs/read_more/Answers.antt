@@ -22,17 +22,17 @@ returns-in-Err-clause-cause g c =
 pub returns-in-Err-add_line-clause-cause : goal.returns-in-Err-add_line-clause-cause
 returns-in-Err-add_line-clause-cause g c =
     let s = c.lines.invariant in
-    let line = c.as_slice-in-lines.result.now in
+    let line = c.as_slice.result.now in
     let next = g.I.Inputs.coming c.next_line.new.self in
-    let takes = subst (λ l. (rest : List (List ℕ)) → next rest → g.I.Inputs.coming c.lines.inputs (l ∷ rest)) (sym c.as_slice-in-lines.ensures.value) (c.in-Ok-true.ensures.line c.in-Ok-true.field-0-test) in
+    let takes = subst (λ l. (rest : List (List ℕ)) → next rest → g.I.Inputs.coming c.lines.inputs (l ∷ rest)) (sym c.as_slice.ensures.value) (c.in-Ok-true.ensures.line c.in-Ok-true.field-0-test) in
     later_broken (g.I.Inputs.coming c.args.inputs.now) (g.I.Inputs.coming c.lines.inputs) c.lines.read _ _ s.so_far line next takes (g.I.Inputs.some_coming c.next_line.new.self) _ _ _ c.in-Err-add_line.ensures.cause
 
 pub lines-preserved : goal.lines-preserved
 lines-preserved g c =
     let s = c.lines.invariant in
-    let line = c.as_slice-in-lines.result.now in
+    let line = c.as_slice.result.now in
     let next = g.I.Inputs.coming c.next_line.new.self in
-    let takes = subst (λ l. (rest : List (List ℕ)) → next rest → g.I.Inputs.coming c.lines.inputs (l ∷ rest)) (sym c.as_slice-in-lines.ensures.value) (c.in-Ok-true.ensures.line c.in-Ok-true.field-0-test) in
+    let takes = subst (λ l. (rest : List (List ℕ)) → next rest → g.I.Inputs.coming c.lines.inputs (l ∷ rest)) (sym c.as_slice.ensures.value) (c.in-Ok-true.ensures.line c.in-Ok-true.field-0-test) in
     let d = c.in-Ok.ensures.added in
     record {
       so_far = added_line (g.I.Inputs.coming c.args.inputs.now) (g.I.Inputs.coming c.lines.inputs) c.lines.read _ _ s.so_far line next takes d.0 _ d.1 d.2;

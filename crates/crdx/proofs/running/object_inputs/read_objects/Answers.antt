@@ -15,7 +15,7 @@ pub returns-in-Err-clause-cause : goal.returns-in-Err-clause-cause
 returns-in-Err-clause-cause g c =
     let s = c.loop-word.invariant in
     word_cause (g.I.Inputs.lines c.args.inputs.now) (g.I.Inputs.lines c.loop-word.inputs) s.lines c.args.words.now c.loop-word.word-index _ c.loop-word-test.true (g.I.Inputs.failures c.args.inputs.now)
-    (g.I.Inputs.failures c.loop-word.inputs) (g.I.Inputs.failures c.read_input.new.inputs) c.in-Err.cause s.reads c.in-Err.ensures.cause
+    (g.I.Inputs.failures c.loop-word.inputs) (g.I.Inputs.failures c.read_input.new.inputs) c.in-Err.refusal.cause s.reads c.in-Err.ensures.cause
 
 pub loop-word-preserved : goal.loop-word-preserved
 loop-word-preserved g c =

@@ -1,7 +1,7 @@
 use Rattle.std.proofs.Common.{◌≡◌, ◌<◌, length, arith, ◌∷◌, [], Bool, List, ℕ, Err, sym, subst, ◌∙◌}
 use Rattle.std.proofs.lemmas.Result.{IfErr-weaker, on_ok_weaker}
-use Rattle.jtree.specs.Reads.{Reads, most_bytes}
-use Rattle.crdx.specs.Internal.ObjectInputs.{AreAdded, IsRefusedText, IsTextSoFar}
+use Rattle.jtree.specs.Reads.{most_bytes}
+use Rattle.crdx.specs.Internal.ObjectInputs.{AreAdded, IsTextSoFar}
 use Rattle.crdx.specs.Program.InputFault.{failures_after_read}
 use Rattle.crdx.proofs.ObjectInputLemmas.{text_added, text_refused, text_unread, text_too_long, text_so_far}
 use Rattle.crdx.proofs.running.object_inputs.read_on.Goals as goal
@@ -10,13 +10,13 @@ pub returns-in-Ok-false-clause-objects : goal.returns-in-Ok-false-clause-objects
 returns-in-Ok-false-clause-objects g c =
     let s = c.lines.invariant in
     on_ok_weaker c.add_text.result (λ d. text_added (g.I.Inputs.coming c.args.inputs.now) (g.I.Inputs.coming c.lines.inputs) c.args.first.items c.lines.text.items s.so_far c.args.objects.now.items c.add_text.new.objects.items d.0
-    (c.in-Ok-false.ensures.end c.in-Ok-false.field-0-test) (subst (λ t. Reads t d.0) c.as_slice.ensures.value d.1) (subst (λ os. AreAdded (d.0 ∷ []) os c.add_text.new.objects.items) s.objects d.2)) c.add_text.ensures.added
+    (c.in-Ok-false.ensures.end c.in-Ok-false.field-0-test) d.1 (subst (λ os. AreAdded (d.0 ∷ []) os c.add_text.new.objects.items) s.objects d.2)) c.add_text.ensures.added
 
 pub returns-in-Ok-false-clause-cause : goal.returns-in-Ok-false-clause-cause
 returns-in-Ok-false-clause-cause g c =
     let s = c.lines.invariant in
-    IfErr-weaker c.add_text.result _ _ (λ why is. text_refused (g.I.Inputs.coming c.args.inputs.now) (g.I.Inputs.coming c.lines.inputs) c.args.first.items c.lines.text.items s.so_far _ _ why
-    (c.in-Ok-false.ensures.end c.in-Ok-false.field-0-test) (subst (λ t. IsRefusedText t why) c.as_slice.ensures.value is)) c.add_text.ensures.cause
+    IfErr-weaker c.add_text.result _ _ (λ r is. text_refused (g.I.Inputs.coming c.args.inputs.now) (g.I.Inputs.coming c.lines.inputs) c.args.first.items c.lines.text.items s.so_far _ _ r.cause
+    (c.in-Ok-false.ensures.end c.in-Ok-false.field-0-test) is) c.add_text.ensures.cause
 
 pub returns-in-Err-clause-cause : goal.returns-in-Err-clause-cause
 returns-in-Err-clause-cause g c =
@@ -29,9 +29,9 @@ returns-in-Err-clause-cause g c =
 pub lines-preserved : goal.lines-preserved
 lines-preserved g c =
     let s = c.lines.invariant in
-    let line = c.as_slice-in-lines.result.now in
+    let line = c.as_slice.result.now in
     let next = g.I.Inputs.coming c.next_line.new.self in
-    let takes = subst (λ l. (rest : List (List ℕ)) → next rest → g.I.Inputs.coming c.lines.inputs (l ∷ rest)) (sym c.as_slice-in-lines.ensures.value) (c.in-Ok-true.ensures.line c.in-Ok-true.field-0-test) in
+    let takes = subst (λ l. (rest : List (List ℕ)) → next rest → g.I.Inputs.coming c.lines.inputs (l ∷ rest)) (sym c.as_slice.ensures.value) (c.in-Ok-true.ensures.line c.in-Ok-true.field-0-test) in
     record {
       so_far = subst (IsTextSoFar (g.I.Inputs.coming c.args.inputs.now) next c.args.first.items) (sym c.in-Ok.ensures) (text_so_far (g.I.Inputs.coming c.args.inputs.now) (g.I.Inputs.coming c.lines.inputs) c.args.first.items c.lines.text.items s.so_far line next takes);
       objects = s.objects;

@@ -1,41 +1,39 @@
-use Rattle.std.proofs.Common.{inl, sym, subst}
+use Rattle.std.proofs.Common.{inl, subst}
 use Rattle.std.proofs.lemmas.Result.{err_from_is_err_and, IfOk-weaker, IfErr-weaker}
-use Rattle.schema.specs.Nodes.View.{node_of}
 use Rattle.crdx.specs.Internal.Cause.{IsDocumentCause}
 use Rattle.crdx.specs.Program.Documents.{file_name}
-use Rattle.crdx.specs.Program.Requested.{IsRequestedRoot}
 use Rattle.crdx.specs.Program.RunResult.{object, no_object}
 use Rattle.crdx.specs.declared.arguments.request.Request.TheVariants.{Object}
 use Rattle.crdx.proofs.RunLemmas.{input_of_schema, requested_root, object_input}
 use Rattle.crdx.proofs.running.objects.judge_object.Goals as goal
 
-pub returns-in_err-accepted-clause-cause : goal.returns-in_err-accepted-clause-cause
-returns-in_err-accepted-clause-cause g c =
+pub returns-in_err-schema-clause-cause : goal.returns-in_err-schema-clause-cause
+returns-in_err-schema-clause-cause g c =
     let arguments = c.args.arguments.now in
     let p = err_from_is_err_and c.from_residual.result c.from_residual.ensures.1 in
     rw (p.1, p.2) (input_of_schema (g.I.Inputs.has c.args.inputs.now) (g.I.Inputs.failures c.args.inputs.now) (g.I.Inputs.failures c.accepted_schema.new.inputs) arguments.common (Object arguments)
-    (no_object arguments) c.in_err-accepted.field-0.0 (λ r. inl r) c.in_err-accepted.ensures.cause)
+    (no_object arguments) c.in_err-schema.field-0.0.cause (λ r. inl r) c.in_err-schema.ensures.cause)
 
 pub returns-clause-answer : goal.returns-clause-answer
 returns-clause-answer g c =
     let has = g.I.Inputs.has c.args.inputs.now in
     let arguments = c.args.arguments.now in
-    let accepted = c.in_ok-accepted.accepted in
-    let root = requested_root has arguments.common accepted.group accepted.kind accepted.schema c.in_ok-accepted.ensures.accepted in
-    IfOk-weaker c.judge_at-answer.result _ _ (λ a said. object arguments (node_of c.root.result.now) said.0 a.status _ (record {
-      root = subst (IsRequestedRoot has arguments.common) (sym c.root.ensures.node) root;
-      at_hand = c.in_ok-accepted.ensures.stays (file_name arguments.object) _ said.1;
-    }) said.2) c.judge_at-answer.ensures.answer
+    let accepted = c.in_ok-schema.field-0 in
+    let root = requested_root has arguments.common accepted.group accepted.kind accepted.schema c.in_ok-schema.ensures.accepted in
+    IfOk-weaker c.judge_by.result _ _ (λ a said. object arguments accepted.schema said.0 a.status _ (record {
+      root = root;
+      at_hand = c.in_ok-schema.ensures.stays (file_name arguments.object) _ said.1;
+    }) said.2) c.judge_by.ensures.answer
 
 pub returns-clause-cause : goal.returns-clause-cause
 returns-clause-cause g c =
     let has = g.I.Inputs.has c.args.inputs.now in
     let later = g.I.Inputs.has c.accepted_schema.new.inputs in
-    let read = g.I.Inputs.failures c.judge_at-answer.new.inputs in
+    let read = g.I.Inputs.failures c.judge_by.new.inputs in
     let arguments = c.args.arguments.now in
-    let accepted = c.in_ok-accepted.accepted in
-    let N = node_of c.root.result.now in
-    let root = requested_root has arguments.common accepted.group accepted.kind accepted.schema c.in_ok-accepted.ensures.accepted in
-    IfErr-weaker c.judge_at-answer.result _ _ (λ cause why.
-    object_input has later (g.I.Inputs.failures c.args.inputs.now) read arguments N c.in_ok-accepted.ensures.stays (subst (IsRequestedRoot has arguments.common) (sym c.root.ensures.node) root) cause
-    (subst (λ n. IsDocumentCause later n read N arguments cause) c.in_ok-accepted.ensures.unfailed why)) c.judge_at-answer.ensures.cause
+    let accepted = c.in_ok-schema.field-0 in
+    let N = accepted.schema in
+    let root = requested_root has arguments.common accepted.group accepted.kind N c.in_ok-schema.ensures.accepted in
+    IfErr-weaker c.judge_by.result _ _ (λ r why.
+    object_input has later (g.I.Inputs.failures c.args.inputs.now) read arguments N c.in_ok-schema.ensures.stays root r.cause
+    (subst (λ n. IsDocumentCause later n read N arguments r.cause) c.in_ok-schema.ensures.unfailed why)) c.judge_by.ensures.cause

@@ -13,7 +13,7 @@ use Rattle.crdx.proofs.running.sampling.write_samples.Goals as goal
 
 pub returns-in_err-walked-clause-cause : goal.returns-in_err-walked-clause-cause
 returns-in_err-walked-clause-cause g c =
-    let inputs = c.args.inputs.now in
+    let inputs = c.args.source.now in
     let after = option_map data_of inputs.after in
     let cut : IsPartialOutput inputs.plan after (total_of c.args.arguments.now) inputs.envelope (g.W.Sink.taken c.args.out.now) (g.W.Sink.taken c.walk_asked.new.out)
     (g.W.Sink.failures c.args.out.now) (g.W.Sink.failures c.walk_asked.new.out) c.in_err-walked.field-0.0 =
@@ -23,7 +23,7 @@ returns-in_err-walked-clause-cause g c =
 
 pub returns-in-Ok-clause-sampled : goal.returns-in-Ok-clause-sampled
 returns-in-Ok-clause-sampled g c =
-    let inputs = c.args.inputs.now in
+    let inputs = c.args.source.now in
     let after = option_map data_of inputs.after in
     let sample : IfSome after (IsSampleOf inputs.plan) = rw (← c.meter-meter.ensures.same) c.in_ok-walked.ensures.sample in
     let wrote : WritesPage inputs.plan after (total_of c.args.arguments.now) inputs.envelope c.in_ok-walked.walked.lines c.in_ok-walked.walked.end
@@ -40,7 +40,7 @@ returns-in-Ok-clause-sampled g c =
 
 pub returns-in-Err-clause-cause : goal.returns-in-Err-clause-cause
 returns-in-Err-clause-cause g c =
-    let inputs = c.args.inputs.now in
+    let inputs = c.args.source.now in
     let after = option_map data_of inputs.after in
     let wrote : WritesPage inputs.plan after (total_of c.args.arguments.now) inputs.envelope c.in_ok-walked.walked.lines c.in_ok-walked.walked.end
     (g.W.Sink.taken c.args.out.now) (g.W.Sink.taken c.walk_asked.new.out) =

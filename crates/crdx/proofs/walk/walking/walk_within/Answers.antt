@@ -9,7 +9,7 @@ use Rattle.crdx.specs.Internal.Progress.{AddsBlock, IsPartialBlock, IsSoFar, IsW
 use Rattle.crdx.specs.Output.PartialOutput.{IsPartialOutput}
 use Rattle.crdx.specs.declared.walk.fault.WFault.TheVariants.{NoMemory}
 use Rattle.crdx.proofs.StopLemmas.{can_go_on}
-use Rattle.crdx.proofs.WalkLemmas.{begun, gone_on, less_left, all_written, cut_block, cut_flush, nothing_left, not_ended_at, still_so_far}
+use Rattle.crdx.proofs.WalkLemmas.{begun, gone_on, less_left, all_written, cut_block, cut_flush, nothing_left, not_ended_at, not_refused, still_so_far}
 use Rattle.crdx.proofs.walk.walking.walk_within.Given.{Over}
 use Rattle.crdx.proofs.walk.walking.walk_within.Goals as goal
 use Rattle.crdx.proofs.walk.walking.walk_within.Goals.{then-pages-test+else-so_far-extent, else-pages-test}
@@ -22,16 +22,21 @@ ended : (end : Bool) → not end ≡ false → end ≡ false → ⊥
 ended true h f = cc
 ended false h f = cc
 
-pub returns-in_default-clause-lines : goal.returns-in_default-clause-lines
-returns-in_default-clause-lines g c = record {
-  items = [];
-  page = nothing_left c.args.plan.now (resume_point c.args.after) c.args.extent.total (subst (IsStarted c.args.plan.now (resume_point c.args.after)) c.in_default.is c.in-Ok.ensures.ok);
-  counted = refl;
-  written = Appends-nil _;
+pub returns-in_default : goal.returns-in_default
+returns-in_default g c = record {
+  lines = record {
+    items = [];
+    page = nothing_left c.args.plan.now (resume_point c.args.after) c.args.extent.total (subst (IsStarted c.args.plan.now (resume_point c.args.after)) c.in_default.is c.in-Ok.ensures.ok);
+    counted = refl;
+    written = Appends-nil _;
+  };
+  sample = c.in-Ok.ensures.sample;
+  refused = λ none. absurd (not_refused c.args.plan.now (resume_point c.args.after) c.in-Ok.ensures.sample none);
+  cut = tt;
+  goes_on = tt;
+  unfailed = refl;
+  steps = λ w wide. omega (arith, c.past.ensures.steps w wide);
 }
-
-pub returns-in_default-clause-steps : goal.returns-in_default-clause-steps
-returns-in_default-clause-steps g c = λ w wide. omega (arith, c.past.ensures.steps w wide)
 
 pub returns-in-Err : goal.returns-in-Err
 returns-in-Err g c =
@@ -71,30 +76,49 @@ flushed g c = still_so_far c.args.plan.now (resume_point c.args.after) c.args.ex
 unfailed : (g : Over) (c : goal.In-Ok-write_block g) → g.W.Sink.failures c.flush_lines.new.out ≡ g.W.Sink.failures c.args.out.now
 unfailed g c = c.in-Ok-flush_lines.ensures.unfailed ∙ c.pages.invariant.failures
 
-pub returns-in-Err-flush_lines-clause-cut : goal.returns-in-Err-flush_lines-clause-cut
-returns-in-Err-flush_lines-clause-cut g c =
-    let has = subst (λ n. HasFailed n (g.W.Sink.failures c.flush_lines.new.out)) c.pages.invariant.failures c.in-Err-flush_lines.ensures.failed.1 in
-    rw (c.in-Err-flush_lines.ensures.failed.0) (cut_flush c.args.plan.now (resume_point c.args.after) c.args.extent.total (option_copied c.args.envelope) (c.pages_agree.ensures.items, c.pages_agree.ensures.end) c.pages.so_far.lines c.pages.live.at c.pages.so_far.end _ _ _ _ _
-    c.pages.invariant.sample (not_ended c.pages.so_far.end c.pages-test.true) (omega arith) c.pages.invariant.so_far c.flush_lines.ensures.keeps has)
-
-pub returns-in-Err-flush_lines-clause-goes_on : goal.returns-in-Err-flush_lines-clause-goes_on
-returns-in-Err-flush_lines-clause-goes_on g c =
-    can_go_on c.args.plan.now (resume_point c.args.after) c.args.extent.total (option_copied c.args.envelope) _ _ _ _ c.in-Err-flush_lines.fault (omega arith) (returns-in-Err-flush_lines-clause-cut g c)
-
-pub returns-in-Err-write_block-clause-cut : goal.returns-in-Err-write_block-clause-cut
-returns-in-Err-write_block-clause-cut g c =
+pub returns-in-Err-flush_lines : goal.returns-in-Err-flush_lines
+returns-in-Err-flush_lines g c =
     let q = c.args.plan.now in
-    let failures : g.W.Sink.failures c.flush_lines.new.out ≡ g.W.Sink.failures c.args.out.now = c.in-Ok-flush_lines.ensures.unfailed ∙ c.pages.invariant.failures in
-    let out = still_so_far q (resume_point c.args.after) c.args.extent.total (option_copied c.args.envelope) c.pages.so_far.lines c.pages.live.at c.pages.so_far.end _ _ _ c.flush_lines.ensures.keeps c.pages.invariant.so_far in
-    let part : (place : Option Data) → IsNextSample q place c.pages.live.at
-    → IsPartialBlock q place c.block_lines-count.result (option_copied c.args.envelope) c.pages.so_far.lines (g.W.Sink.taken c.flush_lines.new.out) (g.W.Sink.taken c.write_block.new.out) (g.W.Sink.failures c.args.out.now) (g.W.Sink.failures c.write_block.new.out) c.in-Err-write_block.fault =
-    rw (← c.pages.invariant.question, ← c.pages.invariant.envelope, ← failures) c.in-Err-write_block.ensures.err in
-    cut_block q (resume_point c.args.after) c.args.extent.total (option_copied c.args.envelope) (c.pages_agree.ensures.items, c.pages_agree.ensures.end) c.block_lines-count.result c.pages.so_far.lines c.pages.live.at c.pages.so_far.end _ _ _ _ _ c.in-Err-write_block.fault
-    c.pages.invariant.sample (not_ended c.pages.so_far.end c.pages-test.true) (omega arith) (omega arith) out part
+    let after = resume_point c.args.after in
+    let total = c.args.extent.total in
+    let e = option_copied c.args.envelope in
+    let has = subst (λ n. HasFailed n (g.W.Sink.failures c.flush_lines.new.out)) c.pages.invariant.failures c.in-Err-flush_lines.ensures.failed.1 in
+    let cut : IsPartialOutput q after total e (g.W.Sink.taken c.args.out.now) (g.W.Sink.taken c.flush_lines.new.out) (g.W.Sink.failures c.args.out.now) (g.W.Sink.failures c.flush_lines.new.out) c.in-Err-flush_lines.fault =
+    rw (c.in-Err-flush_lines.ensures.failed.0) (cut_flush q after total e (c.pages_agree.ensures.items, c.pages_agree.ensures.end) c.pages.so_far.lines c.pages.live.at c.pages.so_far.end _ _ _ _ _
+    c.pages.invariant.sample (not_ended c.pages.so_far.end c.pages-test.true) (omega arith) c.pages.invariant.so_far c.flush_lines.ensures.keeps has) in
+    record {
+      lines = tt;
+      sample = tt;
+      refused = λ none. absurd (not_refused q after c.pages.invariant.sample none);
+      cut = cut;
+      goes_on = can_go_on q after total e _ _ _ _ c.in-Err-flush_lines.fault (omega arith) cut;
+      unfailed = tt;
+      steps = tt;
+    }
 
-pub returns-in-Err-write_block-clause-goes_on : goal.returns-in-Err-write_block-clause-goes_on
-returns-in-Err-write_block-clause-goes_on g c =
-    can_go_on c.args.plan.now (resume_point c.args.after) c.args.extent.total (option_copied c.args.envelope) _ _ _ _ c.in-Err-write_block.fault (omega arith) (returns-in-Err-write_block-clause-cut g c)
+pub returns-in-Err-write_block : goal.returns-in-Err-write_block
+returns-in-Err-write_block g c =
+    let q = c.args.plan.now in
+    let after = resume_point c.args.after in
+    let total = c.args.extent.total in
+    let e = option_copied c.args.envelope in
+    let failures : g.W.Sink.failures c.flush_lines.new.out ≡ g.W.Sink.failures c.args.out.now = c.in-Ok-flush_lines.ensures.unfailed ∙ c.pages.invariant.failures in
+    let out = still_so_far q after total e c.pages.so_far.lines c.pages.live.at c.pages.so_far.end _ _ _ c.flush_lines.ensures.keeps c.pages.invariant.so_far in
+    let part : (place : Option Data) → IsNextSample q place c.pages.live.at
+    → IsPartialBlock q place c.block_lines-count.result e c.pages.so_far.lines (g.W.Sink.taken c.flush_lines.new.out) (g.W.Sink.taken c.write_block.new.out) (g.W.Sink.failures c.args.out.now) (g.W.Sink.failures c.write_block.new.out) c.in-Err-write_block.fault =
+    rw (← c.pages.invariant.question, ← c.pages.invariant.envelope, ← failures) c.in-Err-write_block.ensures.err in
+    let cut : IsPartialOutput q after total e (g.W.Sink.taken c.args.out.now) (g.W.Sink.taken c.write_block.new.out) (g.W.Sink.failures c.args.out.now) (g.W.Sink.failures c.write_block.new.out) c.in-Err-write_block.fault =
+    cut_block q after total e (c.pages_agree.ensures.items, c.pages_agree.ensures.end) c.block_lines-count.result c.pages.so_far.lines c.pages.live.at c.pages.so_far.end _ _ _ _ _ c.in-Err-write_block.fault
+    c.pages.invariant.sample (not_ended c.pages.so_far.end c.pages-test.true) (omega arith) (omega arith) out part in
+    record {
+      lines = tt;
+      sample = tt;
+      refused = λ none. absurd (not_refused q after c.pages.invariant.sample none);
+      cut = cut;
+      goes_on = can_go_on q after total e _ _ _ _ c.in-Err-write_block.fault (omega arith) cut;
+      unfailed = tt;
+      steps = tt;
+    }
 
 adds : (g : Over) (c : goal.In-Ok-write_block g) (place : Option Data) → IsNextSample c.args.plan.now place c.pages.live.at
     → AddsBlock c.args.plan.now place c.block_lines-count.result (option_copied c.args.envelope) c.pages.so_far.lines c.in-Ok-write_block.so_far.lines c.in-Ok-write_block.so_far.end c.write_block.new.live.at (g.W.Sink.taken c.flush_lines.new.out) (g.W.Sink.taken c.write_block.new.out)
@@ -123,10 +147,18 @@ pages-preserved g c = record {
   steps = λ w wide. omega (arith, c.pages.invariant.steps w wide, within g c w wide);
 }
 
-pub returns-clause-lines : goal.returns-clause-lines
-returns-clause-lines g c =
+pub returns : goal.returns
+returns g c =
     let full : c.pages.so_far.end ≡ false → c.args.extent.total ≤ c.pages.so_far.lines = elim c.pages-test.branch [
       | then-pages-test+else-so_far-extent w ↦ λ f. w.if-so_far-extent.false
       | else-pages-test w ↦ λ f. absurd (ended c.pages.so_far.end w.pages-test.false f)
     ] in
-    all_written c.args.plan.now (resume_point c.args.after) c.args.extent.total (option_copied c.args.envelope) c.pages.so_far.lines c.pages.so_far.end c.pages.live.at _ _ full c.pages.invariant.so_far
+    record {
+      lines = all_written c.args.plan.now (resume_point c.args.after) c.args.extent.total (option_copied c.args.envelope) c.pages.so_far.lines c.pages.so_far.end c.pages.live.at _ _ full c.pages.invariant.so_far;
+      sample = c.pages.invariant.sample;
+      refused = λ none. absurd (not_refused c.args.plan.now (resume_point c.args.after) c.pages.invariant.sample none);
+      cut = tt;
+      goes_on = tt;
+      unfailed = c.pages.invariant.failures;
+      steps = c.pages.invariant.steps;
+    }

@@ -1,0 +1,7 @@
+use Rattle.crdx.proofs.arguments.command.validate_command.Goals as goal
+
+pub returns-clause-app : goal.returns-clause-app
+returns-clause-app c = c.add_argument.ensures.app _ _ c.object_command-command.ensures.app c.flag.ensures.rule
+
+pub returns-clause-local : goal.returns-clause-local
+returns-clause-local c = c.add_argument.ensures.local c.object_command-command.ensures.local

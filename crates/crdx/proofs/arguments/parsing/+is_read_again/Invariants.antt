@@ -1,5 +1,0 @@
-use Rattle.std.proofs.Common.{length}
-use Rattle.crdx.proofs.arguments.parsing.+is_read_again.Given as goal
-
-abbrev pub decreases-is_read_again : goal.decreases-is_read_again
-decreases-is_read_again l = length l.words.now
