@@ -39,7 +39,7 @@ class Kind(enum.Enum):
 
 @dataclasses.dataclass
 class Entry:
-    """A command, an argument or an option: its head, as `--pools <FILE>`, and the paragraphs on it."""
+    """A command, an argument or an option: its head, as `--pools <FILE>`, and the paragraphs on it. One of several lines is a list."""
 
     head: str
     paragraphs: list[str]
@@ -94,25 +94,36 @@ def read_help(text: str) -> Help:
 
 
 def entries_of(lines: list[str]) -> list[Entry]:
-    """The entries of indented lines. One begins at two spaces, or at six where it is a long option; its text is further in."""
+    """The entries of indented lines. One begins at two spaces, or at six where it is a long option; its text is further in, and the lines of
+    a list still further."""
     entries: list[Entry] = []
+    column = 0
     for line in lines:
         if re.match(r"  (    --|\S)", line):
             head, _, text = line.strip().partition("  ")
             entries.append(Entry(head, [text.strip()]))
+            column = len(line) - len(text.strip()) if text.strip() else 0
         elif entries:
-            add_line(entries[-1].paragraphs, line.strip())
+            column = column or indentation(line)
+            add_line(entries[-1].paragraphs, line[column:] if indentation(line) > column else line.strip())
     for entry in entries:
-        entry.paragraphs = [it for it in entry.paragraphs if it]
+        entry.paragraphs = [it for it in entry.paragraphs if it.strip()]
     return entries
 
 
+def indentation(line: str) -> int:
+    return len(line) - len(line.lstrip())
+
+
 def add_line(paragraphs: list[str], line: str) -> None:
-    """A blank line ends a paragraph; any other goes on with it."""
-    if line:
-        paragraphs[-1] = f"{paragraphs[-1]} {line}".strip()
+    """A blank line ends a paragraph, and a list begins and ends one; any other line goes on with the last one."""
+    is_listed = line.startswith(" ")
+    if not line or is_listed != paragraphs[-1].startswith(" ") and paragraphs[-1]:
+        paragraphs.append(line)
+    elif is_listed:
+        paragraphs[-1] = f"{paragraphs[-1]}\n{line}".strip("\n")
     else:
-        paragraphs.append("")
+        paragraphs[-1] = f"{paragraphs[-1]} {line}".strip()
 
 
 class Program:
@@ -231,15 +242,22 @@ def prose(blocks: Iterable[Block]) -> list[str]:
         if indented and re.match(r"  \S+  +\S", indented[0]):
             lines += entries(entries_of(indented))
         elif indented:
-            lines += [".PP", ".RS 4", ".EX", *map(escaped, textwrap.dedent("\n".join(indented)).splitlines()), ".EE", ".RE"]
+            lines += [".PP", *listed("\n".join(indented))]
     return lines
+
+
+def listed(text: str) -> list[str]:
+    """Lines as they are, a little further in."""
+    return [".RS 4", ".EX", *map(escaped, textwrap.dedent(text).splitlines()), ".EE", ".RE"]
 
 
 def entries(found: list[Entry]) -> list[str]:
     lines: list[str] = []
     for it in found:
         first, *others = it.paragraphs
-        lines += [".TP", styled(it.head), *filled(first), *[line for text in others for line in (".IP", *filled(text))]]
+        lines += [".TP", styled(it.head), *filled(first)]
+        for text in others:
+            lines += [".IP", *(listed(text) if text.startswith(" ") else filled(text))]
     return lines
 
 

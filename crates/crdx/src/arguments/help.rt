@@ -118,22 +118,29 @@ Codes of an input that is refused:
   S2   There is no version of that name. Those of the file are what
        `jq '.spec.versions[].name' FILE` prints.
   S3   The value of a keyword has the wrong form.
-  S4   A limit is passed: 512 places in the schema, 24 steps to a place, 32
-       properties, 32 names in required, 4 map keys, 64 values in an enum; with
-       --large 16384, 60, 1024, 1024, 8 and 1024. --why says which, and how
-       many there are.
-  P1   The pools have the wrong form: they are an object with any of integers,
-       strings, names, present and any, each a list, of integers of 64 bits, of
-       texts, of texts, of texts, and of any values, and of paths and fixed,
-       objects of such lists of any values.
-  P2   The pools have more than 64 integers, 64 strings, 32 names or 64 values
-       of any kind, more than 64 paths in paths, fixed or present, or more than
-       64 values at a path; with --large, 1024 in place of 64. Or `crdx pools`
-       would print such pools, or more than 1 MiB.
-  P5   A path of the pools leads to no field; or one in paths to an object, a
-       map or a list; or one in fixed to the items of a list of list type map.
-       So with the path of --without. Or that of --vary leads to no field, or
-       through a list or a map.
+  S4   A limit is passed. --why says which, and how many there are:
+         places in the schema             512, with --large 16384
+         steps to a place                  24, with --large    60
+         properties, names in required     32, with --large  1024
+         keys of a map list                 4, with --large     8
+         values in an enum                 64, with --large  1024
+  P1   The pools have the wrong form. They are an object with any of
+         integers                a list of integers of 64 bits
+         strings, names          lists of strings
+         any                     a list of any values
+         paths, fixed            objects of lists of any values
+         present                 a list of strings
+  P2   The pools are too large: more than 32 names, or more than 64 (with
+       --large 1024)
+         integers, strings or values of any
+         paths in paths, fixed or present
+         values at a path
+       Or `crdx pools` would print such pools, or more than 1 MiB.
+  P5   A path is bad:
+         any path                leads to no field
+         one of paths            leads to an object, a map or a list
+         one of fixed, --without leads to the items of a map list
+         one of --vary           leads through a list or a map
   P6   The object of --from has nothing that the field of --vary belongs to, or
        there is more than one object.
 
@@ -178,24 +185,37 @@ pub(super) const EXPLAIN: CommandHelp = CommandHelp {
     about: "Lists the fields of a schema, or says all about one of them",
     long_about: r#"Lists the fields of a schema, one on each line, or says all about one of them.
 
-A line has the path of the field as a JSON text and its type. Then come, where
-they apply, `required`, `nullable`, `list-type=set` or `list-type=map`, the keys
-of a map list, `map-type=atomic`, and the default as JSON, such as
+A line has the path of the field as a JSON string, and its type, such as
 
     "/spec/ports" <[]Object> list-type=map keys=["name"]
     "/spec/ports/[]/name" <string> required
 
-A type is string, integer, boolean or Object, int-or-string for what may be
-either, any for what the schema leaves open, [] and the type of the items for a
-list, or map[string] and the type of the values for a map.
+After them come, if they apply:
+
+    required          the object above requires the field
+    nullable          the field may be null
+    list-type=        set or map
+    keys=             the keys of a map list
+    map-type=atomic   the object has one owner
+    default=          the default, as JSON
+
+The types are:
+
+    string, integer, boolean, Object
+    int-or-string     an integer or a string
+    any               whatever the schema leaves open
+    []TYPE            a list of items of this type
+    map[string]TYPE   a map of values of this type
 
 A field comes before the fields below it, and fields beside one another are in
 the order of the bytes of their names. With PATH there are the line of that
 field, its description, and the values of its enum, where it has them.
 
-Paths are written with a / before each step: the name of a field, [] for the
-items of a list, or {} for the values of a map. In a name ~ is written ~0, / is
-written ~1, [ is written ~2, and { is written ~3."#,
+A path has a / before each step, which is one of
+
+    NAME   the field of this name, with ~0 for ~, ~1 for /, ~2 for [, ~3 for {
+    []     the items of a list
+    {}     the values of a map"#,
     end: "Examples, at the top of the repository:
   ./crdx explain examples/issuer/crd.json v1
   ./crdx explain examples/issuer/crd.json v1 '/spec/acme/solvers/[]/http01'
@@ -264,11 +284,13 @@ its path, which are written as in managedFields, such as
     ["f:spec","f:ports","k:{\"name\":\"web\"}","f:port"]
     ["f:spec","f:tags","v:\"blue\""]
 
-An object or a map has the leaves of its members, a set has a leaf for each
-item, and a map list has the leaves of its items, each known by its keys.
-Everything else is one leaf as a whole: scalars, nulls, what is empty, lists,
-objects and maps that are atomic, what the schema leaves open, and members that
-it does not declare.
+    an object or a map   has the leaves of its members
+    a set                has a leaf for each item
+    a map list           has the leaves of its items, each known by its keys
+
+Everything else is one leaf: scalars, nulls, empty values, atomic lists, objects
+and maps, values that the schema leaves open, and members that it does not
+declare.
 
 The object has to be stored: valid, and as pruning and defaulting leave it, such
 as `crdx default` prints a valid object. Its apiVersion, kind and metadata are
@@ -284,18 +306,21 @@ pub(super) const POOLS: CommandHelp = CommandHelp {
     about: "Prints a pools document, to start with or around an object",
     long_about: r#"Prints a pools document to start with, for `crdx sample`, as one line of JSON.
 
-Its integers are 0 and 1, and each minimum and maximum of the schema with the
-integers beside it. Its strings are texts of so many letters: one, and as many
-as each minLength and maxLength up to 64 says. Its names are two, and there are
-a text and {} for places that the schema leaves open. A list ends after 64.
-Under "paths" it lists, for a field that has a `default`, an `example` or a
-`format` such as date-time, these values or two texts of that format.
+It has at most 64 values in each of these lists:
 
-With --from it lists under "paths" what objects have there, and with --vary it
-says that a sample is the one object but for what is at these paths.
+    integers   0, 1, and each minimum and maximum with its two neighbours
+    strings    strings of one letter, and of as many letters as each minLength
+               and maxLength up to 64 says
+    names      two names
+    any        a string and {}, for places that the schema leaves open
+    paths      for a field with a `default`, an `example` or a `format`: these
+               values, or two strings of the format
 
-Then change it: put in the values that tell your controller's cases apart, and
-take out those that do not."#,
+With --from, "paths" lists what the objects have at each path. With --vary, all
+samples are like the one object, except at these paths.
+
+Edit it before use: add the values that your controller treats differently, and
+remove the others."#,
     end: "Example, at the top of the repository:
   ./crdx pools examples/issuer/crd.json v1 > pools.json
   ./crdx sample examples/issuer/crd.json v1 --pools pools.json
@@ -324,7 +349,7 @@ The field then has these values alone, in place of those of the other pools and
 of an `enum`, and of true and false.
 
 Samples with fewer nodes come first. None comes twice, and none is passed over.
-Standard error says `crdx: end` where no sample is left, else `crdx: more`. The
+Standard error says `crdx: end` when no sample is left, else `crdx: more`. The
 last line, given back by --after, goes on from there. --all lists all at once.
 
 `crdx: end` alone is the whole answer where there is no sample: where a required
@@ -401,12 +426,14 @@ it are answered too, and the status is 3.";
 
 pub(super) const LARGE: &str = "Reads definitions and pools of real size";
 
-pub(super) const LARGE_LONG: &str =
-    "Reads larger definitions: up to 16384 places in place of 512, 60
-steps of a place in place of 24, 1024 properties, required fields or
-values of an `enum` in place of 32, 32 and 64, and 8 keys of a map
-list in place of 4. Pools may have 1024 paths, and 1024 entries in
-each list, in place of 64; `names` stays at 32.";
+pub(super) const LARGE_LONG: &str = "Reads larger definitions and pools. The limits become:
+  16384 places in a schema, in place of 512
+  60 steps to a place, in place of 24
+  1024 properties and required names, in place of 32
+  1024 values of an `enum`, in place of 64
+  8 keys of a map list, in place of 4
+  1024 paths in pools, and 1024 entries in each list but `names`, in
+  place of 64";
 
 pub(super) const WHY: &str = "Says why a schema or an input is refused";
 
@@ -443,23 +470,21 @@ pub(super) const POOLS_OPTION: &str = "A JSON file with the values that samples 
 
 pub(super) const POOLS_OPTION_LONG: &str =
     r#"A JSON file with the values that samples may have; - is standard
-input. It is such as
-{"integers":[0,1],"strings":["x"],"names":["k"],"any":[{}]}: at
-most 64 integers and 64 strings, 32 names of members of maps, and 64
-values where the schema leaves the value open. Each may be left out,
-and without this option all are empty. Both booleans are always
-there, and an `enum` has its own values. Under "paths", such as
-{"paths":{"/spec/a":[0,7]}}, there are the values of single fields:
-up to 64 paths, as `crdx explain` prints them, of fields that are
-scalars or open, each with up to 64 values in place of all these.
-Null stays where the schema is nullable, and a value that is not
-valid there, by its `enum` too, is in no sample. Under "fixed", such
-as {"fixed":{"/spec":[{"a":0}],"/status":[]}}, there are all values
-of fields of any type, whole, and null only where it is listed: with
-[] the field is in no sample. Under "present", such as
-{"present":["/spec","/spec/ports/[]"]}, there are up to 64 paths that
-are always there: `spec`, and an item at least in each `ports`. What
-they are in is then not null, but may be absent, as `ports` may."#;
+input. Without it there are none but booleans and those of enums. It
+is an object with any of these members:
+  integers  the integers
+  strings   the strings
+  names     the names of members of maps, at most 32
+  any       the values of places that the schema leaves open
+  paths     {"/spec/a":[0,7]}: all values of a scalar or open place, in
+            place of those above; null too if the field is nullable
+  fixed     {"/spec":[{"a":0}]}: all values of a field of any type,
+            whole; with [] the field is in no sample
+  present   ["/spec","/spec/ports/[]"]: fields, items (`[]`) and map
+            values (`{}`) that are never missing
+Each list has at most 64 entries and each object at most 64 paths, as
+`crdx explain` prints them. A value that is not valid at its place is
+in no sample."#;
 
 pub(super) const LIMIT: &str = "The most nodes of a sample, 1 to 127";
 
