@@ -246,9 +246,9 @@ def prose(blocks: Iterable[Block]) -> list[str]:
     return lines
 
 
-def listed(text: str) -> list[str]:
-    """Lines as they are, a little further in."""
-    return [".RS 4", ".EX", *map(escaped, textwrap.dedent(text).splitlines()), ".EE", ".RE"]
+def listed(text: str, indent: int = 4) -> list[str]:
+    """Lines as they are, so much further in than the margin."""
+    return [f".RS {indent}", ".EX", *map(escaped, textwrap.dedent(text).splitlines()), ".EE", ".RE"]
 
 
 def entries(found: list[Entry]) -> list[str]:
@@ -257,7 +257,7 @@ def entries(found: list[Entry]) -> list[str]:
         first, *others = it.paragraphs
         lines += [".TP", styled(it.head), *filled(first)]
         for text in others:
-            lines += [".IP", *(listed(text) if text.startswith(" ") else filled(text))]
+            lines += [".IP", *(listed(text, 10) if text.startswith(" ") else filled(text))]
     return lines
 
 
