@@ -476,8 +476,8 @@ is an object with any of these members:
   strings   the strings
   names     the names of members of maps, at most 32
   any       the values of places that the schema leaves open
-  paths     {"/spec/a":[0,7]}: all values of a scalar or open place, in
-            place of those above; null too if the field is nullable
+  paths     {"/spec/a":[0,7]}: all values of a scalar or open place,
+            and null if it is nullable, in place of those above
   fixed     {"/spec":[{"a":0}]}: all values of a field of any type,
             whole; with [] the field is in no sample
   present   ["/spec","/spec/ports/[]"]: fields, items (`[]`) and map
