@@ -133,12 +133,14 @@ here_narrow : (o : Option Data) (P : Pools) (F : Members) (ps : List (List ℕ))
 here_narrow o P F ps at left (node nullable description (scalar kind cs)) tree.null n leads h = subst (λ xs. (is_in tree.null xs || (is_null tree.null && nullable)) ≡ true) (same_listed P F ps at nullable description kind cs) h
 here_narrow o P F ps at left (node nullable description (scalar kind cs)) (tree.boolean b) n leads h = subst (λ xs. (is_in (tree.boolean b) xs || (is_null (tree.boolean b) && nullable)) ≡ true) (same_listed P F ps at nullable description kind cs) h
 here_narrow o P F ps at left (node nullable description (scalar kind cs)) (tree.integer z) n leads h = subst (λ xs. (is_in (tree.integer z) xs || (is_null (tree.integer z) && nullable)) ≡ true) (same_listed P F ps at nullable description kind cs) h
+here_narrow o P F ps at left (node nullable description (scalar kind cs)) (tree.number s) n leads h = subst (λ xs. (is_in (tree.number s) xs || (is_null (tree.number s) && nullable)) ≡ true) (same_listed P F ps at nullable description kind cs) h
 here_narrow o P F ps at left (node nullable description (scalar kind cs)) (tree.text s) n leads h = subst (λ xs. (is_in (tree.text s) xs || (is_null (tree.text s) && nullable)) ≡ true) (same_listed P F ps at nullable description kind cs) h
 here_narrow o P F ps at left (node nullable description (scalar kind cs)) (tree.list ds) n leads h = subst (λ xs. (is_in (tree.list ds) xs || (is_null (tree.list ds) && nullable)) ≡ true) (same_listed P F ps at nullable description kind cs) h
 here_narrow o P F ps at left (node nullable description (scalar kind cs)) (tree.object ms) n leads h = subst (λ xs. (is_in (tree.object ms) xs || (is_null (tree.object ms) && nullable)) ≡ true) (same_listed P F ps at nullable description kind cs) h
 here_narrow o P F ps at left (node nullable description open_) tree.null n leads h = h
 here_narrow o P F ps at left (node nullable description open_) (tree.boolean b) n leads h = h
 here_narrow o P F ps at left (node nullable description open_) (tree.integer z) n leads h = h
+here_narrow o P F ps at left (node nullable description open_) (tree.number s) n leads h = h
 here_narrow o P F ps at left (node nullable description open_) (tree.text s) n leads h = h
 here_narrow o P F ps at left (node nullable description open_) (tree.list ds) n leads h = h
 here_narrow o P F ps at left (node nullable description open_) (tree.object ms) n leads h = h
@@ -148,6 +150,7 @@ here_narrow o P F ps at left (node nullable description (object fs preserves typ
 here_narrow o P F ps at left (node nullable description (object fs preserves type bounds cs)) tree.null n leads h = ap not (same_fields o P (with_paths P F ps) at left fs n leads) ∙ h
 here_narrow o P F ps at left (node nullable description (object fs preserves type bounds cs)) (tree.boolean b) n leads h = refl
 here_narrow o P F ps at left (node nullable description (object fs preserves type bounds cs)) (tree.integer z) n leads h = refl
+here_narrow o P F ps at left (node nullable description (object fs preserves type bounds cs)) (tree.number s) n leads h = refl
 here_narrow o P F ps at left (node nullable description (object fs preserves type bounds cs)) (tree.text s) n leads h = refl
 here_narrow o P F ps at left (node nullable description (object fs preserves type bounds cs)) (tree.list ds) n leads h = refl
 here_narrow o P F ps at left (node nullable description (nodes.map N type bounds)) (tree.object ms) n leads h =
@@ -159,6 +162,7 @@ here_narrow o P F ps at left (node nullable description (nodes.map N type bounds
 here_narrow o P F ps at left (node nullable description (nodes.map N type bounds)) tree.null n leads h = ap not (same_asked o P (with_paths P F ps) at left value n leads) ∙ h
 here_narrow o P F ps at left (node nullable description (nodes.map N type bounds)) (tree.boolean b) n leads h = refl
 here_narrow o P F ps at left (node nullable description (nodes.map N type bounds)) (tree.integer z) n leads h = refl
+here_narrow o P F ps at left (node nullable description (nodes.map N type bounds)) (tree.number s) n leads h = refl
 here_narrow o P F ps at left (node nullable description (nodes.map N type bounds)) (tree.text s) n leads h = refl
 here_narrow o P F ps at left (node nullable description (nodes.map N type bounds)) (tree.list ds) n leads h = refl
 here_narrow o P F ps at left (node nullable description (list N type keys bounds)) (tree.list ds) n leads h =
@@ -168,6 +172,7 @@ here_narrow o P F ps at left (node nullable description (list N type keys bounds
 here_narrow o P F ps at left (node nullable description (list N type keys bounds)) tree.null n leads h = ap not (same_asked o P (with_paths P F ps) at left item n leads) ∙ h
 here_narrow o P F ps at left (node nullable description (list N type keys bounds)) (tree.boolean b) n leads h = refl
 here_narrow o P F ps at left (node nullable description (list N type keys bounds)) (tree.integer z) n leads h = refl
+here_narrow o P F ps at left (node nullable description (list N type keys bounds)) (tree.number s) n leads h = refl
 here_narrow o P F ps at left (node nullable description (list N type keys bounds)) (tree.text s) n leads h = refl
 here_narrow o P F ps at left (node nullable description (list N type keys bounds)) (tree.object ms) n leads h = refl
 
@@ -207,12 +212,14 @@ here_wide : (o : Option Data) (P : Pools) (F : Members) (ps : List (List ℕ)) (
 here_wide o P F ps at left (node nullable description (scalar kind cs)) tree.null n h = subst (λ xs. (is_in tree.null xs || (is_null tree.null && nullable)) ≡ true) (sym (same_listed P F ps at nullable description kind cs)) h
 here_wide o P F ps at left (node nullable description (scalar kind cs)) (tree.boolean b) n h = subst (λ xs. (is_in (tree.boolean b) xs || (is_null (tree.boolean b) && nullable)) ≡ true) (sym (same_listed P F ps at nullable description kind cs)) h
 here_wide o P F ps at left (node nullable description (scalar kind cs)) (tree.integer z) n h = subst (λ xs. (is_in (tree.integer z) xs || (is_null (tree.integer z) && nullable)) ≡ true) (sym (same_listed P F ps at nullable description kind cs)) h
+here_wide o P F ps at left (node nullable description (scalar kind cs)) (tree.number s) n h = subst (λ xs. (is_in (tree.number s) xs || (is_null (tree.number s) && nullable)) ≡ true) (sym (same_listed P F ps at nullable description kind cs)) h
 here_wide o P F ps at left (node nullable description (scalar kind cs)) (tree.text s) n h = subst (λ xs. (is_in (tree.text s) xs || (is_null (tree.text s) && nullable)) ≡ true) (sym (same_listed P F ps at nullable description kind cs)) h
 here_wide o P F ps at left (node nullable description (scalar kind cs)) (tree.list ds) n h = subst (λ xs. (is_in (tree.list ds) xs || (is_null (tree.list ds) && nullable)) ≡ true) (sym (same_listed P F ps at nullable description kind cs)) h
 here_wide o P F ps at left (node nullable description (scalar kind cs)) (tree.object ms) n h = subst (λ xs. (is_in (tree.object ms) xs || (is_null (tree.object ms) && nullable)) ≡ true) (sym (same_listed P F ps at nullable description kind cs)) h
 here_wide o P F ps at left (node nullable description open_) tree.null n h = h
 here_wide o P F ps at left (node nullable description open_) (tree.boolean b) n h = h
 here_wide o P F ps at left (node nullable description open_) (tree.integer z) n h = h
+here_wide o P F ps at left (node nullable description open_) (tree.number s) n h = h
 here_wide o P F ps at left (node nullable description open_) (tree.text s) n h = h
 here_wide o P F ps at left (node nullable description open_) (tree.list ds) n h = h
 here_wide o P F ps at left (node nullable description open_) (tree.object ms) n h = h
@@ -223,6 +230,7 @@ here_wide o P F ps at left (node nullable description (object fs preserves type 
     fewer (asks_field P at fs) (asks_field (with_paths P F ps) at fs) (fewer_fields o P (with_paths P F ps) at left fs n) h
 here_wide o P F ps at left (node nullable description (object fs preserves type bounds cs)) (tree.boolean b) n h = refl
 here_wide o P F ps at left (node nullable description (object fs preserves type bounds cs)) (tree.integer z) n h = refl
+here_wide o P F ps at left (node nullable description (object fs preserves type bounds cs)) (tree.number s) n h = refl
 here_wide o P F ps at left (node nullable description (object fs preserves type bounds cs)) (tree.text s) n h = refl
 here_wide o P F ps at left (node nullable description (object fs preserves type bounds cs)) (tree.list ds) n h = refl
 here_wide o P F ps at left (node nullable description (nodes.map N type bounds)) (tree.object ms) n h =
@@ -233,6 +241,7 @@ here_wide o P F ps at left (node nullable description (nodes.map N type bounds))
     fewer (is_present (below at value) P) (is_present (below at value) (with_paths P F ps)) (still_asked o P (with_paths P F ps) left (below at value) n) h
 here_wide o P F ps at left (node nullable description (nodes.map N type bounds)) (tree.boolean b) n h = refl
 here_wide o P F ps at left (node nullable description (nodes.map N type bounds)) (tree.integer z) n h = refl
+here_wide o P F ps at left (node nullable description (nodes.map N type bounds)) (tree.number s) n h = refl
 here_wide o P F ps at left (node nullable description (nodes.map N type bounds)) (tree.text s) n h = refl
 here_wide o P F ps at left (node nullable description (nodes.map N type bounds)) (tree.list ds) n h = refl
 here_wide o P F ps at left (node nullable description (list N type keys bounds)) (tree.list ds) n h =
@@ -241,6 +250,7 @@ here_wide o P F ps at left (node nullable description (list N type keys bounds))
     fewer (is_present (below at item) P) (is_present (below at item) (with_paths P F ps)) (still_asked o P (with_paths P F ps) left (below at item) n) h
 here_wide o P F ps at left (node nullable description (list N type keys bounds)) (tree.boolean b) n h = refl
 here_wide o P F ps at left (node nullable description (list N type keys bounds)) (tree.integer z) n h = refl
+here_wide o P F ps at left (node nullable description (list N type keys bounds)) (tree.number s) n h = refl
 here_wide o P F ps at left (node nullable description (list N type keys bounds)) (tree.text s) n h = refl
 here_wide o P F ps at left (node nullable description (list N type keys bounds)) (tree.object ms) n h = refl
 

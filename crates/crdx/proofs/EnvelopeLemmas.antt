@@ -5,7 +5,7 @@ use Rattle.std.specs.Str.{bytes_eq}
 use Rattle.std.specs.declared.cmp.Ordering.TheVariants.{Less}
 use Rattle.std.proofs.lemmas.Map.Lookups.{exact_bytes}
 use Rattle.std.proofs.lemmas.Option.{same_Some}
-use Rattle.jtree.specs.Data.{Data, null, boolean, integer, text, list, object, Members, no_members, member, IsNameBefore, AreMembers, IsTree}
+use Rattle.jtree.specs.Data.{Data, null, boolean, integer, number, text, list, object, Members, no_members, member, IsNameBefore, AreMembers, IsTree}
 use Rattle.jtree.specs.Order.{text_cmp}
 use Rattle.jtree.specs.MemberPlace.{IsPlace, with_member, without_member}
 use Rattle.jtree.specs.Internal.MemberLaws.{before_of, with_member_at, changed_here, changed_elsewhere, changed_sorted}
@@ -215,6 +215,7 @@ back (object ms) w t is = is.1 ∙ ap object (same_members is.0 ms is.2 t (λ j.
 back null w t is = is
 back (boolean b) w t is = is
 back (integer z) w t is = is
+back (number s) w t is = is
 back (text s) w t is = is
 back (list ds) w t is = is
 
@@ -245,5 +246,6 @@ joined_is e (object ms) w t is =
 joined_is e null w t is = is
 joined_is e (boolean b) w t is = is
 joined_is e (integer z) w t is = is
+joined_is e (number s) w t is = is
 joined_is e (text s) w t is = is
 joined_is e (list ds) w t is = is

@@ -6,6 +6,7 @@
 //! | `jtree_tests/order_cases`, `pointer_cases` | the order of trees, and the tokens of pointers |
 //! | `jtree_tests/part_cases` | how many nodes a tree has, the value under a name, the last node |
 //! | `jtree_tests/member_cases` | members found, put in and taken off by their names |
+//! | `jtree_tests/number_cases` | numbers that are not integers: read, ordered, compared by value, copied and written |
 //! | `jtree_tests/refusal_cases` | why bytes are no document: a number and where it is, a line and a column, a length |
 //! | `jtree_tests/source_cases` | documents in pieces, sources that fail, and readers that are interrupted |
 //! | `jtree_tests/line_cases` | lines of a source: the last one, empty and long ones, and sources that fail |

@@ -3,12 +3,12 @@ use Rattle.std.proofs.Common.{◌≡◌, ℕ, List, [], ◌∷◌, ◌++◌, Boo
 use Rattle.std.specs.List.{slice_get}
 use Rattle.std.proofs.lemmas.Option.{same_Some}
 use Rattle.json.specs.Print.{quoted}
-use Rattle.serde_json.specs.Written.{comma_if, items_text, members_text}
+use Rattle.serde_json.specs.Written.{comma_if}
 use Rattle.jtree.specs.Data.{Data, list, object, Items, no_items, item, Members, no_members, member, depth, items_depth, members_depth}
 use Rattle.jtree.specs.View.{data_of, items_of, members_of}
 use Rattle.jtree.specs.declared.value.Tree.{Tree}
 use Rattle.jtree.specs.declared.value.Member.{Member}
-use Rattle.jtree.specs.Text.{items_json, members_json, compact}
+use Rattle.jtree.specs.Text.{items_text, members_text, compact}
 use Rattle.jtree.specs.Last.{last_of, last_of_items, last_of_members, with_last, items_with_last, members_with_last}
 use Rattle.jtree.specs.Internal.LastText.{last_item, last_member, last_part, text_before, items_before, members_before, text_after, items_after, members_after}
 
@@ -41,7 +41,7 @@ mutual
   text_with_last _ v = sym (append-nil (compact v))
 
   items_text_with_last : (later : Bool) (ds : Items) → HasItem ds → (v : Data)
-      → items_text later (items_json (items_with_last ds v)) ≡ items_before later ds ++ (compact v ++ items_after ds)
+      → items_text later (items_with_last ds v) ≡ items_before later ds ++ (compact v ++ items_after ds)
   items_text_with_last later no_items some v = absurd some
   items_text_with_last later (item d no_items) some v =
       ap (λ s. comma_if later ++ (s ++ 93 ∷ [])) (text_with_last d v) ∙ regroup_last (comma_if later) (text_before d) (compact v) (text_after d) 93
@@ -50,7 +50,7 @@ mutual
       ∙ regroup (comma_if later) (compact d) (items_before true (item e es)) (compact v ++ items_after (item e es))
 
   members_text_with_last : (later : Bool) (ms : Members) → HasMember ms → (v : Data)
-      → members_text later (members_json (members_with_last ms v)) ≡ members_before later ms ++ (compact v ++ members_after ms)
+      → members_text later (members_with_last ms v) ≡ members_before later ms ++ (compact v ++ members_after ms)
   members_text_with_last later no_members some v = absurd some
   members_text_with_last later (member k d no_members) some v =
       ap (λ s. comma_if later ++ (quoted k ++ 58 ∷ (s ++ 125 ∷ []))) (text_with_last d v)

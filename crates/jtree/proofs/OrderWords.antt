@@ -9,12 +9,12 @@ use Rattle.std.proofs.lemmas.Cmp.{ranked, int_ranked, tied_itself}
 use Rattle.std.specs.Ordering.{is_eq, nat_cmp, ordering_then, ordering_reverse}
 use Rattle.std.specs.declared.cmp.Ordering.{Ordering}
 use Rattle.std.specs.declared.cmp.Ordering.TheVariants.{Less, Equal, Greater}
-use Rattle.jtree.specs.Data.{Data, boolean, integer, text, list, object, Items, no_items, item, Members, no_members, member, IsTree, AreTrees, AreMembers, IsNameBefore}
+use Rattle.jtree.specs.Data.{Data, boolean, integer, number, text, list, object, Items, no_items, item, Members, no_members, member, IsTree, AreTrees, AreMembers, IsNameBefore}
 use Rattle.jtree.specs.Path.{item_at, member_at}
 use Rattle.jtree.specs.Nodes.{nodes}
 use Rattle.jtree.specs.Order.{kind, text_cmp, rank_cmp, content_cmp, items_cmp, members_cmp, tree_cmp}
 use Rattle.jtree.specs.Internal.OrderLaws.{nat_tied, rank_tied, text_total, text_same, tree_total, tree_same}
-use Rattle.jtree.specs.Before.{AreAlike, AgreeBelow, AgreeBefore, IsBefore, fewer_nodes, earlier_kind, false_first, lesser_integer, lesser_text, ends_first, lesser_item, absent_first, lesser_member}
+use Rattle.jtree.specs.Before.{AreAlike, AgreeBelow, AgreeBefore, IsBefore, fewer_nodes, earlier_kind, false_first, lesser_integer, lesser_number, lesser_text, ends_first, lesser_item, absent_first, lesser_member}
 
 -- ---- answers
 
@@ -194,6 +194,7 @@ mutual
   content_words (boolean true) (boolean false) h g s p = cc
   content_words (boolean true) (boolean true) h g s p = cc
   content_words (integer a) (integer b) h g s p = lesser_integer a b (int_ranked a b Less (sym p))
+  content_words (number a) (number b) h g s p = lesser_number a b p
   content_words (text a) (text b) h g s p = lesser_text a b p
   content_words (list ds) (list es) h g s p =
       let w = items_words ds es h g p in
@@ -350,6 +351,7 @@ words_less _ _ h g (earlier_kind u v p q) = less_then (rank_cmp u v) (content_cm
     (sym (nat_cmp_is (kind u) (kind v) Less q)))
 words_less _ _ h g false_first = refl
 words_less _ _ h g (lesser_integer a b p) = sym (int_cmp_is a b Less p)
+words_less _ _ h g (lesser_number a b p) = p
 words_less _ _ h g (lesser_text a b p) = p
 words_less _ _ h g (ends_first ds es i e s a p q) = alike_less (list ds) (list es) s
     (items_less i ds es a (absent_less (item_at i ds) (item_at i es) e p q))

@@ -1,9 +1,9 @@
 -- The compact text of a tree, by one of its last parts.
 use Rattle.std.proofs.Common.{◌≡◌, ℕ, zero, suc, List, [], ◌∷◌, ◌++◌, Bool, true, false, Some, None, refl, sym, ap, ◌∙◌, append_assoc, append-nil, ◌≤◌, length, length-append, arith}
 use Rattle.json.specs.Print.{quoted}
-use Rattle.serde_json.specs.Written.{comma_if, items_text, members_text}
+use Rattle.serde_json.specs.Written.{comma_if}
 use Rattle.jtree.specs.Data.{Data, list, object, Items, no_items, item, Members, no_members, member}
-use Rattle.jtree.specs.Text.{items_json, members_json, compact}
+use Rattle.jtree.specs.Text.{items_text, members_text, compact}
 use Rattle.jtree.specs.Last.{with_part, items_with_part, members_with_part, with_last, items_with_last, members_with_last, last_depth, items_last_depth, members_last_depth}
 use Rattle.jtree.specs.PartText.{front_text, items_front, members_front, part_text, items_part, members_part}
 use Rattle.jtree.specs.Internal.LastText.{last_part, last_item, last_member, text_after, items_after, members_after}
@@ -30,13 +30,13 @@ mutual
   by_part (suc n) (object (member k d ms)) = ap (λ s. 123 ∷ s) (members_by_part n false (member k d ms) tt)
   by_part (suc n) d = sym (append-nil (compact d))
 
-  items_by_part : (n : ℕ) (later : Bool) (ds : Items) → HasItem ds → items_text later (items_json ds) ≡ items_front n later ds ++ items_part n ds
+  items_by_part : (n : ℕ) (later : Bool) (ds : Items) → HasItem ds → items_text later ds ≡ items_front n later ds ++ items_part n ds
   items_by_part n later no_items some = absurd some
   items_by_part n later (item d no_items) some = ap (λ s. comma_if later ++ (s ++ 93 ∷ [])) (by_part n d) ∙ regroup_last (comma_if later) (front_text n d) (part_text n d) 93
   items_by_part n later (item d (item e es)) some =
       ap (λ s. comma_if later ++ (compact d ++ s)) (items_by_part n true (item e es) tt) ∙ regroup (comma_if later) (compact d) (items_front n true (item e es)) (items_part n (item e es))
 
-  members_by_part : (n : ℕ) (later : Bool) (ms : Members) → HasMember ms → members_text later (members_json ms) ≡ members_front n later ms ++ members_part n ms
+  members_by_part : (n : ℕ) (later : Bool) (ms : Members) → HasMember ms → members_text later ms ≡ members_front n later ms ++ members_part n ms
   members_by_part n later no_members some = absurd some
   members_by_part n later (member k d no_members) some =
       ap (λ s. comma_if later ++ (quoted k ++ 58 ∷ (s ++ 125 ∷ []))) (by_part n d) ∙ regroup_last_member (comma_if later) (quoted k) (front_text n d) (part_text n d) 125

@@ -27,15 +27,15 @@ abbrev pub joined_members : List ℕ → Option Data → Option Members → Opti
 joined_members k o rest = option_and_then (λ d. option_map (member k d) rest) o
 
 -- the last of the parts that were read
-abbrev and_item : Items → Data → Items
+abbrev pub and_item : Items → Data → Items
 and_item no_items e = item e no_items
 and_item (item d ds) e = item d (and_item ds e)
 
-abbrev and_member : Members → List ℕ → Data → Members
+abbrev pub and_member : Members → List ℕ → Data → Members
 and_member no_members l e = member l e no_members
 and_member (member k d ms) l e = member k d (and_member ms l e)
 
-joined_items-and : (o : Option Data) (rest : Option Items) (e : Data) → joined_items o (option_map (λ ds. and_item ds e) rest) ≡ option_map (λ ds. and_item ds e) (joined_items o rest)
+pub joined_items-and : (o : Option Data) (rest : Option Items) (e : Data) → joined_items o (option_map (λ ds. and_item ds e) rest) ≡ option_map (λ ds. and_item ds e) (joined_items o rest)
 joined_items-and (Some d) (Some ds) e = refl
 joined_items-and _ _ e = refl
 
@@ -51,11 +51,11 @@ pub members_read : (es : List Entry) (f : Entry) (e : Data) → tree_of (view f.
 members_read [] f e h = rw h
 members_read (g ∷ es) f e h = ap (joined_members (string_bytes g.0) (tree_of (view g.1))) (members_read es f e h) ∙ joined_members-and (string_bytes g.0) (tree_of (view g.1)) (members_tree (members_view es)) (string_bytes f.0) e
 
-items_of-and : (ts : List Tree) (t : Tree) → and_item (items_of ts) (data_of t) ≡ items_of (ts ++ t ∷ [])
+pub items_of-and : (ts : List Tree) (t : Tree) → and_item (items_of ts) (data_of t) ≡ items_of (ts ++ t ∷ [])
 items_of-and [] t = refl
 items_of-and (u ∷ ts) t = ap (item (data_of u)) (items_of-and ts t)
 
-members_of-and : (ms : List Member) (m : Member) → and_member (members_of ms) m.name (data_of m.tree) ≡ members_of (ms ++ m ∷ [])
+pub members_of-and : (ms : List Member) (m : Member) → and_member (members_of ms) m.name (data_of m.tree) ≡ members_of (ms ++ m ∷ [])
 members_of-and [] m = refl
 members_of-and (n ∷ ms) m = ap (member n.name (data_of n.tree)) (members_of-and ms m)
 

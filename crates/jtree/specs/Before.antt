@@ -1,9 +1,10 @@
 -- The tree order in words: which of two trees is before the other (this project's own).
 use Rattle.std.specs.Prelude.{◌≡◌, ◌<◌, ◌<ℤ◌, ℕ, ℤ, List, true, false, Some, None}
 use Rattle.std.specs.declared.cmp.Ordering.TheVariants.{Less}
-use Rattle.jtree.specs.Data.{Data, boolean, integer, text, list, object, Items, Members}
+use Rattle.jtree.specs.Data.{Data, boolean, integer, number, text, list, object, Items, Members}
 use Rattle.jtree.specs.Path.{item_at, member_at}
 use Rattle.jtree.specs.Nodes.{nodes}
+use Rattle.jtree.specs.NumberOrder.{number_cmp}
 use Rattle.jtree.specs.Order.{kind, text_cmp}
 
 -- u and v agree in node count and kind
@@ -26,6 +27,7 @@ pub data IsBefore : Data → Data → Type 0 where
   earlier_kind : (u v : Data) → nodes u ≡ nodes v → kind u < kind v → IsBefore u v
   false_first : IsBefore (boolean false) (boolean true)
   lesser_integer : (a b : ℤ) → a <ℤ b → IsBefore (integer a) (integer b)
+  lesser_number : (a b : List ℕ) → number_cmp a b ≡ Less → IsBefore (number a) (number b)
   lesser_text : (a b : List ℕ) → text_cmp a b ≡ Less → IsBefore (text a) (text b)
   ends_first : (ds es : Items) (i : ℕ) (e : Data) → AreAlike (list ds) (list es) → AgreeBelow i ds es
       → item_at i ds ≡ None → item_at i es ≡ Some e → IsBefore (list ds) (list es)

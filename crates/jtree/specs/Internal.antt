@@ -5,6 +5,7 @@ pub mod MemberLaws
 pub mod Rising
 pub mod OrderLaws
 pub mod Code
+pub mod Entries
 pub mod Measures
 pub mod LastText
 pub mod Steps

@@ -1,10 +1,14 @@
 -- What the contracts of this crate say, in words of its subject.
+pub mod Integers
 pub mod Data
 pub mod View
 pub mod Path
 pub mod Kind
+pub mod OnlyIntegers
 pub mod Nodes
+pub mod NumberOrder
 pub mod Order
+pub mod SameValue
 pub mod PathOrder
 pub mod Before
 pub mod Text
@@ -14,6 +18,8 @@ pub mod PartText
 pub mod Overwriting
 pub mod Failures
 pub mod Reads
+pub mod ReadsAll
+pub mod ReadsWith
 pub mod Lines
 pub mod Pointer
 pub mod Refusal

@@ -4,17 +4,19 @@ use Rattle.std.specs.Ordering.{nat_cmp, int_cmp, bool_cmp, ordering_then}
 use Rattle.std.specs.Cmp.Lexicographic.{slice_cmp}
 use Rattle.std.specs.declared.cmp.Ordering.{Ordering}
 use Rattle.std.specs.declared.cmp.Ordering.TheVariants.{Less, Equal, Greater}
-use Rattle.jtree.specs.Data.{Data, null, boolean, integer, text, list, object, Items, no_items, item, Members, no_members, member}
+use Rattle.jtree.specs.Data.{Data, null, boolean, integer, number, text, list, object, Items, no_items, item, Members, no_members, member}
 use Rattle.jtree.specs.Nodes.{nodes}
+use Rattle.jtree.specs.NumberOrder.{number_cmp}
 
--- the rank of a tree's kind: null, boolean, integer, string, list, object
+-- the rank of a tree's kind: null, boolean, integer, other number, string, list, object
 abbrev pub kind : Data → ℕ
 kind null = 0
 kind (boolean b) = 1
 kind (integer z) = 2
-kind (text s) = 3
-kind (list ds) = 4
-kind (object ms) = 5
+kind (number s) = 3
+kind (text s) = 4
+kind (list ds) = 5
+kind (object ms) = 6
 
 -- texts compare by their bytes
 abbrev pub text_cmp : List ℕ → List ℕ → Ordering
@@ -30,6 +32,7 @@ abbrev mutual
   pub content_cmp : Data → Data → Ordering
   content_cmp (boolean a) (boolean b) = bool_cmp a b
   content_cmp (integer a) (integer b) = int_cmp a b
+  content_cmp (number a) (number b) = number_cmp a b
   content_cmp (text a) (text b) = text_cmp a b
   content_cmp (list ds) (list es) = items_cmp ds es
   content_cmp (object ms) (object ns) = members_cmp ms ns

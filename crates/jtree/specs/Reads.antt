@@ -6,6 +6,7 @@ use Rattle.serde_json.specs.Data as json
 use Rattle.serde_json.specs.Find.{as_i64}
 use Rattle.serde_json.specs.Read.{read}
 use Rattle.jtree.specs.Data.{Data, null, boolean, integer, text, list, object, Items, no_items, item, Members, no_members, member, depth}
+use Rattle.jtree.specs.OnlyIntegers.{HasOnlyIntegers}
 use Rattle.jtree.specs.declared.fault.JFault.{JFault}
 use Rattle.jtree.specs.declared.fault.JFault.TheVariants.{NotAnInteger, NoMemory, NotJson, TooLong, ReadFailed}
 
@@ -64,6 +65,6 @@ HasTaken old new = (taken : List ℕ) × Consumes old new taken × (length taken
 abbrev pub most_depth : ℕ
 most_depth = 127
 
--- the text reads as the tree, where the tree nests no deeper and the text is no longer than what is read
+-- the text reads as the tree, where its numbers are integers, the tree nests no deeper and the text is no longer than what is read
 abbrev pub ReadsBack : Data → List ℕ → Type 0
-ReadsBack d bytes = depth d ≤ most_depth → length bytes ≤ most_bytes → Reads bytes d
+ReadsBack d bytes = HasOnlyIntegers d → depth d ≤ most_depth → length bytes ≤ most_bytes → Reads bytes d

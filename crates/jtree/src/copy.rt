@@ -85,6 +85,7 @@ fn copy_tree(tree: &Tree, alloc: Global) -> Result<Tree, AllocError>
         Tree::Null => Ok(Tree::Null),
         Tree::Bool(b) => Ok(Tree::Bool(*b)),
         Tree::Int(n) => Ok(Tree::Int(*n)),
+        Tree::Number(number) => Ok(Tree::Number(number.copy(alloc)?)),
         Tree::Text(text) => Ok(Tree::Text(text.copy(alloc)?)),
         Tree::List(items) => Ok(Tree::List(copy_items(items, alloc)?)),
         Tree::Object(members) => Ok(Tree::Object(copy_members(members, alloc)?)),

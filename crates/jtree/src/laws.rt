@@ -1,10 +1,15 @@
 //! Laws: calls that run nothing, for what their contracts say.
-ghost use Rattle.std.specs.Prelude.{◌≡◌, ◌↔◌, ℕ, List, ◌+◌, ◌≤◌, ◌++◌, length};
+ghost use Rattle.std.specs.Prelude.{◌≡◌, ◌≢◌, ◌↔◌, ℕ, List, ◌+◌, ◌≤◌, ◌++◌, length};
 ghost use Rattle.jtree.specs.Data.{Data, IsTree};
 ghost use Rattle.jtree.specs.Order.{tree_cmp};
 ghost use Rattle.jtree.specs.Before.{IsBefore};
 ghost use Rattle.std.specs.declared.cmp.Ordering.TheVariants.{Less, Equal};
 ghost use Rattle.std.specs.Cmp.{IsTotalOrder};
+ghost use Rattle.jtree.specs.OnlyIntegers.{HasOnlyIntegers};
+ghost use Rattle.jtree.specs.Reads.{Reads, IsNoDocument};
+ghost use Rattle.jtree.specs.ReadsAll.{ReadsAll, IsNoDocumentAll};
+ghost use Rattle.jtree.specs.declared.fault.JFault.{JFault};
+ghost use Rattle.jtree.specs.declared.fault.JFault.TheVariants.{NotAnInteger};
 ghost use Rattle.jtree.specs.Text.{compact};
 ghost use Rattle.jtree.specs.Lines.{AreLines};
 ghost use Rattle.jtree.specs.Last.{last_depth, with_last, with_part, last_of};
@@ -26,6 +31,14 @@ pub fn order_is_total()
 /// Trees with the same compact text are the same tree, however long and deep it is.
 pub fn texts_are_unique()
     ensures { (u v : Data) → IsTree u → IsTree v → compact u ≡ compact v → u ≡ v }
+{}
+
+/// Bytes that the default reading reads are the same tree where all numbers are read, and it has only integers. The two readings
+/// refuse the same bytes, but for those that the default reading refuses for a number.
+pub fn readings_agree()
+    ensures same { (bytes : List ℕ) (d : Data) → Reads bytes d → ReadsAll bytes d × HasOnlyIntegers d }
+    ensures refused { (bytes : List ℕ) (e : JFault) → e ≢ NotAnInteger → (IsNoDocument bytes e ↔ IsNoDocumentAll bytes e) }
+    ensures number { (bytes : List ℕ) → IsNoDocument bytes NotAnInteger → (d : Data) × ReadsAll bytes d }
 {}
 
 /// Bytes have one list of lines at most.

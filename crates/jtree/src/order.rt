@@ -9,13 +9,15 @@ ghost use Rattle.jtree.specs.Data.{Data, IsTree};
 ghost use Rattle.jtree.specs.View.{data_of, items_of, members_of};
 ghost use Rattle.jtree.specs.Nodes.{nodes, items_count, members_count, most_nodes};
 ghost use Rattle.jtree.specs.Order.{kind, text_cmp, items_cmp, members_cmp, tree_cmp};
-ghost use Rattle.jtree.specs.Internal.OrderLaws.{text_total, tree_total};
+ghost use Rattle.jtree.specs.NumberOrder.{number_cmp};
+ghost use Rattle.jtree.specs.Internal.OrderLaws.{text_total, tree_total, number_total, number_tied, number_po};
 ghost use Rattle.jtree.specs.Before.{IsBefore};
 ghost use Rattle.std.specs.declared.cmp.Ordering.TheVariants.{Less, Equal};
 
 use crate::nodes::{items_nodes, members_nodes};
+use crate::number::Number;
 use crate::value::{Member, Text, Tree};
-use std::cmp::Ordering;
+use std::cmp::{OrderedFloat, Ordering};
 
 impl PartialEq for Text {
     ghost eq = { bytes_eq };
@@ -58,6 +60,48 @@ impl Ord for Text {
     }
 }
 
+impl PartialEq for Number {
+    ghost eq = { bytes_eq };
+
+    ghost laws = { partial_equiv_from_equiv nat_list_eq_equiv };
+
+    /// Whether the numbers are written alike.
+    fn eq(&self, other: &Number) -> bool {
+        self.as_str() == other.as_str()
+    }
+}
+
+impl Eq for Number {
+    ghost laws = { nat_list_eq_equiv };
+}
+
+impl PartialOrd for Number {
+    ghost partial_cmp = { as_partial_cmp number_cmp };
+
+    ghost laws = { number_po };
+
+    /// The order by value, as `cmp` has it.
+    fn partial_cmp(&self, other: &Number) -> Option<Ordering> {
+        Some(self.cmp(other))
+    }
+}
+
+impl Ord for Number {
+    ghost cmp = { number_cmp };
+
+    ghost total = { number_total };
+
+    ghost matches_partial_cmp = { λ a b. refl };
+
+    ghost matches_eq = { number_tied };
+
+    /// The order by value, and then by how they are written.
+    fn cmp(&self, other: &Number) -> Ordering {
+        let values = OrderedFloat(self.value()).cmp(&OrderedFloat(other.value()));
+        values.then(self.as_str().cmp(other.as_str()))
+    }
+}
+
 impl PartialEq for Tree {
     ghost eq = { eq_by_cmp (on data_of tree_cmp) };
 
@@ -69,6 +113,7 @@ impl PartialEq for Tree {
         match (self, other) {
             (Tree::Bool(a), Tree::Bool(b)) => a == b,
             (Tree::Int(a), Tree::Int(b)) => a == b,
+            (Tree::Number(a), Tree::Number(b)) => a == b,
             (Tree::Text(a), Tree::Text(b)) => a == b,
             _ => is_same(self, other),
         }
@@ -99,20 +144,21 @@ impl Ord for Tree {
 
     ghost matches_eq = { λ u v. refl };
 
-    /// The tree order: by the count of nodes, then by kind (null, boolean, integer, string, list, object), and then within
-    /// the kind. Lists are decided at the first index where they differ, and one that ends there comes first. Objects are
+    /// The tree order: by the count of nodes, then by kind (null, boolean, integer, other number, string, list, object), and then
+    /// within the kind. Other numbers are ordered by value and then by their text, strings by their bytes. Lists are decided at the first index where they differ, and one that ends there comes first. Objects are
     /// decided at the least name, by bytes, where they differ, and one without that name comes first.
     fn cmp(&self, other: &Tree) -> Ordering {
         match (self, other) {
             (Tree::Bool(a), Tree::Bool(b)) => a.cmp(b),
             (Tree::Int(a), Tree::Int(b)) => a.cmp(b),
+            (Tree::Number(a), Tree::Number(b)) => a.cmp(b),
             (Tree::Text(a), Tree::Text(b)) => a.cmp(b),
             _ => compare(self, other).order,
         }
     }
 }
 
-/// The rank of a tree's kind: null, boolean, integer, string, list, object.
+/// The rank of a tree's kind: null, boolean, integer, other number, string, list, object.
 fn kind_of(tree: &Tree) -> u8
     ensures { result ≡ kind (data_of tree.now) }
 {
@@ -120,9 +166,10 @@ fn kind_of(tree: &Tree) -> u8
         Tree::Null => 0,
         Tree::Bool(_) => 1,
         Tree::Int(_) => 2,
-        Tree::Text(_) => 3,
-        Tree::List(_) => 4,
-        Tree::Object(_) => 5,
+        Tree::Number(_) => 3,
+        Tree::Text(_) => 4,
+        Tree::List(_) => 5,
+        Tree::Object(_) => 6,
     }
 }
 
@@ -135,6 +182,7 @@ fn is_same(left: &Tree, right: &Tree) -> bool
         (Tree::Null, Tree::Null) => true,
         (Tree::Bool(a), Tree::Bool(b)) => a == b,
         (Tree::Int(a), Tree::Int(b)) => a == b,
+        (Tree::Number(a), Tree::Number(b)) => a == b,
         (Tree::Text(a), Tree::Text(b)) => a == b,
         (Tree::List(a), Tree::List(b)) => are_same_items(&a.items, &b.items),
         (Tree::Object(a), Tree::Object(b)) => are_same_members(&a.members, &b.members),
@@ -262,6 +310,7 @@ fn compare(left: &Tree, right: &Tree) -> Compared
         (Tree::Null, Tree::Null) => Compared::leaves(Ordering::Equal),
         (Tree::Bool(a), Tree::Bool(b)) => Compared::leaves(a.cmp(b)),
         (Tree::Int(a), Tree::Int(b)) => Compared::leaves(a.cmp(b)),
+        (Tree::Number(a), Tree::Number(b)) => Compared::leaves(a.cmp(b)),
         (Tree::Text(a), Tree::Text(b)) => Compared::leaves(a.cmp(b)),
         (Tree::List(a), Tree::List(b)) => compare_items(&a.items, &b.items).whole(),
         (Tree::Object(a), Tree::Object(b)) => compare_members(&a.members, &b.members).whole(),

@@ -1,13 +1,15 @@
-//! Trees: JSON values whose numbers are integers.
+//! Trees: JSON values (RFC 8259).
+use crate::number::Number;
 use std::marker::Model;
 
-/// A JSON value whose numbers are integers.
+/// A JSON value (RFC 8259). A number is an integer of 64 bits, or another number as its text.
 #[cycle(tree)]
 #[derive(Drop)]
 pub enum Tree {
     Null,
     Bool(bool),
     Int(i64),
+    Number(Number),
     Text(Text),
     List(Items),
     Object(Members),
@@ -102,7 +104,8 @@ impl Tree {
     ghost use Rattle.jtree.specs.Data.{IsTree};
     ghost use Rattle.jtree.specs.View.{data_of};
 
-    /// Does nothing: a proof calls it to learn that names are in order, each once, and that integers have 64 bits.
+    /// Does nothing: a proof calls it to learn that names are in order, each once, that integers have 64 bits, and that other numbers are
+    /// not integers.
     pub fn reveal_invariant(&self)
         ensures { IsTree (data_of self.now) }
     {
@@ -110,6 +113,7 @@ impl Tree {
             Tree::Int(n) => {
                 let _value = *n;
             }
+            Tree::Number(number) => number.reveal_invariant(),
             Tree::List(items) => items.reveal_invariant(),
             Tree::Object(members) => members.reveal_invariant(),
             _ => {}

@@ -1,10 +1,10 @@
 //! From a tree to its text: the tokens of the tree go to the writer of `json`, without a value of `serde_json` in between.
 ghost use Rattle.std.specs.Prelude.{◌≡◌, ◌++◌, OnOk, IfOk, IfErr, IsUtf8, string_bytes};
 ghost use Rattle.json.specs.Tree.{json_tokens, items_tokens, members_tokens};
-ghost use Rattle.serde_json.specs.Written.{outline, items_outline, members_outline};
 ghost use Rattle.jtree.specs.Data.{Data, IsTree};
-ghost use Rattle.jtree.specs.Text.{json_of, items_json, members_json, compact};
+ghost use Rattle.jtree.specs.Text.{outline, items_outline, members_outline, compact};
 ghost use Rattle.jtree.specs.Reads.{ReadsBack};
+ghost use Rattle.jtree.specs.ReadsAll.{ReadsAllBack};
 ghost use Rattle.jtree.specs.View.{data_of};
 ghost use Rattle.jtree.specs.declared.fault.JFault.TheVariants.{NoMemory};
 
@@ -21,6 +21,7 @@ impl Tree {
     pub fn to_text(&self, alloc: Global) -> Result<String, JFault>
         ensures ok { IfOk result (λ s. string_bytes s ≡ compact (data_of self.now)) }
         ensures reads_back { IfOk result (λ s. ReadsBack (data_of self.now) (string_bytes s)) }
+        ensures reads_all_back { IfOk result (λ s. ReadsAllBack (data_of self.now) (string_bytes s)) }
         ensures err { IfErr result (λ e. e ≡ NoMemory) }
     {
         let text = self.append_text(Vec::new(alloc))?;
@@ -32,6 +33,7 @@ impl Tree {
         ensures ok { IfOk result (λ v. v.items ≡ out.items ++ compact (data_of self.now)) }
         ensures utf8 { OnOk result (IsUtf8 (compact (data_of self.now))) }
         ensures reads_back { OnOk result (ReadsBack (data_of self.now) (compact (data_of self.now))) }
+        ensures reads_all_back { OnOk result (ReadsAllBack (data_of self.now) (compact (data_of self.now))) }
     {
         self.reveal_invariant();
         let mut writer = Writer::new(out);
@@ -43,13 +45,17 @@ impl Tree {
 #[cycle(write)]
 fn write_tree(tree: &Tree, out: &mut Writer) -> Result<(), AllocError>
     ensures ok { OnOk result
-        (out.new.tokens ≡ out.old.tokens ++ json_tokens (outline (json_of (data_of tree.now)))) }
+        (out.new.tokens ≡ out.old.tokens ++ json_tokens (outline (data_of tree.now))) }
     ensures before { out.new.before ≡ out.old.before }
 {
     match tree {
         Tree::Null => out.null(),
         Tree::Bool(b) => out.boolean(*b),
         Tree::Int(n) => out.i64(*n),
+        Tree::Number(number) => {
+            number.reveal_invariant();
+            out.number(number.as_str())
+        }
         Tree::Text(text) => out.string(text.as_str()),
         Tree::List(items) => {
             out.begin_array()?;
@@ -65,7 +71,7 @@ fn write_tree(tree: &Tree, out: &mut Writer) -> Result<(), AllocError>
 #[cycle(write)]
 fn write_items(items: &Items, out: &mut Writer) -> Result<(), AllocError>
     ensures ok { OnOk result
-        (out.new.tokens ≡ out.old.tokens ++ items_tokens (items_outline (items_json items.now))) }
+        (out.new.tokens ≡ out.old.tokens ++ items_tokens (items_outline items.now)) }
     ensures before { out.new.before ≡ out.old.before }
 {
     for item in &items.items {
@@ -78,7 +84,7 @@ fn write_items(items: &Items, out: &mut Writer) -> Result<(), AllocError>
 fn write_members(members: &Members, out: &mut Writer) -> Result<(), AllocError>
     ensures ok { OnOk result
         (out.new.tokens
-        ≡ out.old.tokens ++ members_tokens (members_outline (members_json members.now))) }
+        ≡ out.old.tokens ++ members_tokens (members_outline members.now)) }
     ensures before { out.new.before ≡ out.old.before }
 {
     for member in &members.members {

@@ -100,12 +100,14 @@ here_same : (P Q : Pools) (at : List ℕ) (N : Node) (v : Data) → ListTheSame 
 here_same P Q at (node n d (scalar kind cs)) tree.null l h = rw (listed_same P Q at n d kind cs l) refl
 here_same P Q at (node n d (scalar kind cs)) (tree.boolean b) l h = rw (listed_same P Q at n d kind cs l) refl
 here_same P Q at (node n d (scalar kind cs)) (tree.integer z) l h = rw (listed_same P Q at n d kind cs l) refl
+here_same P Q at (node n d (scalar kind cs)) (tree.number s) l h = rw (listed_same P Q at n d kind cs l) refl
 here_same P Q at (node n d (scalar kind cs)) (tree.text s) l h = rw (listed_same P Q at n d kind cs l) refl
 here_same P Q at (node n d (scalar kind cs)) (tree.list ds) l h = rw (listed_same P Q at n d kind cs l) refl
 here_same P Q at (node n d (scalar kind cs)) (tree.object ms) l h = rw (listed_same P Q at n d kind cs l) refl
 here_same P Q at (node n d open_) tree.null l h = rw (open_same P Q at n d l) refl
 here_same P Q at (node n d open_) (tree.boolean b) l h = rw (open_same P Q at n d l) refl
 here_same P Q at (node n d open_) (tree.integer z) l h = rw (open_same P Q at n d l) refl
+here_same P Q at (node n d open_) (tree.number s) l h = rw (open_same P Q at n d l) refl
 here_same P Q at (node n d open_) (tree.text s) l h = rw (open_same P Q at n d l) refl
 here_same P Q at (node n d open_) (tree.list ds) l h = rw (open_same P Q at n d l) refl
 here_same P Q at (node n d open_) (tree.object ms) l h = rw (open_same P Q at n d l) refl
@@ -113,6 +115,7 @@ here_same P Q at (node n d (object fs preserves type b cs)) (tree.object ms) l h
 here_same P Q at (node n d (object fs preserves type b cs)) tree.null l h = ap not (asks_same P Q at fs h)
 here_same P Q at (node n d (object fs preserves type b cs)) (tree.boolean x) l h = refl
 here_same P Q at (node n d (object fs preserves type b cs)) (tree.integer z) l h = refl
+here_same P Q at (node n d (object fs preserves type b cs)) (tree.number s) l h = refl
 here_same P Q at (node n d (object fs preserves type b cs)) (tree.text s) l h = refl
 here_same P Q at (node n d (object fs preserves type b cs)) (tree.list ds) l h = refl
 here_same P Q at (node n d (nodes.map N type b)) (tree.object ms) l h =
@@ -121,12 +124,14 @@ here_same P Q at (node n d (nodes.map N type b)) (tree.object ms) l h =
 here_same P Q at (node n d (nodes.map N type b)) tree.null l h = ap not (step_same P Q at step.value h).0
 here_same P Q at (node n d (nodes.map N type b)) (tree.boolean x) l h = refl
 here_same P Q at (node n d (nodes.map N type b)) (tree.integer z) l h = refl
+here_same P Q at (node n d (nodes.map N type b)) (tree.number s) l h = refl
 here_same P Q at (node n d (nodes.map N type b)) (tree.text s) l h = refl
 here_same P Q at (node n d (nodes.map N type b)) (tree.list ds) l h = refl
 here_same P Q at (node n d (list N type keys b)) (tree.list ds) l h = ap (λ x. has_enough x (items_count ds)) (step_same P Q at step.item h).0
 here_same P Q at (node n d (list N type keys b)) tree.null l h = ap not (step_same P Q at step.item h).0
 here_same P Q at (node n d (list N type keys b)) (tree.boolean x) l h = refl
 here_same P Q at (node n d (list N type keys b)) (tree.integer z) l h = refl
+here_same P Q at (node n d (list N type keys b)) (tree.number s) l h = refl
 here_same P Q at (node n d (list N type keys b)) (tree.text s) l h = refl
 here_same P Q at (node n d (list N type keys b)) (tree.object ms) l h = refl
 

@@ -14,6 +14,7 @@ parts_alike : (kind : ScalarKind) (cs : Validations) (d e : Option (List ℕ)) (
 parts_alike kind cs d e tree.null = refl
 parts_alike kind cs d e (tree.boolean b) = refl
 parts_alike kind cs d e (tree.integer z) = refl
+parts_alike kind cs d e (tree.number s) = refl
 parts_alike kind cs d e (tree.text s) = refl
 parts_alike kind cs d e (tree.list ds) = refl
 parts_alike kind cs d e (tree.object ms) = refl

@@ -111,6 +111,7 @@ null_only : (v : Data) → is_null v ≡ true → tree.null ≡ v
 null_only tree.null e = refl
 null_only (tree.boolean b) e = cc
 null_only (tree.integer z) e = cc
+null_only (tree.number s) e = cc
 null_only (tree.text s) e = cc
 null_only (tree.list ds) e = cc
 null_only (tree.object ms) e = cc

@@ -22,6 +22,7 @@ pub tree_positive : (v : Data) → 1 ≤ node_count v
 tree_positive tree.null = omega arith
 tree_positive (tree.boolean b) = omega arith
 tree_positive (tree.integer z) = omega arith
+tree_positive (tree.number s) = omega arith
 tree_positive (tree.text s) = omega arith
 tree_positive (tree.list ds) = omega arith
 tree_positive (tree.object ms) = omega arith

@@ -416,6 +416,7 @@ object_cases stored P path keys n t fs preserves type b cs (tree.object ms) o h 
     inr (filled_object P (record { node = node n t (object fs preserves type b cs); keys = keys; path = path; fixed = None }) ms (fields_in_order P path keys (named cs) fs o) (field_bits P path keys (named cs) fs) d.0 d.1 d.2)
 object_cases stored P path keys n t fs preserves type b cs (tree.boolean x) o h = absurd ((stored _ _).0 h.stored).0
 object_cases stored P path keys n t fs preserves type b cs (tree.integer x) o h = absurd ((stored _ _).0 h.stored).0
+object_cases stored P path keys n t fs preserves type b cs (tree.number x) o h = absurd ((stored _ _).0 h.stored).0
 object_cases stored P path keys n t fs preserves type b cs (tree.text x) o h = absurd ((stored _ _).0 h.stored).0
 object_cases stored P path keys n t fs preserves type b cs (tree.list x) o h = absurd ((stored _ _).0 h.stored).0
 
@@ -443,6 +444,7 @@ map_cases stored P path keys n t M type b (tree.object ms) h =
     inr (filled_object P (record { node = node n t (nodes.map M type b); keys = keys; path = path; fixed = None }) ms (values_in_order P path M P.names) (value_bits P path M (in_order P.names)) d.0 d.1 (d.2, refl))
 map_cases stored P path keys n t M type b (tree.boolean x) h = absurd ((stored _ _).0 h.stored).0
 map_cases stored P path keys n t M type b (tree.integer x) h = absurd ((stored _ _).0 h.stored).0
+map_cases stored P path keys n t M type b (tree.number x) h = absurd ((stored _ _).0 h.stored).0
 map_cases stored P path keys n t M type b (tree.text x) h = absurd ((stored _ _).0 h.stored).0
 map_cases stored P path keys n t M type b (tree.list x) h = absurd ((stored _ _).0 h.stored).0
 
@@ -467,6 +469,7 @@ list_cases stored P path own n t K names type keys b (tree.list ds) h =
     inr (record { items = ds; is = refl; are = d.0; apart = d.1; within = d.2 })
 list_cases stored P path own n t K names type keys b (tree.boolean x) h = absurd ((stored _ _).0 h.stored).0
 list_cases stored P path own n t K names type keys b (tree.integer x) h = absurd ((stored _ _).0 h.stored).0
+list_cases stored P path own n t K names type keys b (tree.number x) h = absurd ((stored _ _).0 h.stored).0
 list_cases stored P path own n t K names type keys b (tree.text x) h = absurd ((stored _ _).0 h.stored).0
 list_cases stored P path own n t K names type keys b (tree.object x) h = absurd ((stored _ _).0 h.stored).0
 

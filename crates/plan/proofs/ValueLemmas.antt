@@ -51,6 +51,7 @@ tree_back : (t : Tree) → tree_from (data_of t) ≡ t
 tree_back tree.Null = refl
 tree_back (tree.Bool b) = refl
 tree_back (tree.Int z) = refl
+tree_back (tree.Number s) = refl
 tree_back (tree.Text s) = refl
 tree_back (tree.List ds) = refl
 tree_back (tree.Object ms) = refl

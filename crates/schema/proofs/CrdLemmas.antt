@@ -1,7 +1,7 @@
 -- A CustomResourceDefinition is its head with its versions.
 use Rattle.std.proofs.Common.{◌≡◌, ℕ, List, [], ◌∷◌, ◌++◌, Option, Some, None, refl, sym, ap, ◌∙◌, subst, append_assoc}
 use Rattle.std.proofs.lemmas.Option.{same_Some}
-use Rattle.jtree.specs.Data.{Data, null, boolean, integer, text, list, object, Items}
+use Rattle.jtree.specs.Data.{Data, null, boolean, integer, number, text, list, object, Items}
 use Rattle.schema.specs.Document.Crd.{IsHead, AreVersions, IsCrd, IsNoCrd, LacksVersion}
 use Rattle.schema.specs.Document.Crd as crd
 use Rattle.schema.specs.Document.Refusal.{IsWrongPart, no_header, no_group, no_kind, no_versions, no_schema, AreOthers, and_name}
@@ -37,6 +37,7 @@ no_name None rest h = refl
 no_name (Some null) rest h = refl
 no_name (Some (boolean b)) rest h = refl
 no_name (Some (integer z)) rest h = refl
+no_name (Some (number s)) rest h = refl
 no_name (Some (text s)) rest h = absurd (h s refl)
 no_name (Some (list ds)) rest h = refl
 no_name (Some (object ms)) rest h = refl

@@ -5,7 +5,7 @@ use Rattle.std.proofs.lemmas.Bool.{ltb-true, ltb-false, or_left, or_right, or_pa
 use Rattle.std.proofs.lemmas.List.{append-nil}
 use Rattle.std.proofs.lemmas.List.Elements.{filter-append}
 use Rattle.std.proofs.lemmas.Option.{option_and_then_some, same_Some}
-use Rattle.jtree.specs.Data.{Data, null, boolean, integer, text, list, object, Items, no_items, item, Members}
+use Rattle.jtree.specs.Data.{Data, null, boolean, integer, number, text, list, object, Items, no_items, item, Members}
 use Rattle.jtree.specs.Path.{name, under, member_at, item_at}
 use Rattle.jtree.specs.Internal.Lookups.{bool_cases, option_cases}
 use Rattle.jtree.specs.Internal.Rising.{Among, contained, each_of, among_parts}
@@ -58,6 +58,7 @@ no_under : (s : Data) → ((ms : Members) × (s ≡ object ms)) ⊎ ((w : List �
 no_under null = inr (λ w. refl)
 no_under (boolean b) = inr (λ w. refl)
 no_under (integer z) = inr (λ w. refl)
+no_under (number s) = inr (λ w. refl)
 no_under (text t) = inr (λ w. refl)
 no_under (list ds) = inr (λ w. refl)
 no_under (object ms) = inl (ms, refl)

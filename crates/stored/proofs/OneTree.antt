@@ -36,6 +36,7 @@ mutual
   same_tree tree.null tree.null t u h = refl
   same_tree (tree.boolean a) (tree.boolean b) t u h = let e = h [] in cc
   same_tree (tree.integer a) (tree.integer b) t u h = let e = h [] in cc
+  same_tree (tree.number a) (tree.number b) t u h = let e = h [] in cc
   same_tree (tree.text a) (tree.text b) t u h = let e = h [] in cc
   same_tree (tree.list ds) (tree.list es) t u h = ap tree.list (same_items ds es t u (λ i path. h (index i ∷ path)))
   same_tree (tree.object ms) (tree.object ns) t u h = ap tree.object (same_members ms ns t u (λ k path. h (name k ∷ path)))

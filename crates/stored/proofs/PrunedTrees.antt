@@ -18,6 +18,7 @@ pub data_back : (d : Data) → data_of (tree_from d) ≡ d
 data_back tree.null = refl
 data_back (tree.boolean b) = refl
 data_back (tree.integer z) = refl
+data_back (tree.number s) = refl
 data_back (tree.text s) = refl
 data_back (tree.list ds) = refl
 data_back (tree.object ms) = refl

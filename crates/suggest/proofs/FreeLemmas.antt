@@ -248,6 +248,7 @@ scalar_meets : (kind : ScalarKind) (t : Constraints) (all any one negated : Bran
 scalar_meets kind t all any one negated tree.null accepted h = (and_parts _ _ h).0
 scalar_meets kind t all any one negated (tree.boolean b) accepted h = (and_parts _ _ h).0
 scalar_meets kind t all any one negated (tree.integer z) accepted h = (and_parts _ _ h).0
+scalar_meets kind t all any one negated (tree.number s) accepted h = (and_parts _ _ h).0
 scalar_meets kind t all any one negated (tree.text s) accepted h = (and_parts _ _ h).0
 scalar_meets kind t all any one negated (tree.list ds) accepted h = (and_parts _ _ h).0
 scalar_meets kind t all any one negated (tree.object ms) accepted h = absurd (no_object kind ms accepted)
@@ -261,6 +262,7 @@ boolean_listed P (tree.boolean true) e = or_right (is_same (tree.boolean true) (
     (head_in (tree.boolean true) (map (λ z. tree.integer z) P.integers ++ map (λ t. tree.text t) P.strings))
 boolean_listed P tree.null e = absurd (cc)
 boolean_listed P (tree.integer z) e = absurd (cc)
+boolean_listed P (tree.number s) e = absurd (cc)
 boolean_listed P (tree.text s) e = absurd (cc)
 boolean_listed P (tree.list ds) e = absurd (cc)
 boolean_listed P (tree.object ms) e = absurd (cc)
@@ -289,6 +291,7 @@ pub scalar_valid : (nullable : Bool) (description : Option (List ℕ)) (kind : S
 scalar_valid nullable description kind cs tree.null h = inr h
 scalar_valid nullable description kind cs (tree.boolean b) h = inl (and_from _ _ h.0 h.1)
 scalar_valid nullable description kind cs (tree.integer z) h = inl (and_from _ _ h.0 h.1)
+scalar_valid nullable description kind cs (tree.number s) h = inl (and_from _ _ h.0 h.1)
 scalar_valid nullable description kind cs (tree.text s) h = inl (and_from _ _ h.0 h.1)
 scalar_valid nullable description kind cs (tree.list ds) h = inl (and_from _ _ h.0 h.1)
 scalar_valid nullable description kind cs (tree.object ms) h = inl (and_from _ _ h.0 h.1)
@@ -298,6 +301,7 @@ pub open_valid : (nullable : Bool) (description : Option (List ℕ)) (v : Data) 
 open_valid nullable description tree.null h = inr h
 open_valid nullable description (tree.boolean b) h = inl refl
 open_valid nullable description (tree.integer z) h = inl refl
+open_valid nullable description (tree.number s) h = inl refl
 open_valid nullable description (tree.text s) h = inl refl
 open_valid nullable description (tree.list ds) h = inl refl
 open_valid nullable description (tree.object ms) h = inl refl
@@ -322,6 +326,7 @@ free_here law P G path (node nullable description (object fs preserves type boun
     ap not (none_asked P path fs (lists_at G f.values f.default f.schema path (node nullable description (object fs preserves type bounds cs))) f.free)
 free_here law P G path (node nullable description (object fs preserves type bounds cs)) (tree.boolean b) short room f = refl
 free_here law P G path (node nullable description (object fs preserves type bounds cs)) (tree.integer z) short room f = refl
+free_here law P G path (node nullable description (object fs preserves type bounds cs)) (tree.number s) short room f = refl
 free_here law P G path (node nullable description (object fs preserves type bounds cs)) (tree.text s) short room f = refl
 free_here law P G path (node nullable description (object fs preserves type bounds cs)) (tree.list ds) short room f = refl
 free_here law P G path (node nullable description (nodes.map N type bounds)) (tree.object ms) short room f =
@@ -333,6 +338,7 @@ free_here law P G path (node nullable description (nodes.map N type bounds)) tre
     ap not (not_asked P path value (lists_at G f.values f.default f.schema path (node nullable description (nodes.map N type bounds))) f.free)
 free_here law P G path (node nullable description (nodes.map N type bounds)) (tree.boolean b) short room f = refl
 free_here law P G path (node nullable description (nodes.map N type bounds)) (tree.integer z) short room f = refl
+free_here law P G path (node nullable description (nodes.map N type bounds)) (tree.number s) short room f = refl
 free_here law P G path (node nullable description (nodes.map N type bounds)) (tree.text s) short room f = refl
 free_here law P G path (node nullable description (nodes.map N type bounds)) (tree.list ds) short room f = refl
 free_here law P G path (node nullable description (list N type keys bounds)) (tree.list ds) short room f =
@@ -341,6 +347,7 @@ free_here law P G path (node nullable description (list N type keys bounds)) tre
     ap not (not_asked P path item (lists_at G f.values f.default f.schema path (node nullable description (list N type keys bounds))) f.free)
 free_here law P G path (node nullable description (list N type keys bounds)) (tree.boolean b) short room f = refl
 free_here law P G path (node nullable description (list N type keys bounds)) (tree.integer z) short room f = refl
+free_here law P G path (node nullable description (list N type keys bounds)) (tree.number s) short room f = refl
 free_here law P G path (node nullable description (list N type keys bounds)) (tree.text s) short room f = refl
 free_here law P G path (node nullable description (list N type keys bounds)) (tree.object ms) short room f = refl
 

@@ -102,6 +102,7 @@ among_values (tree.object ms) w j found = among_trees ms j w found
 among_values tree.null w j found = absurd (none-some w found)
 among_values (tree.boolean b) w j found = absurd (none-some w found)
 among_values (tree.integer z) w j found = absurd (none-some w found)
+among_values (tree.number s) w j found = absurd (none-some w found)
 among_values (tree.text s) w j found = absurd (none-some w found)
 among_values (tree.list ds) w j found = absurd (none-some w found)
 
@@ -110,6 +111,7 @@ among_listed (tree.list ds) w i found = among_items ds i w found
 among_listed tree.null w i found = absurd (none-some w found)
 among_listed (tree.boolean b) w i found = absurd (none-some w found)
 among_listed (tree.integer z) w i found = absurd (none-some w found)
+among_listed (tree.number s) w i found = absurd (none-some w found)
 among_listed (tree.text s) w i found = absurd (none-some w found)
 among_listed (tree.object ms) w i found = absurd (none-some w found)
 
@@ -192,6 +194,7 @@ some_taken (node nullable description (scalar kind cs)) tree.null e = absurd (no
 some_taken N tree.null e = absurd (cc)
 some_taken N (tree.boolean b) e = refl
 some_taken N (tree.integer z) e = refl
+some_taken N (tree.number s) e = refl
 some_taken N (tree.text s) e = refl
 some_taken N (tree.list ds) e = refl
 some_taken N (tree.object ms) e = refl

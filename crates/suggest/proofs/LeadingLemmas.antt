@@ -173,6 +173,7 @@ object_reached text path (tree.object ms) fs there = (ms, refl)
 object_reached text path tree.null fs there = absurd (no_object text path tree.null fs refl (λ k. refl) there)
 object_reached text path (tree.boolean b) fs there = absurd (no_object text path (tree.boolean b) fs refl (λ k. refl) there)
 object_reached text path (tree.integer z) fs there = absurd (no_object text path (tree.integer z) fs refl (λ k. refl) there)
+object_reached text path (tree.number s) fs there = absurd (no_object text path (tree.number s) fs refl (λ k. refl) there)
 object_reached text path (tree.text s) fs there = absurd (no_object text path (tree.text s) fs refl (λ k. refl) there)
 object_reached text path (tree.list ds) fs there = absurd (no_object text path (tree.list ds) fs refl (λ k. refl) there)
 

@@ -30,6 +30,7 @@ pub scalar_takes : StoredLaw → (n : Bool) (d : Option (List ℕ)) (k : ScalarK
 scalar_takes law n d k cs tree.Null r some is = absurd (some refl)
 scalar_takes law n d k cs (tree.Bool b) r some is = both_hold r _ _ _ is (law (node n d (scalar k cs)) (trees.boolean b))
 scalar_takes law n d k cs (tree.Int z) r some is = both_hold r _ _ _ is (law (node n d (scalar k cs)) (trees.integer z))
+scalar_takes law n d k cs (tree.Number s) r some is = both_hold r _ _ _ is (law (node n d (scalar k cs)) (trees.number s))
 scalar_takes law n d k cs (tree.Text s) r some is = both_hold r _ _ _ is (law (node n d (scalar k cs)) (trees.text s))
 scalar_takes law n d k cs (tree.List ds) r some is = both_hold r _ _ _ is (law (node n d (scalar k cs)) (trees.list ds))
 scalar_takes law n d k cs (tree.Object ms) r some is = both_hold r _ _ _ is (law (node n d (scalar k cs)) (trees.object ms))

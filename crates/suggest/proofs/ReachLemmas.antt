@@ -608,6 +608,7 @@ string_value law raw root at n d cs ds v (tree.text s) listed taken = record { v
 string_value law raw root at n d cs ds v tree.null listed taken = absurd (cc)
 string_value law raw root at n d cs ds v (tree.boolean b) listed taken = absurd (cc)
 string_value law raw root at n d cs ds v (tree.integer z) listed taken = absurd (cc)
+string_value law raw root at n d cs ds v (tree.number s) listed taken = absurd (cc)
 string_value law raw root at n d cs ds v (tree.list es) listed taken = absurd (cc)
 string_value law raw root at n d cs ds v (tree.object ms) listed taken = absurd (cc)
 
@@ -672,6 +673,7 @@ module _ (law : StoredLaw) (one_text : OneText) (raw : Data) (root : Node) (orde
 
   reach_value : (k : ScalarKind) (v : Data) → node_at root (place_of p) ≡ Some (node n d (scalar k cs)) → IsTree v → IsStored (node n d (scalar k cs)) v → IsWithinReach root v → IsChoice raw root (path_text p) (node n d (scalar k cs)) v
   reach_value k tree.null there sound stored within = absurd within
+  reach_value k (tree.number s) there sound stored within = absurd within
   reach_value k (tree.list ds) there sound stored within = absurd within
   reach_value k (tree.object ms) there sound stored within = absurd within
   reach_value k (tree.boolean b) there sound stored within = reach_boolean k b there ((law (node n d (scalar k cs)) (tree.boolean b)).0 stored).0.0 stored

@@ -40,6 +40,7 @@ no_object_leaf (Some (tree.object ms)) k leaf e = subst IsLeafKind (sym (same_So
 no_object_leaf (Some tree.null) k leaf e = subst IsLeafKind (sym (same_Some _ k e)) leaf
 no_object_leaf (Some (tree.boolean b)) k leaf e = subst IsLeafKind (sym (same_Some _ k e)) leaf
 no_object_leaf (Some (tree.integer z)) k leaf e = subst IsLeafKind (sym (same_Some _ k e)) leaf
+no_object_leaf (Some (tree.number t)) k leaf e = subst IsLeafKind (sym (same_Some _ k e)) leaf
 no_object_leaf (Some (tree.text t)) k leaf e = subst IsLeafKind (sym (same_Some _ k e)) leaf
 no_object_leaf (Some (tree.list ds)) k leaf e = subst IsLeafKind (sym (same_Some _ k e)) leaf
 
@@ -65,6 +66,7 @@ no_leaf_type s (Some (tree.text t)) k other untyped leaf is = elim (bool_cases (
 no_leaf_type s (Some tree.null) k other untyped leaf is = cc
 no_leaf_type s (Some (tree.boolean b)) k other untyped leaf is = cc
 no_leaf_type s (Some (tree.integer z)) k other untyped leaf is = cc
+no_leaf_type s (Some (tree.number t)) k other untyped leaf is = cc
 no_leaf_type s (Some (tree.list ds)) k other untyped leaf is = cc
 no_leaf_type s (Some (tree.object ms)) k other untyped leaf is = cc
 
@@ -74,6 +76,7 @@ among_types (Some (tree.text t)) e = e
 among_types (Some tree.null) e = e
 among_types (Some (tree.boolean b)) e = e
 among_types (Some (tree.integer z)) e = e
+among_types (Some (tree.number t)) e = e
 among_types (Some (tree.list ds)) e = e
 among_types (Some (tree.object ms)) e = e
 

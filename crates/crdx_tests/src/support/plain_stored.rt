@@ -146,7 +146,7 @@ fn is_of_kind(kind: ScalarKind, value: &Tree) -> bool {
         Tree::Bool(_) => kind == ScalarKind::Boolean,
         Tree::Int(_) => kind == ScalarKind::Integer || kind == ScalarKind::IntOrString,
         Tree::Text(_) => kind == ScalarKind::String || kind == ScalarKind::IntOrString,
-        Tree::Null | Tree::List(_) | Tree::Object(_) => false,
+        Tree::Null | Tree::Number(_) | Tree::List(_) | Tree::Object(_) => false,
     }
 }
 
@@ -229,7 +229,7 @@ fn meets_constraints(constraints: &Constraints, value: &Tree) -> bool {
     let is_within_bounds = match value {
         Tree::Int(number) => is_at_least(constraints, *number) && is_at_most(constraints, *number),
         Tree::Text(text) => is_within(constraints.lengths, text.as_str().chars().count() as u64),
-        Tree::Null | Tree::Bool(_) | Tree::List(_) | Tree::Object(_) => true,
+        Tree::Null | Tree::Bool(_) | Tree::Number(_) | Tree::List(_) | Tree::Object(_) => true,
     };
     is_within_bounds && is_choice(constraints, value)
 }

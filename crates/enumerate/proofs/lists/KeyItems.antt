@@ -143,6 +143,7 @@ data_from : (d : Data) → data_of (tree_from d) ≡ d
 data_from tree.null = refl
 data_from (tree.boolean b) = refl
 data_from (tree.integer z) = refl
+data_from (tree.number t) = refl
 data_from (tree.text t) = refl
 data_from (tree.list ds) = refl
 data_from (tree.object ms) = refl

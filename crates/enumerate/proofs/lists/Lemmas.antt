@@ -36,6 +36,7 @@ pub some_nodes : (d : Data) → 1 ≤ node_count d
 some_nodes tree.null = omega arith
 some_nodes (tree.boolean b) = omega arith
 some_nodes (tree.integer z) = omega arith
+some_nodes (tree.number s) = omega arith
 some_nodes (tree.text s) = omega arith
 some_nodes (tree.list ds) = omega arith
 some_nodes (tree.object ms) = omega arith

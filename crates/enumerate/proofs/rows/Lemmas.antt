@@ -69,6 +69,7 @@ module _ (s : Slot) (ss : List Slot) (other : s.key ≡ false) where
   key_under_other tree.null = refl
   key_under_other (tree.boolean b) = refl
   key_under_other (tree.integer z) = refl
+  key_under_other (tree.number t) = refl
   key_under_other (tree.text t) = refl
   key_under_other (tree.list ds) = refl
 
@@ -99,6 +100,7 @@ module _ (s : Slot) (ss : List Slot) (key : s.key ≡ true) where
   has_first tree.null v h = cc
   has_first (tree.boolean b) v h = cc
   has_first (tree.integer z) v h = cc
+  has_first (tree.number t) v h = cc
   has_first (tree.text t) v h = cc
   has_first (tree.list ds) v h = cc
 
@@ -116,6 +118,7 @@ module _ (s : Slot) (ss : List Slot) (key : s.key ≡ true) where
   first_has tree.null v k some e = cc
   first_has (tree.boolean b) v k some e = cc
   first_has (tree.integer z) v k some e = cc
+  first_has (tree.number t) v k some e = cc
   first_has (tree.text t) v k some e = cc
   first_has (tree.list ds) v k some e = cc
 

@@ -5,7 +5,7 @@ use Rattle.std.proofs.Math.Seq.{drop-length}
 use Rattle.std.specs.Cmp.{nat_cmp_is}
 use Rattle.std.specs.Ordering.{nat_cmp}
 use Rattle.std.specs.declared.cmp.Ordering.TheVariants.{Less, Equal, Greater}
-use Rattle.jtree.specs.Data.{Data, null, boolean, integer, text, list, object}
+use Rattle.jtree.specs.Data.{Data, null, boolean, integer, number, text, list, object}
 use Rattle.jtree.specs.Nodes.{node_count, nodes}
 use Rattle.jtree.specs.Order.{kind, tree_cmp}
 use Rattle.jtree.specs.Internal.Rising.{contained}
@@ -39,6 +39,7 @@ pub null_first : (u : Data) → node_count u ≡ 1 → tree_cmp u null ≡ Less 
 null_first null n less = let t = tree_order.own null in cc
 null_first (boolean b) n less = later_kind (boolean b) n (omega arith) less
 null_first (integer z) n less = later_kind (integer z) n (omega arith) less
+null_first (number t) n less = later_kind (number t) n (omega arith) less
 null_first (text t) n less = later_kind (text t) n (omega arith) less
 null_first (list ds) n less = later_kind (list ds) n (omega arith) less
 null_first (object ms) n less = later_kind (object ms) n (omega arith) less

@@ -249,6 +249,7 @@ pub with_single : (v c : Data) → node_count v ≡ 1 → with_last v c ≡ c
 with_single tree.null c one = refl
 with_single (tree.boolean b) c one = refl
 with_single (tree.integer z) c one = refl
+with_single (tree.number t) c one = refl
 with_single (tree.text t) c one = refl
 with_single (list no_items) c one = refl
 with_single (list (item d ds)) c one = absurd (omega (arith, one, some_nodes d))

@@ -2,7 +2,7 @@
 use Rattle.std.specs.Prelude.{◌≡◌, ℕ, List}
 use Rattle.std.specs.Coded.{Coded, coded_ℕ, coded_ℤ, coded_bool, coded_list}
 use Rattle.std.proofs.Common.{ap, refl}
-use Rattle.jtree.specs.Data.{Data, null, boolean, integer, text, list, object, Items, no_items, item, Members, no_members, member}
+use Rattle.jtree.specs.Data.{Data, null, boolean, integer, number, text, list, object, Items, no_items, item, Members, no_members, member}
 use base.Stored.{Gv, gnil, gnum, gcons}
 
 abbrev pub head : Gv → Gv
@@ -22,6 +22,7 @@ abbrev mutual
   code_of (boolean b) = gcons (gnum 1) (coded_bool.code b)
   code_of (integer z) = gcons (gnum 2) (coded_ℤ.code z)
   code_of (text s) = gcons (gnum 3) (coded_bytes.code s)
+  code_of (number s) = gcons (gnum 6) (coded_bytes.code s)
   code_of (list ds) = gcons (gnum 4) (items_code ds)
   code_of (object ms) = gcons (gnum 5) (members_code ms)
 
@@ -38,6 +39,7 @@ mutual
   code_inj null null p = refl
   code_inj (boolean a) (boolean b) p = ap boolean (coded_bool.inj a b (ap tail p))
   code_inj (integer a) (integer b) p = ap integer (coded_ℤ.inj a b (ap tail p))
+  code_inj (number a) (number b) p = ap number (coded_bytes.inj a b (ap tail p))
   code_inj (text a) (text b) p = ap text (coded_bytes.inj a b (ap tail p))
   code_inj (list a) (list b) p = ap list (items_inj a b (ap tail p))
   code_inj (object a) (object b) p = ap object (members_inj a b (ap tail p))

@@ -1,12 +1,17 @@
 -- The laws of the tree order: it is total, and a tree ties with itself alone.
 use Rattle.std.specs.Prelude.{◌≡◌, ℕ, List, [], ◌∷◌, Bool, true, false, refl}
-use Rattle.std.proofs.Common.{sym, ap}
-use Rattle.std.specs.Cmp.{IsTotalOrder, bool_cmp_total}
-use Rattle.std.specs.Ordering.{nat_cmp, bool_cmp, ordering_then, ordering_reverse, flip_args}
+use Rattle.std.proofs.Common.{sym, ap, subst, ◌∙◌}
+use Rattle.std.specs.Cmp.{IsTotalOrder, IsPartialOrder, bool_cmp_total, partial_order_from_total}
+use Rattle.std.specs.Ordering.{nat_cmp, bool_cmp, nan_last_cmp, is_eq, as_partial_cmp, ordering_then, ordering_reverse, flip_args}
+use Rattle.std.specs.Str.{bytes_eq}
+use Rattle.std.proofs.lemmas.Float.{nan_last}
+use Rattle.std.proofs.lemmas.Map.Text.{is_eq-slice_cmp}
+use Rattle.std.proofs.lemmas.Slice.Eq.{bytes_eq-Decides}
+use Rattle.jtree.specs.NumberOrder.{number_value, number_cmp}
 use Rattle.std.specs.declared.cmp.Ordering.{Ordering}
 use Rattle.std.specs.declared.cmp.Ordering.TheVariants.{Less, Equal, Greater}
-use Rattle.std.proofs.lemmas.Cmp.{ranked, int_ranked, alike_right, nat_cmp_total, int_cmp_total, on_total, then_total, back_total, nat_list_cmp_total}
-use Rattle.jtree.specs.Data.{Data, null, boolean, integer, text, list, object, Items, no_items, item, Members, no_members, member}
+use Rattle.std.proofs.lemmas.Cmp.{ranked, int_ranked, alike_right, nat_cmp_total, int_cmp_total, on_total, then_total, back_total, nat_list_cmp_total, tied_itself}
+use Rattle.jtree.specs.Data.{Data, null, boolean, integer, number, text, list, object, Items, no_items, item, Members, no_members, member}
 use Rattle.jtree.specs.Nodes.{nodes}
 use Rattle.jtree.specs.Order.{kind, text_cmp, rank_cmp, content_cmp, items_cmp, members_cmp, tree_cmp}
 
@@ -42,6 +47,32 @@ text_same (x ∷ xs) (y ∷ ys) p =
     cc
 text_same _ _ p = cc
 
+pub number_total : IsTotalOrder number_cmp
+number_total = then_total (on_total number_value nan_last) text_total
+
+pub number_same : (a b : List ℕ) → number_cmp a b ≡ Equal → a ≡ b
+number_same a b p = text_same a b (then_equal (nan_last_cmp (number_value a) (number_value b)) (text_cmp a b) p).1
+
+not_tied : (o p : Ordering) → is_eq p ≡ false → is_eq (ordering_then o p) ≡ false
+not_tied Equal p h = h
+not_tied _ p h = refl
+
+ties_by : (a b : List ℕ) (t : Bool) → bytes_eq a b ≡ t → is_eq (number_cmp a b) ≡ t
+ties_by a b true is =
+    let same : a ≡ b = (bytes_eq-Decides a b).0 is in
+    ap (λ c. is_eq (number_cmp a c)) (sym same) ∙ ap is_eq (tied_itself number_total a)
+ties_by a b false is = not_tied (nan_last_cmp (number_value a) (number_value b)) (text_cmp a b) (is_eq-slice_cmp a b ∙ is)
+
+-- numbers tie exactly where they are written alike
+pub number_ties : (a b : List ℕ) → is_eq (number_cmp a b) ≡ bytes_eq a b
+number_ties a b = ties_by a b (bytes_eq a b) refl
+
+pub number_tied : (a b : List ℕ) → bytes_eq a b ≡ is_eq (number_cmp a b)
+number_tied a b = sym (number_ties a b)
+
+pub number_po : IsPartialOrder bytes_eq (as_partial_cmp number_cmp)
+number_po = subst (λ e. IsPartialOrder e (as_partial_cmp number_cmp)) (λ i a b. number_ties a b i) (partial_order_from_total number_total)
+
 bool_same : (a b : Bool) → bool_cmp a b ≡ Equal → a ≡ b
 bool_same true true p = refl
 bool_same false false p = refl
@@ -66,6 +97,7 @@ mutual
   content_turn null null p = refl
   content_turn (boolean a) (boolean b) p = bool_cmp_total.antisymm a b
   content_turn (integer a) (integer b) p = int_cmp_total.antisymm a b
+  content_turn (number a) (number b) p = number_total.antisymm a b
   content_turn (text a) (text b) p = text_total.antisymm a b
   content_turn (list ds) (list es) p = items_turn ds es
   content_turn (object ms) (object ns) p = members_turn ms ns
@@ -142,6 +174,7 @@ mutual
   content_chains null null null p q = all_equal
   content_chains (boolean a) (boolean b) (boolean c) p q = total_chains bool_cmp_total a b c
   content_chains (integer a) (integer b) (integer c) p q = total_chains int_cmp_total a b c
+  content_chains (number a) (number b) (number c) p q = total_chains number_total a b c
   content_chains (text a) (text b) (text c) p q = total_chains text_total a b c
   content_chains (list ds) (list es) (list fs) p q = items_chains ds es fs
   content_chains (object ms) (object ns) (object os) p q = members_chains ms ns os
@@ -199,6 +232,7 @@ mutual
   content_same null null p q = refl
   content_same (boolean a) (boolean b) p q = ap boolean (bool_same a b q)
   content_same (integer a) (integer b) p q = ap integer (int_ranked a b Equal (sym q))
+  content_same (number a) (number b) p q = ap number (number_same a b q)
   content_same (text a) (text b) p q = ap text (text_same a b q)
   content_same (list ds) (list es) p q = ap list (items_same ds es q)
   content_same (object ms) (object ns) p q = ap object (members_same ms ns q)

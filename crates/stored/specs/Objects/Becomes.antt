@@ -14,6 +14,7 @@ pub data Label : Type 0 where
   null : Label
   boolean : Bool → Label
   integer : ℤ → Label
+  number : List ℕ → Label
   text : List ℕ → Label
   list : Label
   object : Label
@@ -22,6 +23,7 @@ abbrev pub label : Data → Label
 label tree.null = null
 label (tree.boolean b) = boolean b
 label (tree.integer z) = integer z
+label (tree.number s) = number s
 label (tree.text s) = text s
 label (tree.list ds) = list
 label (tree.object ms) = object

@@ -1,14 +1,19 @@
 use Rattle.std.proofs.Common.{arith, ap, sym, ◌∙◌}
 use Rattle.std.proofs.lemmas.Map.Text.{is_eq-slice_cmp}
 use Rattle.std.specs.Ordering.{is_eq}
+use Rattle.jtree.specs.Internal.OrderLaws.{number_ties}
 use Rattle.jtree.specs.View.{data_of, items_of, members_of}
 use Rattle.jtree.specs.Order.{tree_cmp, items_cmp, members_cmp}
 use Rattle.jtree.proofs.OrderSteps.{items_step, members_step, unlike_items, unlike_members, lists_whole, objects_whole, then_tied, then_first, same_name}
 use Rattle.jtree.proofs.order.+same.Goals as goal
 
+pub is_same-returns-in-Number-Number : goal.is_same-returns-in-Number-Number
+is_same-returns-in-Number-Number t c = rw (c.in-Number-Number.is-0, c.in-Number-Number.is-1)
+    (c.eq.ensures ∙ sym (number_ties c.in-Number-Number.a c.in-Number-Number.b))
+
 pub is_same-returns-in-Text-Text : goal.is_same-returns-in-Text-Text
 is_same-returns-in-Text-Text t c = rw (c.in-Text-Text.is-0, c.in-Text-Text.is-1)
-    (c.eq.ensures ∙ sym (is_eq-slice_cmp c.in-Text-Text.a c.in-Text-Text.b))
+    (c.eq-in-Text-Text.ensures ∙ sym (is_eq-slice_cmp c.in-Text-Text.a c.in-Text-Text.b))
 
 pub is_same-returns-in-List-List : goal.is_same-returns-in-List-List
 is_same-returns-in-List-List t c = rw (c.in-List-List.is-0, c.in-List-List.is-1)

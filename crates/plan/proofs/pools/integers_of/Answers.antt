@@ -16,6 +16,7 @@ passed : (t : Tree) (ds : List Data) → ((z : ℤ) → t ≡ tree.Int z → ⊥
 passed tree.Null ds h = refl
 passed (tree.Bool b) ds h = refl
 passed (tree.Int z) ds h = absurd (h z refl)
+passed (tree.Number s) ds h = refl
 passed (tree.Text s) ds h = refl
 passed (tree.List ts) ds h = refl
 passed (tree.Object ms) ds h = refl
