@@ -1,12 +1,43 @@
--- How the comparison by value of two lists of parts goes on by one part, and how it ends.
-use Rattle.std.proofs.Common.{◌≡◌, ◌<◌, ◌+◌, ℕ, suc, List, [], ◌∷◌, length, drop, get_or, Bool, true, false, ◌&&◌, refl, sym, ap, ◌∙◌, arith}
+-- The comparison by the values of numbers: of trees that are not two numbers, lists or objects, and of the parts, one by one.
+use Rattle.std.proofs.Common.{◌≡◌, ◌<◌, ◌+◌, ℕ, suc, List, [], ◌∷◌, length, drop, get_or, Bool, true, false, ◌&&◌, refl, sym, ap, ◌∙◌}
 use Rattle.std.proofs.lemmas.List.{at_drop_more}
 use Rattle.std.specs.Str.{bytes_eq}
 use Rattle.jtree.specs.Data.{item, member}
+use Rattle.std.specs.Ordering.{is_eq}
+use Rattle.jtree.specs.Order.{tree_cmp}
 use Rattle.jtree.specs.SameValue.{same_value, same_values, same_members}
 use Rattle.jtree.specs.View.{data_of, items_of, members_of}
+use Rattle.jtree.specs.declared.number.Number.{Number}
+use Rattle.jtree.specs.declared.value.Items.{Items}
+use Rattle.jtree.specs.declared.value.Members.{Members}
 use Rattle.jtree.specs.declared.value.Tree.{Tree}
+use Rattle.jtree.specs.declared.value.Tree.TheVariants as tree
 use Rattle.jtree.specs.declared.value.Member.{Member}
+
+-- ---- trees that are compared as by `==`
+
+abbrev AsEqual : Tree → Tree → Type 0
+AsEqual t u = is_eq (tree_cmp (data_of t) (data_of u)) ≡ same_value (data_of t) (data_of u)
+
+pub one_number : (n : Number) (u : Tree) → ((m : Number) → u ≡ tree.Number m → ⊥) → AsEqual (tree.Number n) u
+one_number n (tree.Number m) other = absurd (other m refl)
+one_number n _ other = refl
+
+pub one_list : (ds : Items) (u : Tree) → ((es : Items) → u ≡ tree.List es → ⊥) → AsEqual (tree.List ds) u
+one_list ds (tree.List es) other = absurd (other es refl)
+one_list ds _ other = refl
+
+pub one_object : (ms : Members) (u : Tree) → ((ns : Members) → u ≡ tree.Object ns → ⊥) → AsEqual (tree.Object ms) u
+one_object ms (tree.Object ns) other = absurd (other ns refl)
+one_object ms _ other = refl
+
+pub other_kinds : (t u : Tree) → ((n : Number) → t ≡ tree.Number n → ⊥) → ((ds : Items) → t ≡ tree.List ds → ⊥) → ((ms : Members) → t ≡ tree.Object ms → ⊥) → AsEqual t u
+other_kinds (tree.Number n) u a b c = absurd (a n refl)
+other_kinds (tree.List ds) u a b c = absurd (b ds refl)
+other_kinds (tree.Object ms) u a b c = absurd (c ms refl)
+other_kinds _ u a b c = refl
+
+-- ---- parts
 
 pub next_values : (xs ys : List Tree) (i : ℕ) (x y : Tree) → i < length xs → i < length ys → x ≡ get_or xs i x → y ≡ get_or ys i y
     → same_values (items_of (drop i xs)) (items_of (drop i ys)) ≡ same_value (data_of x) (data_of y) && same_values (items_of (drop (i + 1) xs)) (items_of (drop (i + 1) ys))

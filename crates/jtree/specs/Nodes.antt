@@ -1,17 +1,13 @@
 -- The size of a tree: 1 for null and a scalar, and 1 plus the sum over the parts for a list or object. Names do not count (this
 -- project's own).
 use Rattle.std.specs.Prelude.{ℕ, ◌+◌, ◌-◌, ◌^◌, min}
-use Rattle.jtree.specs.Data.{Data, null, boolean, integer, number, text, list, object, Items, no_items, item, Members, no_members, member}
+use Rattle.jtree.specs.Data.{Data, list, object, Items, no_items, item, Members, no_members, member}
 
 abbrev mutual
   pub node_count : Data → ℕ
-  node_count null = 1
-  node_count (boolean b) = 1
-  node_count (integer z) = 1
-  node_count (number s) = 1
-  node_count (text s) = 1
   node_count (list ds) = 1 + items_count ds
   node_count (object ms) = 1 + members_count ms
+  node_count _ = 1
 
   pub items_count : Items → ℕ
   items_count no_items = 0

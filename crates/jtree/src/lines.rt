@@ -1,4 +1,4 @@
-//! Documents one line each (JSON Lines).
+//! Documents one line each (JSON Lines). A line is the bytes that `Tree::from_bytes` or `Tree::from_bytes_with` reads.
 
 ghost use Rattle.std.specs.Prelude.{◌≡◌, ◌≢◌, ◌≤◌, ◌<◌, ◌⊎◌, []};
 ghost use Rattle.std.specs.Prelude.{ℕ, List, length, drop, true, false, Option, Err, IfOk, IfErr, OnOk, All};

@@ -25,45 +25,171 @@ struct Read {
 }
 
 static WHOLE: [Read; 15] = [
-    Read { document: "7", integers: "7", all: "7" },
-    Read { document: "1.0", integers: "J1", all: "1" },
-    Read { document: "1e2", integers: "J1", all: "100" },
-    Read { document: "-0", integers: "J1", all: "0" },
-    Read { document: "-0.0", integers: "J1", all: "0" },
-    Read { document: "2.50e1", integers: "J1", all: "25" },
-    Read { document: "-30E-1", integers: "J1", all: "-3" },
-    Read { document: "0e999", integers: "J1", all: "0" },
-    Read { document: "9223372036854775807", integers: "9223372036854775807", all: "9223372036854775807" },
-    Read { document: "-9223372036854775808", integers: "-9223372036854775808", all: "-9223372036854775808" },
-    Read { document: "9007199254740991.0", integers: "J1", all: "9007199254740991" },
-    Read { document: "-9007199254740991.0", integers: "J1", all: "-9007199254740991" },
-    Read { document: "9007199254740992.0", integers: "J1", all: "9007199254740992.0" },
-    Read { document: "-9007199254740992.0", integers: "J1", all: "-9007199254740992.0" },
-    Read { document: "1e16", integers: "J1", all: "1e16" },
+    Read {
+        document: "7",
+        integers: "7",
+        all: "7",
+    },
+    Read {
+        document: "1.0",
+        integers: "J1",
+        all: "1",
+    },
+    Read {
+        document: "1e2",
+        integers: "J1",
+        all: "100",
+    },
+    Read {
+        document: "-0",
+        integers: "J1",
+        all: "0",
+    },
+    Read {
+        document: "-0.0",
+        integers: "J1",
+        all: "0",
+    },
+    Read {
+        document: "2.50e1",
+        integers: "J1",
+        all: "25",
+    },
+    Read {
+        document: "-30E-1",
+        integers: "J1",
+        all: "-3",
+    },
+    Read {
+        document: "0e999",
+        integers: "J1",
+        all: "0",
+    },
+    Read {
+        document: "9223372036854775807",
+        integers: "9223372036854775807",
+        all: "9223372036854775807",
+    },
+    Read {
+        document: "-9223372036854775808",
+        integers: "-9223372036854775808",
+        all: "-9223372036854775808",
+    },
+    Read {
+        document: "9007199254740991.0",
+        integers: "J1",
+        all: "9007199254740991",
+    },
+    Read {
+        document: "-9007199254740991.0",
+        integers: "J1",
+        all: "-9007199254740991",
+    },
+    Read {
+        document: "9007199254740992.0",
+        integers: "J1",
+        all: "9007199254740992.0",
+    },
+    Read {
+        document: "-9007199254740992.0",
+        integers: "J1",
+        all: "-9007199254740992.0",
+    },
+    Read {
+        document: "1e16",
+        integers: "J1",
+        all: "1e16",
+    },
 ];
 
 static OTHERS: [Read; 14] = [
-    Read { document: "0.5", integers: "J1", all: "0.5" },
-    Read { document: " 0.50 ", integers: "J1", all: "0.50" },
-    Read { document: "25E-1", integers: "J1", all: "25E-1" },
-    Read { document: "1e-999", integers: "J1", all: "1e-999" },
-    Read { document: "9223372036854775808", integers: "J1", all: "9223372036854775808" },
-    Read { document: "-9223372036854775809", integers: "J1", all: "-9223372036854775809" },
-    Read { document: "1e999", integers: "J3", all: "J3" },
-    Read { document: "[0.5,-1e999]", integers: "J3", all: "J3" },
-    Read { document: "0.5.", integers: "J3", all: "J3" },
-    Read { document: "01.5", integers: "J3", all: "J3" },
-    Read { document: "+0.5", integers: "J3", all: "J3" },
-    Read { document: ".5", integers: "J3", all: "J3" },
-    Read { document: "0.5 0.5", integers: "J3", all: "J3" },
-    Read { document: r#"{"b":0.5,"a":[1.0,{"c":1e2},null,"é"],"b":0.25,"":[]}"#, integers: "J1", all: r#"{"":[],"a":[1,{"c":100},null,"é"],"b":0.25}"# },
+    Read {
+        document: "0.5",
+        integers: "J1",
+        all: "0.5",
+    },
+    Read {
+        document: " 0.50 ",
+        integers: "J1",
+        all: "0.50",
+    },
+    Read {
+        document: "25E-1",
+        integers: "J1",
+        all: "25E-1",
+    },
+    Read {
+        document: "1e-999",
+        integers: "J1",
+        all: "1e-999",
+    },
+    Read {
+        document: "9223372036854775808",
+        integers: "J1",
+        all: "9223372036854775808",
+    },
+    Read {
+        document: "-9223372036854775809",
+        integers: "J1",
+        all: "-9223372036854775809",
+    },
+    Read {
+        document: "1e999",
+        integers: "J3",
+        all: "J3",
+    },
+    Read {
+        document: "[0.5,-1e999]",
+        integers: "J3",
+        all: "J3",
+    },
+    Read {
+        document: "0.5.",
+        integers: "J3",
+        all: "J3",
+    },
+    Read {
+        document: "01.5",
+        integers: "J3",
+        all: "J3",
+    },
+    Read {
+        document: "+0.5",
+        integers: "J3",
+        all: "J3",
+    },
+    Read {
+        document: ".5",
+        integers: "J3",
+        all: "J3",
+    },
+    Read {
+        document: "0.5 0.5",
+        integers: "J3",
+        all: "J3",
+    },
+    Read {
+        document: r#"{"b":0.5,"a":[1.0,{"c":1e2},null,"é"],"b":0.25,"":[]}"#,
+        integers: "J1",
+        all: r#"{"":[],"a":[1,{"c":100},null,"é"],"b":0.25}"#,
+    },
 ];
 
 fn try_read(report: &mut Report, alloc: Global, row: &Read) -> Result<(), Fail> {
     let bytes = row.document.as_bytes();
     let integers = Tree::from_bytes_with(alloc, bytes, Numbers::Integers);
-    is_said(report, "integers alone", said_of(alloc, integers), row.integers)?;
-    is_said(report, "by default", said_of(alloc, Tree::from_bytes(alloc, bytes)), row.integers)?;
+    is_said(
+        report,
+        "integers alone",
+        said_of(alloc, integers),
+        row.integers,
+    )?;
+    is_said(
+        report,
+        "by default",
+        said_of(alloc, Tree::from_bytes(alloc, bytes)),
+        row.integers,
+    )?;
     for step in [1, 3, usize::MAX] {
         let mut source = FailingSource::new(bytes, step, usize::MAX);
         let all = Tree::from_reader_with(alloc, &mut source, Numbers::All);
@@ -86,10 +212,38 @@ fn readings(rt: HostRuntime) -> Result<(), Fail> {
 }
 
 static BORDERS: [Border; 4] = [
-    Border { name: "127 lists", before: "[", times: 127, middle: "", after: "]", wanted: "read" },
-    Border { name: "128 lists", before: "[", times: 128, middle: "", after: "]", wanted: "J3" },
-    Border { name: "1,048,576 bytes", before: " ", times: 1_048_573, middle: "0.5", after: "", wanted: "read" },
-    Border { name: "1,048,577 bytes", before: " ", times: 1_048_574, middle: "0.5", after: "", wanted: "J4" },
+    Border {
+        name: "127 lists",
+        before: "[",
+        times: 127,
+        middle: "",
+        after: "]",
+        wanted: "read",
+    },
+    Border {
+        name: "128 lists",
+        before: "[",
+        times: 128,
+        middle: "",
+        after: "]",
+        wanted: "J3",
+    },
+    Border {
+        name: "1,048,576 bytes",
+        before: " ",
+        times: 1_048_573,
+        middle: "0.5",
+        after: "",
+        wanted: "read",
+    },
+    Border {
+        name: "1,048,577 bytes",
+        before: " ",
+        times: 1_048_574,
+        middle: "0.5",
+        after: "",
+        wanted: "J4",
+    },
 ];
 
 fn try_border(report: &mut Report, alloc: Global, row: &Border) -> Result<(), Fail> {
@@ -111,7 +265,10 @@ fn borders(rt: HostRuntime) -> Result<(), Fail> {
     }
     let mut source = FailingSource::new(b"[0.5", 1, 4);
     let failed = Tree::from_reader_with(rt.alloc(), &mut source, Numbers::All);
-    report.holds("a source that fails", matches!(failed, Err(JFault::ReadFailed)));
+    report.holds(
+        "a source that fails",
+        matches!(failed, Err(JFault::ReadFailed)),
+    );
     report.row("a source that fails", Ok(()));
     report.end(&rt)
 }
@@ -125,7 +282,10 @@ fn lines_of(alloc: Global, bytes: &[u8], numbers: Numbers) -> Result<String, Fai
         if !feed.next_line(&mut line)? {
             return Ok(all);
         }
-        let text = said_of(alloc, Tree::from_bytes_with(alloc, line.as_slice(), numbers))?;
+        let text = said_of(
+            alloc,
+            Tree::from_bytes_with(alloc, line.as_slice(), numbers),
+        )?;
         write!(all, "[{text}]")?;
     }
     Ok(all)
@@ -153,20 +313,90 @@ struct Pair {
 }
 
 static ORDERED: [Pair; 14] = [
-    Pair { name: "an integer before another number", earlier: "5", later: "0.5", same_value: false },
-    Pair { name: "another number before a string", earlier: "0.5", later: r#""""#, same_value: false },
-    Pair { name: "by value", earlier: "0.25", later: "0.5", same_value: false },
-    Pair { name: "not by the bytes", earlier: "2.5", later: "10.5", same_value: false },
-    Pair { name: "below zero", earlier: "-2.5", later: "-0.25", same_value: false },
-    Pair { name: "one value, by the text", earlier: "0.5", later: "0.50", same_value: true },
-    Pair { name: "one value, with an exponent", earlier: "0.5", later: "5e-1", same_value: true },
-    Pair { name: "beyond integers", earlier: "9223372036854775808", later: "1e20", same_value: false },
-    Pair { name: "the nearest float", earlier: "9223372036854775808", later: "9223372036854775809", same_value: true },
-    Pair { name: "an integer and a number", earlier: "9223372036854775807", later: "9223372036854775808", same_value: false },
-    Pair { name: "fewer nodes", earlier: "10.5", later: "[0.5]", same_value: false },
-    Pair { name: "items", earlier: "[0.5,1,0.50]", later: "[0.50,1,0.5]", same_value: true },
-    Pair { name: "members", earlier: r#"{"a":0.5,"b":[]}"#, later: r#"{"a":5e-1,"b":[]}"#, same_value: true },
-    Pair { name: "other names", earlier: r#"{"b":0.5}"#, later: r#"{"a":0.50}"#, same_value: false },
+    Pair {
+        name: "an integer before another number",
+        earlier: "5",
+        later: "0.5",
+        same_value: false,
+    },
+    Pair {
+        name: "another number before a string",
+        earlier: "0.5",
+        later: r#""""#,
+        same_value: false,
+    },
+    Pair {
+        name: "by value",
+        earlier: "0.25",
+        later: "0.5",
+        same_value: false,
+    },
+    Pair {
+        name: "not by the bytes",
+        earlier: "2.5",
+        later: "10.5",
+        same_value: false,
+    },
+    Pair {
+        name: "below zero",
+        earlier: "-2.5",
+        later: "-0.25",
+        same_value: false,
+    },
+    Pair {
+        name: "one value, by the text",
+        earlier: "0.5",
+        later: "0.50",
+        same_value: true,
+    },
+    Pair {
+        name: "one value, with an exponent",
+        earlier: "0.5",
+        later: "5e-1",
+        same_value: true,
+    },
+    Pair {
+        name: "beyond integers",
+        earlier: "9223372036854775808",
+        later: "1e20",
+        same_value: false,
+    },
+    Pair {
+        name: "the nearest float",
+        earlier: "9223372036854775808",
+        later: "9223372036854775809",
+        same_value: true,
+    },
+    Pair {
+        name: "an integer and a number",
+        earlier: "9223372036854775807",
+        later: "9223372036854775808",
+        same_value: false,
+    },
+    Pair {
+        name: "fewer nodes",
+        earlier: "10.5",
+        later: "[0.5]",
+        same_value: false,
+    },
+    Pair {
+        name: "items",
+        earlier: "[0.5,1,0.50]",
+        later: "[0.50,1,0.5]",
+        same_value: true,
+    },
+    Pair {
+        name: "members",
+        earlier: r#"{"a":0.5,"b":[]}"#,
+        later: r#"{"a":5e-1,"b":[]}"#,
+        same_value: true,
+    },
+    Pair {
+        name: "other names",
+        earlier: r#"{"b":0.5}"#,
+        later: r#"{"a":0.50}"#,
+        same_value: false,
+    },
 ];
 
 fn try_pair(report: &mut Report, alloc: Global, row: &Pair) -> Result<(), Fail> {
@@ -177,7 +407,11 @@ fn try_pair(report: &mut Report, alloc: Global, row: &Pair) -> Result<(), Fail> 
     report.holds("two trees", earlier != later);
     report.holds("equal to a copy", later.copy(alloc)? == later);
     report.is_value("by value", &earlier.has_value_of(&later), &row.same_value);
-    report.is_value("by value, turned round", &later.has_value_of(&earlier), &row.same_value);
+    report.is_value(
+        "by value, turned round",
+        &later.has_value_of(&earlier),
+        &row.same_value,
+    );
     report.holds("of its own value", later.has_value_of(&later));
     Ok(())
 }
@@ -260,7 +494,12 @@ fn many_members(rt: HostRuntime) -> Result<(), Fail> {
     }
     descending.push('}')?;
     ascending.push('}')?;
-    let ended = try_many(&mut report, rt.alloc(), descending.as_bytes(), ascending.as_bytes());
+    let ended = try_many(
+        &mut report,
+        rt.alloc(),
+        descending.as_bytes(),
+        ascending.as_bytes(),
+    );
     report.row("members in descending order", ended);
     report.end(&rt)
 }

@@ -1,4 +1,4 @@
-use Rattle.std.proofs.Common.{◌≡◌, ◌≢◌, ◌↔◌, ℕ, List, Some, refl, ap, ◌∙◌}
+use Rattle.std.proofs.Common.{◌≢◌, ◌↔◌, ℕ, List, Some, refl, ap, ◌∙◌}
 use Rattle.jtree.specs.Reads.{IsNoDocument}
 use Rattle.jtree.specs.ReadsAll.{document_of, IsNoDocumentAll}
 use Rattle.jtree.specs.declared.fault.JFault.{JFault}
