@@ -25,16 +25,26 @@ pub(crate) fn number_from_text(alloc: Global, text: &str) -> Result<Tree, JFault
     ensures not_json { IfErr result (λ e. e ≡ NotJson → IsNumber text.now → number_of text.now ≡ None) }
     ensures err { IfErr result (λ e. (e ≡ NotJson) ⊎ (e ≡ NoMemory)) }
 {
-    if !is_number(text) {
-        return Err(JFault::NotJson);
-    }
     match read_integer(text) {
         None => Err(JFault::NotJson),
         Some(Some(n)) => Ok(Tree::Int(n)),
-        Some(None) => Ok(Tree::Number(Number {
-            text: Text::from_str(alloc, text)?,
-        })),
+        Some(None) => Ok(Tree::Number(other_number(alloc, text)?)),
     }
+}
+
+/// A number that is not an integer. `NotJson` where the text is not a number by the grammar of JSON, which a reader has seen to before.
+fn other_number(alloc: Global, text: &str) -> Result<Number, JFault>
+    requires { option_map (integer_of text.now) (number_of text.now) ≡ Some None }
+    ensures ok { IfOk result (λ n. n ≡ text.now) }
+    ensures not_json { IfErr result (λ e. e ≡ NotJson → IsNumber text.now → ⊥) }
+    ensures err { IfErr result (λ e. (e ≡ NotJson) ⊎ (e ≡ NoMemory)) }
+{
+    if !is_number(text) {
+        return Err(JFault::NotJson);
+    }
+    Ok(Number {
+        text: Text::from_str(alloc, text)?,
+    })
 }
 
 /// The integer that a number is, if it is one. `None` where it is beyond the range of floats.
