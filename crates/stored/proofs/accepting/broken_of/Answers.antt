@@ -2,7 +2,7 @@ use Rattle.std.proofs.Common.{subst, sym}
 use Rattle.schema.specs.Rules.Breaks.{AreViolations}
 use Rattle.stored.specs.Schemas.Accepted.{IsBroken}
 use Rattle.stored.proofs.DefaultListLemmas.{nothing_broken}
-use Rattle.stored.proofs.accepting.violations.Goals as goal
+use Rattle.stored.proofs.accepting.broken_of.Goals as goal
 
 pub returns-in-Ok : goal.returns-in-Ok
 returns-in-Ok c = subst (AreViolations (IsBroken c.args.raw.now)) (sym c.new.ensures.items) (nothing_broken c.args.raw.now _ c.in-Ok.ensures.accepted)
