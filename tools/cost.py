@@ -43,6 +43,7 @@ LIMITED = [
     Row("check with reasons of 80001 keywords", 1, 65536, "check 80001-keywords v1 --why"),
     # a definition of real size, and an object of 1,024 optional fields, within the larger limits
     Row("check of 16000 places", 0.25, 65536, "check 16000-places v1 --large"),
+    Row("check with reasons of 16000 places", 0.25, 65536, "check 16000-places v1 --large --why"),
     Row("explain of 16000 places", 0.25, 65536, "explain 16000-places v1 --large"),
     Row("validate of an object of 16000 places", 0.25, 65536, "validate 16000-places v1 object-of-16000-places --large"),
     Row("prune of an object of 16000 places", 0.25, 65536, "prune 16000-places v1 object-of-16000-places --large"),

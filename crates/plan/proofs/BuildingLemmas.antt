@@ -23,7 +23,7 @@ use Rattle.plan.specs.Samples.RuleOfParts.{takes_null, admits_null}
 use Rattle.plan.specs.declared.sort.Sort.TheVariants.{Leaf as LeafSort, Row}
 use Rattle.schema.specs.declared.node.Bounds.{Bounds}
 use Rattle.plan.specs.Internal.Values.{AreValues}
-use Rattle.plan.specs.Internal.Arena.{IsSlot, AreSlots, IsRight, AreRightBelow, AreRight, AreSitesFrom}
+use Rattle.plan.specs.Internal.Arena.{IsSlot, AreSlots, IsKept, IsRight, AreRightBelow, AreRight, AreSitesFrom}
 use Rattle.plan.specs.Samples.Sites.{site_at}
 use Rattle.plan.specs.Internal.Building.{IsSound, IsSortSound, AreFieldsSound, IsBuilt, AreBuilt, IsFieldSlot}
 use Rattle.plan.specs.declared.values.Values.{Values}
@@ -31,6 +31,7 @@ use Rattle.plan.specs.declared.arena.SlotName.TheVariants.{Pool}
 use Rattle.plan.specs.declared.arena.PlanNode.{PlanNode}
 use Rattle.plan.specs.declared.arena.SlotEntry.{SlotEntry}
 use Rattle.plan.specs.declared.arena.Entry.{Entry}
+use Rattle.plan.specs.declared.arena.Arena.{Arena}
 use Rattle.plan.proofs.SizeLemmas.{each_push}
 use Rattle.plan.proofs.EntryLemmas.{right_push}
 
@@ -149,6 +150,10 @@ node_built holds limit P v old new fixed path nullable description sort keys n n
     }
 
 -- what three clauses say of a value, if there is one
+-- what is kept twice
+pub kept_on : {Z : Type 0} {a b c : Arena Z} → IsKept a b → IsKept b c → IsKept a c
+kept_on h k = (k.0 ∙ h.0, k.1 ∙ h.1)
+
 pub three_ok : {X E : Type 0} (r : Result X E) (A B C D : X → Type 0) → IfOk r A → IfOk r B → IfOk r C → ((x : X) → A x → B x → C x → D x) → IfOk r D
 three_ok (Ok x) A B C D a b c d = d x a b c
 three_ok (Err e) A B C D a b c d = tt

@@ -12,12 +12,12 @@ ghost use Rattle.plan.specs.Internal.Values.{trees_of, AreValues};
 ghost use Rattle.plan.specs.Samples.Candidates.{sort_at};
 ghost use Rattle.plan.specs.Samples.RuleOfParts;
 ghost use Rattle.plan.specs.declared.sort.Sort.TheVariants.{Leaf};
-ghost use Rattle.plan.specs.Internal.Arena.{AreSlots, IsLimit, IsKept, IsRightIn};
+ghost use Rattle.plan.specs.Internal.Arena.{AreSlots, IsLimit, IsRightIn};
 ghost use Rattle.plan.specs.Samples.Sites.{site_at};
 ghost use Rattle.plan.specs.declared.arena.SlotEntry.{SlotEntry};
 ghost use Rattle.schema.specs.Nodes.Junctors.{most_named};
 ghost use Rattle.plan.specs.Internal.Tables.{IsClosed};
-ghost use Rattle.plan.specs.Internal.Building.{Builds, BuildsSort, BuildsFields, IsFieldSlot};
+ghost use Rattle.plan.specs.Internal.Building.{Builds, BuildsLeaf, BuildsSort, BuildsField, BuildsFields};
 
 use crate::arena::{Arena, Content, Entry, PlanNode, SlotEntry, SlotName};
 use crate::asked::{raised, takes_null};
@@ -43,9 +43,8 @@ pub(crate) fn build<Z: SizeSet>(
     node: &Node,
     keys: &[Text],
 ) -> Result<PlanNode, AllocError>
-    requires limit { IsLimit Z.BITS arena.old.limit }
-    ensures kept { IsKept arena.old arena.new }
-    ensures built { IfOk result (λ n. Builds Z.holds arena.old arena.new pools.now (option_map (λ ts. trees_of ts.now) fixed.entry) path.now (node_of node.now) keys.now n) }
+    requires { IsLimit Z.BITS arena.old.limit }
+    ensures { IfOk result (Builds Z.holds arena.old arena.new pools.now (option_map (λ ts. trees_of ts.now) fixed.entry) path.now (node_of node.now) keys.now) }
 {
     let nullable = takes_null(alloc, pools, path, node)?;
     if fixed.is_some() {
@@ -71,9 +70,8 @@ fn build_object<Z: SizeSet>(
     nullable: bool,
     keys: &[Text],
 ) -> Result<PlanNode, AllocError>
-    requires limit { IsLimit Z.BITS arena.old.limit }
-    ensures kept { IsKept arena.old arena.new }
-    ensures built { IfOk result (BuildsSort Z.holds arena.old arena.new pools.now path.now (object_of object.now) keys.now nullable) }
+    requires { IsLimit Z.BITS arena.old.limit }
+    ensures { IfOk result (BuildsSort Z.holds arena.old arena.new pools.now path.now (object_of object.now) keys.now nullable) }
 {
     object.fields.reveal_invariant();
     let named = named_fields(alloc, &object.junctors)?;
@@ -96,8 +94,7 @@ fn build_fields<Z: SizeSet>(
 ) -> Result<Vec<SlotEntry>, AllocError>
     requires limit { IsLimit Z.BITS arena.old.limit }
     requires few { length named.now ≤ most_named }
-    ensures kept { IsKept arena.old arena.new }
-    ensures built { IfOk result (λ slots. BuildsFields Z.holds arena.old arena.new pools.now path.now fields.now keys.now named.now slots.items) }
+    ensures { IfOk result (λ slots. BuildsFields Z.holds arena.old arena.new pools.now path.now fields.now keys.now named.now slots.items) }
 {
     let mut slots = Vec::with_capacity(alloc, fields.fields.len())?;
     for field in &fields.fields {
@@ -119,10 +116,7 @@ fn build_field<Z: SizeSet>(
 ) -> Result<SlotEntry, AllocError>
     requires limit { IsLimit Z.BITS arena.old.limit }
     requires few { length named.now ≤ most_named }
-    ensures kept { IsKept arena.old arena.new }
-    ensures built { IfOk result (λ s. Builds Z.holds arena.old arena.new pools.now (fixed_at (below path.now (FieldPath.field field.now.name)) pools.now) (below path.now (FieldPath.field field.now.name)) (node_of field.now.node) [] s.node) }
-    ensures slot { IfOk result (λ s. IsFieldSlot pools.now path.now keys.now named.now field.now.name field.now.required (option_map data_of field.now.default) s) }
-    ensures bit { IfOk result (λ s. IsClosed (2 ^ length named.now) s.bit) }
+    ensures { IfOk result (BuildsField Z.holds arena.old arena.new pools.now path.now keys.now named.now field.now.name (node_of field.now.node) field.now.required (option_map data_of field.now.default)) }
 {
     let below = path_below(alloc, path, Step::Field(field.name.as_str()))?;
     let node = build(
@@ -153,9 +147,8 @@ fn build_map<Z: SizeSet>(
     nullable: bool,
     keys: &[Text],
 ) -> Result<PlanNode, AllocError>
-    requires limit { IsLimit Z.BITS arena.old.limit }
-    ensures kept { IsKept arena.old arena.new }
-    ensures built { IfOk result (BuildsSort Z.holds arena.old arena.new pools.now path.now (map_of map.now) keys.now nullable) }
+    requires { IsLimit Z.BITS arena.old.limit }
+    ensures { IfOk result (BuildsSort Z.holds arena.old arena.new pools.now path.now (map_of map.now) keys.now nullable) }
 {
     map.value.reveal_invariant();
     let below = path_below(alloc, path, Step::Value)?;
@@ -184,9 +177,8 @@ fn build_list<Z: SizeSet>(
     nullable: bool,
     keys: &[Text],
 ) -> Result<PlanNode, AllocError>
-    requires limit { IsLimit Z.BITS arena.old.limit }
-    ensures kept { IsKept arena.old arena.new }
-    ensures built { IfOk result (BuildsSort Z.holds arena.old arena.new pools.now path.now (list_of list.now) keys.now nullable) }
+    requires { IsLimit Z.BITS arena.old.limit }
+    ensures { IfOk result (BuildsSort Z.holds arena.old arena.new pools.now path.now (list_of list.now) keys.now nullable) }
 {
     list.item.reveal_invariant();
     let below = path_below(alloc, path, Step::Item)?;
@@ -236,9 +228,7 @@ fn build_leaf<Z: SizeSet>(
 ) -> Result<PlanNode, AllocError>
     requires limit { arena.old.limit < Z.BITS }
     requires leaf { where_fixed (option_map (λ ts. trees_of ts.now) fixed) Leaf (sort_at (node_of node.now)) ≡ Leaf }
-    ensures kept { IsKept arena.old arena.new }
-    ensures built { IfOk result (λ n. (keys : List (List ℕ)) → RuleOfParts.takes_null pools.now path.now (node_of node.now) ≡ nullable
-        → Builds Z.holds arena.old arena.new pools.now (option_map (λ ts. trees_of ts.now) fixed.entry) path.now (node_of node.now) keys n) }
+    ensures { IfOk result (BuildsLeaf Z.holds arena.old arena.new pools.now (option_map (λ ts. trees_of ts.now) fixed.entry) path.now (node_of node.now) nullable) }
 {
     let entry = leaf_entry(arena, alloc, pools, fixed, path, node, nullable)?;
     arena.add(entry)

@@ -8,7 +8,7 @@ ghost use Rattle.plan.specs.Sets.{IsSum};
 ghost use Rattle.plan.specs.Samples.Sites.{Slot};
 ghost use Rattle.plan.specs.Samples.Sizes.{HasSize, Ending, IsUpTo};
 ghost use Rattle.plan.specs.Samples.Presence.{with_bit, meets_seen};
-ghost use Rattle.plan.specs.Internal.Tables.{IsClosed, AreMet, IsLevel, IsTable, HasShape, AreChoices, AreShaped, AreTables};
+ghost use Rattle.plan.specs.Internal.Tables.{IsClosed, AreMet, IsLevel, IsTable, HasShape, AreChoices, AreShaped, AreTables, MakesLevel, MakesTable};
 ghost use Rattle.plan.specs.Internal.Tables;
 ghost use Rattle.plan.specs.declared.rows.Choice.{Choice as ChoiceDeclared};
 
@@ -141,8 +141,7 @@ fn slot_level<Z: SizeSet>(
     requires wide { length without.now ≡ Tables.columns bounds (before + 1) }
     requires alike { length with.now ≡ Tables.columns bounds (before + 1) }
     ensures whole { IfOk result (λ level. length level.items ≡ Tables.columns bounds before) }
-    ensures level { IfOk result (λ level. (P : Pools) (s : Slot) (ss : List Slot) (e : Ending) (seen : ℕ) → e.bounds ≡ bounds → IsUpTo limit (Z.holds choice.now.sizes) (HasSize P s.site) → choice.now.must ≡ s.must → IsLevel Z.holds limit e P ss seen without.now
-        → IsLevel Z.holds limit e P ss (with_bit s.bit seen) with.now → IsLevel Z.holds limit e P (s ∷ ss) seen level.items) }
+    ensures level { IfOk result (λ level. MakesLevel Z.holds limit bounds choice.now without.now with.now level.items) }
 {
     let mut level = Vec::with_capacity(alloc, columns(bounds, before))?;
     let last = with.len() - 1;
@@ -178,7 +177,7 @@ fn slot_table<Z: SizeSet>(
     requires closed { IsClosed (length after.now) choice.now.bit }
     requires shape { HasShape (length after.now) (Tables.columns bounds (before + 1)) after.now }
     ensures shape { IfOk result (λ table. HasShape (length after.now) (Tables.columns bounds before) table.items) }
-    ensures table { IfOk result (λ table. (P : Pools) (s : Slot) (ss : List Slot) (e : Ending) → e.bounds ≡ bounds → IsUpTo limit (Z.holds choice.now.sizes) (HasSize P s.site) → choice.now.must ≡ s.must → choice.now.bit ≡ s.bit → IsTable Z.holds limit e P ss after.now → IsTable Z.holds limit e P (s ∷ ss) table.items) }
+    ensures table { IfOk result (λ table. MakesTable Z.holds limit bounds choice.now after.now table.items) }
 {
     let mut table = Vec::with_capacity(alloc, after.len())?;
     for seen in 0..after.len() {

@@ -1,35 +1,35 @@
 -- What is found with the keywords of a place are all reasons of a rule there.
-use Rattle.std.proofs.Common.{◌≡◌, ◌<◌, ◌+◌, ℕ, List, [], ◌∷◌, ◌++◌, length, take, get_or, true, false, Option, Some, None, refl, sym, ap, ◌∙◌, subst, inl, inr, arith}
-use Rattle.std.specs.Prelude.{◌↔◌, Contains, IsTrue}
-use Rattle.std.specs.Cmp.{nat_cmp_is}
-use Rattle.std.specs.Ordering.{nat_cmp}
+use Rattle.std.proofs.Common.{◌≡◌, ◌<◌, ◌+◌, ℕ, suc, List, [], ◌∷◌, ◌++◌, length, take, get_or, map, true, false, Option, Some, None, refl, sym, ap, ◌∙◌, subst, inl, inr, arith}
+use Rattle.std.specs.Prelude.{◌↔◌, option_map, IsTrue}
+use Rattle.std.specs.List.{slice_get, range_with_len}
 use Rattle.std.specs.Option.{is_some}
 use Rattle.std.specs.Str.{bytes_eq}
 use Rattle.std.specs.declared.cmp.Ordering.TheVariants.{Less}
-use Rattle.std.proofs.lemmas.Cmp.{nat_list_cmp_total, tied_itself}
 use Rattle.std.proofs.lemmas.List.{append-nil, map-append, take_more}
 use Rattle.std.proofs.lemmas.Grind.{flat_map-append}
-use Rattle.std.proofs.lemmas.Option.{same_Some}
+use Rattle.std.proofs.lemmas.List.FromFn.{get_or-range_with_len}
+use Rattle.std.proofs.lemmas.Option.{same_Some, slice_get-map, slice_get_within, slice_get-get_or, get_or_from_slice_get}
 use Rattle.jtree.specs.Data.{Data, object, AreMembers}
 use Rattle.jtree.specs.Order.{text_cmp}
 use Rattle.jtree.specs.Path.{member_at}
 use Rattle.jtree.specs.View.{members_of}
 use Rattle.jtree.specs.declared.value.Member.{Member}
 use Rattle.jtree.specs.Internal.Lookups.{bool_cases, same_name, own_name, before_each}
-use Rattle.jtree.specs.Internal.Rising.{Among, Rising, contained, contains, each_of, all_pairs, among_left, among_right, among_parts, rising_join}
+use Rattle.jtree.specs.Internal.Rising.{Among, Rising, index_of, contained, contains, each_of, all_pairs, among_left, among_right, among_parts, rising_join}
 use Rattle.schema.specs.Internal.PlaceView.{place_of}
 use Rattle.schema.specs.Internal.Subschemas.{IsSubschema}
 use Rattle.schema.specs.Internal.Taken.{Taken}
-use Rattle.schema.specs.Internal.Findings.{all_reasons, findings_at, findings_among, ExplainedBy, AddsFindings}
+use Rattle.schema.specs.Internal.Findings.{findings_at, findings_among, ExplainedBy, AddsFindings}
 use Rattle.schema.specs.Rules.Keywords.{has}
 use Rattle.schema.specs.Rules.Reasons.{Explains, HasReason}
-use Rattle.schema.specs.Rules.Explained.{position, finding, finding_cmp, AreFindings}
+use Rattle.schema.specs.Rules.ReasonTable.{all_reasons, StandsAt, Precedes}
+use Rattle.schema.specs.Rules.Explained.{finding, IsBefore, AreFindings}
 use Rattle.schema.specs.declared.listing.Subschema.{Subschema}
 use Rattle.schema.specs.declared.violation.Rule.{Rule}
 use Rattle.schema.specs.declared.reason.Reason.{Reason}
 use Rattle.schema.specs.declared.reason.Reason.TheVariants.{NotInBranches, TypeInBranch, NotSupported, KeysOfOtherList, NoKeys, NoItems, ItemsNotObjects, ItemsNotScalars, NullableItems, RepeatedKey, UndeclaredKey, KeyNotScalar, NullableKey, OptionalKey, MisplacedJunctor, NotInScalarBranches, NotInPresenceBranches, TooManyNames, EmptyEnum, EnumNotScalars, EnumOfOtherKind, UndeclaredField, RootNotObject, NotAtRoot, UnknownType, NotWithPreserving, NotOfScalars, NotOfLists, NotOfObjects, NotOfOpenPlaces, AdditionalPropertiesTrue}
 use Rattle.schema.specs.declared.reason.Finding.{Finding}
-use Rattle.schema.proofs.TakenLemmas.{Same, Chained, chain_first, chain_tail, same_each, same_all, same_rising, adds_join, adds_one, adds_nothing}
+use Rattle.schema.proofs.TakenLemmas.{Same, same_each, same_all, same_rising, adds_join, adds_one, adds_nothing}
 
 -- ---- one more reason, and one more keyword
 
@@ -63,46 +63,63 @@ found_member v r members i m mid new within at here h =
     ap findings_among more ∙ flat_map-append cands (take i members) (m ∷ []) ∙ ap (λ fs. findings_among (take i members) ++ fs) (append-nil (cands m)) in
     subst (λ fs. AddsFindings v r fs [] new) (sym split) (adds_join (findings_among (take i members)) (cands m) [] mid new (λ raw known. known) h here)
 
--- ---- all reasons are there, and in order
+-- ---- the table of the reasons
 
-listed : (c : Reason) → Contains all_reasons c
-listed NotInBranches = (0, omega arith, refl)
-listed TypeInBranch = (1, omega arith, refl)
-listed NotSupported = (2, omega arith, refl)
-listed KeysOfOtherList = (3, omega arith, refl)
-listed NoKeys = (4, omega arith, refl)
-listed NoItems = (5, omega arith, refl)
-listed ItemsNotObjects = (6, omega arith, refl)
-listed ItemsNotScalars = (7, omega arith, refl)
-listed NullableItems = (8, omega arith, refl)
-listed RepeatedKey = (9, omega arith, refl)
-listed UndeclaredKey = (10, omega arith, refl)
-listed KeyNotScalar = (11, omega arith, refl)
-listed NullableKey = (12, omega arith, refl)
-listed OptionalKey = (13, omega arith, refl)
-listed MisplacedJunctor = (14, omega arith, refl)
-listed NotInScalarBranches = (15, omega arith, refl)
-listed NotInPresenceBranches = (16, omega arith, refl)
-listed TooManyNames = (17, omega arith, refl)
-listed EmptyEnum = (18, omega arith, refl)
-listed EnumNotScalars = (19, omega arith, refl)
-listed EnumOfOtherKind = (20, omega arith, refl)
-listed UndeclaredField = (21, omega arith, refl)
-listed RootNotObject = (22, omega arith, refl)
-listed NotAtRoot = (23, omega arith, refl)
-listed UnknownType = (24, omega arith, refl)
-listed NotWithPreserving = (25, omega arith, refl)
-listed NotOfScalars = (26, omega arith, refl)
-listed NotOfLists = (27, omega arith, refl)
-listed NotOfObjects = (28, omega arith, refl)
-listed NotOfOpenPlaces = (29, omega arith, refl)
-listed AdditionalPropertiesTrue = (30, omega arith, refl)
+abbrev listed : (c : Reason) → (n : ℕ) × StandsAt c n
+listed NotInBranches = (0, refl)
+listed TypeInBranch = (1, refl)
+listed NotSupported = (2, refl)
+listed KeysOfOtherList = (3, refl)
+listed NoKeys = (4, refl)
+listed NoItems = (5, refl)
+listed ItemsNotObjects = (6, refl)
+listed ItemsNotScalars = (7, refl)
+listed NullableItems = (8, refl)
+listed RepeatedKey = (9, refl)
+listed UndeclaredKey = (10, refl)
+listed KeyNotScalar = (11, refl)
+listed NullableKey = (12, refl)
+listed OptionalKey = (13, refl)
+listed MisplacedJunctor = (14, refl)
+listed NotInScalarBranches = (15, refl)
+listed NotInPresenceBranches = (16, refl)
+listed TooManyNames = (17, refl)
+listed EmptyEnum = (18, refl)
+listed EnumNotScalars = (19, refl)
+listed EnumOfOtherKind = (20, refl)
+listed UndeclaredField = (21, refl)
+listed RootNotObject = (22, refl)
+listed NotAtRoot = (23, refl)
+listed UnknownType = (24, refl)
+listed NotWithPreserving = (25, refl)
+listed NotOfScalars = (26, refl)
+listed NotOfLists = (27, refl)
+listed NotOfObjects = (28, refl)
+listed NotOfOpenPlaces = (29, refl)
+listed AdditionalPropertiesTrue = (30, refl)
 
-all_chained : Chained position all_reasons
-all_chained = (omega arith, (omega arith, (omega arith, (omega arith, (omega arith, (omega arith, (omega arith, (omega arith, (omega arith, (omega arith, (omega arith, (omega arith, (omega arith, (omega arith, (omega arith, (omega arith, (omega arith, (omega arith, (omega arith, (omega arith, (omega arith, (omega arith, (omega arith, (omega arith, (omega arith, (omega arith, (omega arith, (omega arith, (omega arith, (omega arith, tt))))))))))))))))))))))))))))))
+pub reason_stands_once : (c : Reason) → (n : ℕ) × StandsAt c n × ((m : ℕ) → StandsAt c m → m ≡ n)
+reason_stands_once c = ((listed c).0, (listed c).1, λ m at.
+    let place = λ (d : Reason). (listed d).0 in
+    let places : map place all_reasons ≡ range_with_len 0 31 = refl in
+    let placed : slice_get (range_with_len 0 31) m ≡ Some (place c) = subst (λ ns. slice_get ns m ≡ Some (place c)) places (slice_get-map place all_reasons m ∙ ap (option_map place) at) in
+    let within : m < 31 = slice_get_within (range_with_len 0 31) m (place c) placed in
+    let found : m ≡ place c = omega (arith, get_or-range_with_len 0 31 m 0 within, get_or_from_slice_get (range_with_len 0 31) m (place c) 0 placed) in
+    found)
 
-abbrev IsLess : Finding → Finding → Type 0
-IsLess f g = finding_cmp f g ≡ Less
+standing : (reasons : List Reason) (n : ℕ) (c : Reason) → slice_get reasons n ≡ Some c → Among reasons c
+standing reasons n c at = contained reasons c (n, slice_get_within reasons n c at, get_or_from_slice_get reasons n c c at)
+
+-- what stands in the table from a place on
+after : (reasons : List Reason) (i : ℕ) → ((j : ℕ) → slice_get all_reasons (i + j) ≡ slice_get reasons j) → Rising Precedes reasons
+after [] i at = tt
+after (c ∷ reasons) i at = (
+  λ d a. let r = index_of reasons d d a in let here : i ≡ i + 0 = omega arith in (i, i + suc r.0, omega arith, ap (slice_get all_reasons) here ∙ at 0, at (suc r.0) ∙ slice_get-get_or reasons r.0 d r.1 ∙ ap Some r.2),
+  after reasons (suc i) (λ j. let moved : suc i + j ≡ i + suc j = omega arith in ap (slice_get all_reasons) moved ∙ at (suc j)),
+)
+
+table_rising : Rising Precedes all_reasons
+table_rising = after all_reasons 0 (λ j. let same : 0 + j ≡ j = omega arith in ap (slice_get all_reasons) same)
 
 among_findings : (k : List ℕ) (reasons : List Reason) (c : Reason) → Among reasons c → Among (findings_at k reasons) (finding k c)
 among_findings k [] c a = a
@@ -114,17 +131,11 @@ from_findings k [] f a = elim a [ ]
 from_findings k (d ∷ reasons) f (inl e) = (d, inl refl, e)
 from_findings k (d ∷ reasons) f (inr a) = let g = from_findings k reasons f a in (g.0, inr g.1, g.2)
 
-reason_before : (k : List ℕ) (c d : Reason) → position c < position d → IsLess (finding k c) (finding k d)
-reason_before k c d lower =
-    let tied = tied_itself nat_list_cmp_total k in
-    let less : Less ≡ nat_cmp (position c) (position d) = nat_cmp_is (position c) (position d) Less lower in
-    rw (tied, ← less) refl
-
-reasons_rising : (k : List ℕ) (reasons : List Reason) → Chained position reasons → Rising IsLess (findings_at k reasons)
+reasons_rising : (k : List ℕ) (reasons : List Reason) → Rising Precedes reasons → Rising IsBefore (findings_at k reasons)
 reasons_rising k [] h = tt
 reasons_rising k (c ∷ reasons) h = (
-  λ g a. let f = from_findings k reasons g a in subst (IsLess (finding k c)) f.2 (reason_before k c f.0 (chain_first position c reasons h f.0 f.1)),
-  reasons_rising k reasons (chain_tail position c reasons h),
+  λ g a. let f = from_findings k reasons g a in subst (IsBefore (finding k c)) f.2 (inr (refl, h.0 f.0 f.1)),
+  reasons_rising k reasons h.1,
 )
 
 -- ---- the keywords of a place
@@ -164,20 +175,20 @@ to_among : (members : List Member) (m : Member) (c : Reason) → Among members m
 to_among [] m c a = elim a [ ]
 to_among (n ∷ members) m c (inl e) =
     among_left (findings_at n.name all_reasons) (findings_among members) (finding m.name c)
-    (subst (λ x. Among (findings_at n.name all_reasons) (finding x.name c)) e (among_findings n.name all_reasons c (contained all_reasons c (listed c))))
+    (subst (λ x. Among (findings_at n.name all_reasons) (finding x.name c)) e (among_findings n.name all_reasons c (standing all_reasons (listed c).0 c (listed c).1)))
 to_among (n ∷ members) m c (inr a) = among_right (findings_at n.name all_reasons) (findings_among members) (finding m.name c) (to_among members m c a)
 
-keyword_before : (k l : List ℕ) (c d : Reason) → text_cmp k l ≡ Less → IsLess (finding k c) (finding l d)
-keyword_before k l c d less = rw less refl
+keyword_before : (k l : List ℕ) (c d : Reason) → text_cmp k l ≡ Less → IsBefore (finding k c) (finding l d)
+keyword_before k l c d less = inl less
 
-among_rising : (members : List Member) → AreMembers (members_of members) → Rising IsLess (findings_among members)
+among_rising : (members : List Member) → AreMembers (members_of members) → Rising IsBefore (findings_among members)
 among_rising [] are = tt
 among_rising (n ∷ members) are =
-    rising_join IsLess (findings_at n.name all_reasons) (findings_among members) (reasons_rising n.name all_reasons all_chained) (among_rising members are.2) (λ f g here there.
+    rising_join IsBefore (findings_at n.name all_reasons) (findings_among members) (reasons_rising n.name all_reasons table_rising) (among_rising members are.2) (λ f g here there.
     let a = from_findings n.name all_reasons f here in
     let b = from_among members g there in
-    let less : IsLess (finding n.name a.0) (finding b.0.name b.1) = keyword_before n.name b.0.name a.0 b.1 (name_before members n b.0 are b.2) in
-    subst (λ x. IsLess x g) a.2 (subst (λ x. IsLess (finding n.name a.0) x) b.3 less))
+    let less : IsBefore (finding n.name a.0) (finding b.0.name b.1) = keyword_before n.name b.0.name a.0 b.1 (name_before members n b.0 are b.2) in
+    subst (λ x. IsBefore x g) a.2 (subst (λ x. IsBefore (finding n.name a.0) x) b.3 less))
 
 -- ---- all reasons of a rule at a place
 
@@ -203,5 +214,5 @@ findings_are v r members findings are whole h raw is =
           let m = there_member members k (subst (λ ms. is_some (member_at k ms) ≡ true) (sym whole) own) in
           let cand : Among cands (finding k c) = subst (λ l. Among cands (finding l c)) m.2 (to_among members m.0 c m.1) in
           contains findings (finding k c) (same_all P cands findings (finding k c) taken cand (subst (λ u. Explains raw p u r k c) same explains));
-      ascending = all_pairs IsLess findings (same_rising P IsLess cands findings taken (among_rising members (subst AreMembers (sym whole) are)));
+      ascending = all_pairs IsBefore findings (same_rising P IsBefore cands findings taken (among_rising members (subst AreMembers (sym whole) are)));
     }

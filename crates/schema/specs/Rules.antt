@@ -7,4 +7,5 @@ pub mod Junctors
 pub mod Broken
 pub mod Breaks
 pub mod Reasons
+pub mod ReasonTable
 pub mod Explained

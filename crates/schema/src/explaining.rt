@@ -4,9 +4,9 @@ ghost use Rattle.jtree.specs.Data.{Data};
 ghost use Rattle.schema.specs.Internal.PlaceView.{place_of};
 ghost use Rattle.schema.specs.Internal.Subschemas.{IsSubschema};
 ghost use Rattle.schema.specs.Internal.ReasonParts.{AreFacts};
-ghost use Rattle.schema.specs.Internal.Findings;
 ghost use Rattle.schema.specs.Internal.Findings.{findings_at, AddsFindings};
 ghost use Rattle.schema.specs.Rules.Broken.{Broken};
+ghost use Rattle.schema.specs.Rules.ReasonTable;
 ghost use Rattle.schema.specs.Rules.Explained.{AreFindings, IsExplained, AreExplained};
 ghost use Rattle.schema.specs.declared.fault.SFault.TheVariants.{NoMemory};
 
@@ -77,7 +77,7 @@ fn findings_of(
 
 /// All reasons, in order.
 fn all_reasons() -> [Reason; 31]
-    ensures { result ≡ Findings.all_reasons }
+    ensures { result ≡ ReasonTable.all_reasons }
 {
     [
         Reason::NotInBranches,

@@ -1,11 +1,13 @@
 //! Laws: calls that run nothing, for what their contracts say.
-ghost use Rattle.std.specs.Prelude.{◌≡◌, ◌↔◌, true, Bool, Some};
+ghost use Rattle.std.specs.Prelude.{◌≡◌, ◌↔◌, ℕ, true, Bool, Some};
 ghost use Rattle.schema.specs.Document.Limits.{standard, large};
 ghost use Rattle.jtree.specs.Data.{Data};
 ghost use Rattle.schema.specs.Document.Places.{Place};
 ghost use Rattle.schema.specs.Rules.Broken.{Broken};
 ghost use Rattle.schema.specs.Rules.Reasons.{HasSomeReason, has_reasons};
+ghost use Rattle.schema.specs.Rules.ReasonTable.{StandsAt};
 ghost use Rattle.schema.specs.declared.violation.Rule.{Rule};
+ghost use Rattle.schema.specs.declared.reason.Reason.{Reason};
 ghost use Rattle.schema.specs.Nodes.Node.{Node};
 ghost use Rattle.schema.specs.Nodes.ByPlace.{AreNodesOf, node_at};
 ghost use Rattle.schema.specs.Nodes.Shape.{IsRootOf};
@@ -24,6 +26,11 @@ pub fn limits_by_name()
 /// of them has a reason, and a reason makes a violation.
 pub fn broken_for_a_reason()
     ensures { (raw : Data) (p : Place) (r : Rule) → has_reasons r ≡ true → Broken raw p r ↔ HasSomeReason raw p r }
+{}
+
+/// Each reason stands at exactly one place of the table that orders them.
+pub fn reasons_stand_once()
+    ensures { (c : Reason) → (n : ℕ) × StandsAt c n × ((m : ℕ) → StandsAt c m → m ≡ n) }
 {}
 
 /// A schema has at most one tree of nodes, one for each of its places that is in no branch of a junctor and not of the envelope. So

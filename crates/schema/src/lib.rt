@@ -57,5 +57,5 @@ pub use reason::{Explained, Finding, Reason};
 pub use refusal::{BrokenForm, Part, Refusal};
 pub use refused::Refused;
 pub use shaped::Shape;
-pub use shaping::shape;
+pub use shaping::{shape, shape_of_unbroken};
 pub use violation::{Rule, Violation};

@@ -43,9 +43,18 @@ pub fn shape(alloc: Global, raw: &RawSchema) -> Result<Shape, Refused>
     ensures refused { IfErr result (IsShapeRefusal raw.now) }
 {
     match check_rules(alloc, raw) {
-        Ok(()) => Ok(Shape::new(read_root(alloc, raw)?)),
+        Ok(()) => Ok(shape_of_unbroken(alloc, raw)?),
         Err(refused) => Err(refused),
     }
+}
+
+/// The nodes of a schema that is known to break none of these rules, as `shape` answers them, without judging it again. `AllocError`
+/// where an allocation fails.
+pub fn shape_of_unbroken(alloc: Global, raw: &RawSchema) -> Result<Shape, AllocError>
+    requires { BreaksNone raw.now }
+    ensures { IfOk result (λ s. AreNodesOf true s raw.now) }
+{
+    Ok(Shape::new(read_root(alloc, raw)?))
 }
 
 /// The node of a whole schema.

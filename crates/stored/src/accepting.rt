@@ -7,7 +7,7 @@ ghost use Rattle.stored.specs.Schemas.Accepted.{IsBroken, IsRootOf, IsSchema, Is
 ghost use Rattle.stored.specs.Internal.DefaultList.{defaults_of, AreAdded};
 
 use crate::defaults::find_bad;
-use schema::{Node, RawSchema, Refused, Shape, Violation, shape};
+use schema::{Node, RawSchema, Refused, Shape, Violation, shape, shape_of_unbroken};
 use std::alloc::{AllocError, Global};
 use std::marker::Model;
 
@@ -53,7 +53,32 @@ impl Schema {
 pub fn violations(alloc: Global, raw: &RawSchema) -> Result<Vec<Violation>, AllocError>
     ensures { IfOk result (λ vs. AreViolations (IsBroken raw.now) vs.items) }
 {
-    match judge(alloc, raw) {
+    broken_of(alloc, raw, judge(alloc, raw))
+}
+
+/// The violations of V14 of a schema that is known to break none of the other rules, as `violations` answers them.
+pub(crate) fn bad_default_violations(
+    alloc: Global,
+    raw: &RawSchema,
+) -> Result<Vec<Violation>, AllocError>
+    requires { BreaksNone raw.now }
+    ensures { IfOk result (λ vs. AreViolations (IsBroken raw.now) vs.items) }
+{
+    let shape = shape_of_unbroken(alloc, raw)?;
+    broken_of(alloc, raw, judge_defaults(alloc, raw, shape))
+}
+
+/// All that is broken in a schema that was judged so.
+fn broken_of(
+    alloc: Global,
+    raw: &RawSchema,
+    judged: Result<Shape, Refused>,
+) -> Result<Vec<Violation>, AllocError>
+    requires accepted { IfOk judged (λ s. IsRootOf s raw.now) }
+    requires refused { IfErr judged (IsRefusal raw.now) }
+    ensures { IfOk result (λ vs. AreViolations (IsBroken raw.now) vs.items) }
+{
+    match judged {
         Ok(shape) => {
             drop(shape);
             Ok(Vec::new(alloc))

@@ -1,7 +1,7 @@
 -- What the calls of a walk answer: what is found, the candidates that continue it, and what it takes, whatever is answered.
 use Rattle.plan.specs.Samples.Sites.{Slot}
 use Rattle.jtree.specs.Nodes.{node_count, members_count, items_count}
-use Rattle.std.specs.Prelude.{◌↔◌, Bool, IsTrue, Result, IfOk, OnOk, List, ℕ, drop, length}
+use Rattle.std.specs.Prelude.{◌↔◌, ◌+◌, ◌*◌, Bool, IsTrue, Result, IfOk, OnOk, List, ℕ, drop, length}
 use Rattle.std.specs.Borrow.{Bor}
 use Rattle.jtree.specs.Data.{Data}
 use Rattle.jtree.specs.Order.{tree_cmp}
@@ -17,7 +17,7 @@ use Rattle.enumerate.specs.Internal.Moves.{IsNextTree, MovesMembers, MovesMember
 use Rattle.enumerate.specs.Internal.Nodes.{Costs}
 use Rattle.enumerate.specs.Internal.Rows.{slots_from, IsGrownAt, CostsAfter}
 use Rattle.enumerate.specs.Internal.Steps.{KeepsMeter, CostsMembers, CostsMember, CostsItems}
-use Rattle.enumerate.specs.Internal.Walks.{MovesSlot, AreLeft}
+use Rattle.enumerate.specs.Internal.Walks.{MovesSlot, AreLeft, CostsSlot}
 use Rattle.enumerate.specs.declared.list.ListNode.{ListNode}
 use Rattle.enumerate.specs.declared.row.RowSlot.{RowSlot}
 use Rattle.enumerate.specs.declared.row.Ahead.{Ahead}
@@ -63,10 +63,14 @@ pub record ItemsGrow {E : Type 0} (r : Result NextParts E) (q : Question) (l : L
   pub last : IfOk r (λ next. KeepsMeter next before after)
 
 -- a move at a slot, where it was walked up to it before
-pub record MovesAt {E : Type 0} (r : Result NextParts E) (q : Question) (t : RowSlot) (before : Removed) (used : List Data) (old : List Member) (after : Removed) (new : List Member) (stack : List (Bor Tree)) (costs : Type 0) : Type 0 where
+pub record MovesAt {E : Type 0} (r : Result NextParts E) (q : Question) (t : RowSlot) (before : Removed) (used : List Data) (old : List Member) (after : Removed) (new : List Member) (stack : List (Bor Tree)) (earlier later m : ℕ) : Type 0 where
   pub ok : IfOk r (λ next. MovesSlot next q t before used old after new)
   pub following : IfOk r (λ next. GrownContinue next q.pools (slots_from q t.node 0) used new (stack_of stack))
-  pub steps : costs
+  pub steps : CostsSlot r q t.node before.room earlier later m
+
+-- with steps for three times the members, and for what was removed
+abbrev pub MovesMembersAt : {E : Type 0} → Result NextParts E → Question → RowSlot → Removed → List Data → List Member → Removed → List Member → List (Bor Tree) → ℕ → ℕ → Type 0
+MovesMembersAt r q t before used old after new stack earlier later = MovesAt r q t before used old after new stack earlier later (3 * members_count (members_of old) + before.room)
 
 -- a move of all members of a row
 pub record MovesRow {E : Type 0} (r : Result NextParts E) (q : Question) (i : ℕ) (rows : List Data) (old new : List Member) (stack : List (Bor Tree)) (before after : ℕ) : Type 0 where

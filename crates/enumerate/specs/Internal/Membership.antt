@@ -26,9 +26,13 @@ pub record MakeUnusedRow (P : Pools) (ss : List Slot) (end : Ending) (x : Before
   pub ends : CanFill P [] end (state_after ss fillings x) 0
   pub unused : still_left ss fillings used ≡ []
 
+-- of the slots of a row from a place on
+abbrev pub MakeUnusedRowFrom : Question → ℕ → ℕ → Before → List Data → Members → Type 0
+MakeUnusedRowFrom q i place x used ms = MakeUnusedRow q.pools (slots_from q i place) (ending_at q i) x used ms
+
 -- an object that is a part, and differs from each used row in the value of some key
 abbrev pub IsUnusedRow : Question → ℕ → List Data → Data → Type 0
-IsUnusedRow q i used v = (ms : Members) × ((v ≡ tree.object ms) × MakeUnusedRow q.pools (slots_from q i 0) (ending_at q i) nothing used ms)
+IsUnusedRow q i used v = (ms : Members) × ((v ≡ tree.object ms) × MakeUnusedRowFrom q i 0 nothing used ms)
 
 -- a list that is a part
 abbrev pub IsListOf : Question → ℕ → Data → Type 0

@@ -7,14 +7,14 @@ ghost use Rattle.jtree.specs.Nodes.{node_count, members_count};
 ghost use Rattle.jtree.specs.View.{data_of, members_of};
 ghost use Rattle.plan.specs.Samples.Part.{IsPart};
 ghost use Rattle.enumerate.specs.Page.{IsPast};
-ghost use Rattle.enumerate.specs.Internal.Answers.{MovesRemoved, MovesRow, FindsNext, GrowsAt, MovesAt};
+ghost use Rattle.enumerate.specs.Internal.Answers.{MovesRemoved, MovesRow, FindsNext, GrowsAt, MovesAt, MovesMembersAt};
 ghost use Rattle.enumerate.specs.Internal.Candidates.{used_rows};
 ghost use Rattle.enumerate.specs.Internal.Moves.{AreMembersOf, WasAt};
 ghost use Rattle.enumerate.specs.Internal.Nodes.{IsNodeOfSort, site};
 ghost use Rattle.enumerate.specs.Internal.Prefixes.{EndsIn};
 ghost use Rattle.enumerate.specs.Internal.Rows.{HasRoom, slots_from, IsRow, slot_there, IsRowSlot, IsOpenAt, IsValueAt, AreUsedAt, AreUsed, FitsAt, larger};
 ghost use Rattle.enumerate.specs.Internal.Steps.{CostsTree};
-ghost use Rattle.enumerate.specs.Internal.Walks.{IsReached, CostsSlot};
+ghost use Rattle.enumerate.specs.Internal.Walks.{IsReached};
 ghost use Rattle.plan.specs.declared.sort.Sort.TheVariants as sort;
 
 use crate::names::keep_name;
@@ -99,7 +99,7 @@ impl<'p, Z: SizeSet> Walk<'p, Z> {
         meter: &mut Meter,
     ) -> Result<NextParts, AllocError>
         requires { IsReached self.now.plan.now here.now removed.old (used_rows used.now) members.old.items }
-        ensures { MovesAt result self.now.plan.now here.now removed.old (used_rows used.now) members.old.items removed.new members.new.items scratch.new.following.items (CostsSlot result self.now.plan.now here.now.node removed.old.room meter.old meter.new (3 * members_count (members_of members.old.items) + removed.old.room)) }
+        ensures { MovesMembersAt result self.now.plan.now here.now removed.old (used_rows used.now) members.old.items removed.new members.new.items scratch.new.following.items meter.old meter.new }
     {
         self.laws_of(here.node);
         if ends_in(members.as_slice(), here.slot.name) {
@@ -121,7 +121,7 @@ impl<'p, Z: SizeSet> Walk<'p, Z> {
     ) -> Result<NextParts, AllocError>
         requires reached { IsReached self.now.plan.now here.now removed.old (used_rows used.now) members.old.items }
         requires filled { EndsIn (slot_there self.now.plan.now here.now).name members.old.items }
-        ensures { MovesAt result self.now.plan.now here.now removed.old (used_rows used.now) members.old.items removed.new members.new.items scratch.new.following.items (CostsSlot result self.now.plan.now here.now.node removed.old.room meter.old meter.new (3 * members_count (members_of members.old.items) + removed.old.room)) }
+        ensures { MovesMembersAt result self.now.plan.now here.now removed.old (used_rows used.now) members.old.items removed.new members.new.items scratch.new.following.items meter.old meter.new }
     {
         self.laws_of(here.node);
         let Some(member) = members.pop() else {
@@ -155,7 +155,7 @@ impl<'p, Z: SizeSet> Walk<'p, Z> {
     ) -> Result<NextParts, AllocError>
         requires reached { IsReached self.now.plan.now here.now removed.now (used_rows used.now) members.old.items }
         requires empty { EndsIn (slot_there self.now.plan.now here.now).name members.old.items → ⊥ }
-        ensures { MovesAt result self.now.plan.now here.now removed.now (used_rows used.now) members.old.items removed.now members.new.items scratch.new.following.items (CostsSlot result self.now.plan.now here.now.node removed.now.room meter.old meter.new removed.now.room) }
+        ensures { MovesAt result self.now.plan.now here.now removed.now (used_rows used.now) members.old.items removed.now members.new.items scratch.new.following.items meter.old meter.new removed.now.room }
     {
         self.laws_of(here.node);
         if removed.room == 0 || !self.fits(here, removed.before, removed.room) {

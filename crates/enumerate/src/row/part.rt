@@ -6,7 +6,7 @@ ghost use Rattle.jtree.specs.Nodes.{node_count, members_count};
 ghost use Rattle.jtree.specs.View.{data_of, members_of};
 ghost use Rattle.enumerate.specs.Internal.Answers.{Decides};
 ghost use Rattle.enumerate.specs.Internal.Candidates.{used_rows};
-ghost use Rattle.enumerate.specs.Internal.Membership.{MakeUnusedRow, IsUnusedRow};
+ghost use Rattle.enumerate.specs.Internal.Membership.{MakeUnusedRow, MakeUnusedRowFrom, IsUnusedRow};
 ghost use Rattle.enumerate.specs.Internal.Nodes.{IsNodeOfSort, IsNodeWithin, Costs};
 ghost use Rattle.enumerate.specs.Internal.Rows.{slots_from, ending_at, CostsSlots};
 ghost use Rattle.plan.specs.declared.sort.Sort.TheVariants as sort;
@@ -60,7 +60,7 @@ impl<'p, Z: SizeSet> Walk<'p, Z> {
         requires place { place ≤ length (slots_from self.now.plan.now node 0) }
         requires count { before.count ≤ place }
         requires limit { before.count + members_count (members_of members.now) < self.now.plan.now.limit }
-        ensures { Decides result (MakeUnusedRow self.now.plan.now.pools (slots_from self.now.plan.now node place) (ending_at self.now.plan.now node) before (used_rows used.now) (members_of members.now)) (CostsSlots self.now.plan.now node place meter.old meter.new (members_count (members_of members.now))) }
+        ensures { Decides result (MakeUnusedRowFrom self.now.plan.now node place before (used_rows used.now) (members_of members.now)) (CostsSlots self.now.plan.now node place meter.old meter.new (members_count (members_of members.now))) }
     {
         self.laws_of(node);
         let Some(slot) = self.plan.slot(node, place, meter) else {

@@ -1,18 +1,18 @@
 -- What is added to a plan for a node: entries for its sites, each after those below it.
-use Rattle.std.specs.Prelude.{◌≡◌, ℕ, ◌+◌, ◌^◌, ◌≤◌, ◌<◌, List, length, Bool, Option, None, All, ◌||◌, is_some}
+use Rattle.std.specs.Prelude.{◌≡◌, ℕ, ◌+◌, ◌^◌, ◌≤◌, ◌<◌, List, [], length, Bool, Option, None, All, ◌||◌, is_some}
 use Rattle.jtree.specs.Data.{Data}
 use Rattle.schema.specs.Document.Texts.{is_among}
 use Rattle.schema.specs.Nodes.Node.{Node, node, Sort, object, map, list, Fields, no_fields, field}
 use Rattle.schema.specs.Nodes.Items.{HasSoundItems}
 use Rattle.schema.specs.Nodes.Junctors.{HasSoundJunctors}
-use Rattle.plan.specs.Pools.Pools.{Pools, is_present}
+use Rattle.plan.specs.Pools.Pools.{Pools, fixed_at, is_present}
 use Rattle.explain.specs.Paths.FieldPath as step
 use Rattle.plan.specs.Samples.Presence.{bit_of}
 use Rattle.plan.specs.Samples.RuleOfParts.{takes_null}
 use Rattle.plan.specs.Samples.Sites.{Site, below, sites_from, sites_of_fields, field_slots}
 use Rattle.plan.specs.Internal.Tables.{IsClosed}
 use Rattle.plan.specs.Internal.Values.{AreValues}
-use Rattle.plan.specs.Internal.Arena.{AreSitesFrom, AreRight, AreSlots, name_of}
+use Rattle.plan.specs.Internal.Arena.{AreSitesFrom, AreRight, AreSlots, IsKept, name_of}
 use Rattle.plan.specs.declared.values.Values.{Values}
 use Rattle.plan.specs.declared.arena.Entry.{Entry}
 use Rattle.plan.specs.declared.arena.Arena.{Arena}
@@ -40,9 +40,13 @@ pub record IsBuilt {Z : Type 0} (holds : Z → ℕ → Type 0) (limit : ℕ) (P 
   pub right : (sites : List Site) → AreValues P v → IsSound N → AreSitesFrom sites (length old) (sites_from P fixed path N keys)
       → AreRight holds limit P v sites old → AreRight holds limit P v sites new
 
--- so it is of what is added to an arena
+-- so it is of what is added to an arena, of which nothing else changes
 abbrev pub Builds : {Z : Type 0} → (Z → ℕ → Type 0) → Arena Z → Arena Z → Pools → Option (List Data) → List ℕ → Node → List (List ℕ) → ℕ → Type 0
-Builds holds old new P fixed path N keys n = IsBuilt holds old.limit P old.values old.entries.items new.entries.items fixed path N keys n
+Builds holds old new P fixed path N keys n = IsKept old new × IsBuilt holds old.limit P old.values old.entries.items new.entries.items fixed path N keys n
+
+-- of a leaf, which takes null or does not
+abbrev pub BuildsLeaf : {Z : Type 0} → (Z → ℕ → Type 0) → Arena Z → Arena Z → Pools → Option (List Data) → List ℕ → Node → Bool → ℕ → Type 0
+BuildsLeaf holds old new P fixed path N nullable n = (keys : List (List ℕ)) → takes_null P path N ≡ nullable → Builds holds old new P fixed path N keys n
 
 -- of a node of this sort, whose values are not fixed, and which takes null or does not
 abbrev pub BuildsSort : {Z : Type 0} → (Z → ℕ → Type 0) → Arena Z → Arena Z → Pools → List ℕ → Sort → List (List ℕ) → Bool → ℕ → Type 0
@@ -55,6 +59,12 @@ pub record IsFieldSlot (P : Pools) (path : List ℕ) (keys named : List (List �
   pub must : s.must ≡ ((required || is_some default) || is_present (below path (step.field name)) P)
   pub key : s.key ≡ is_among name keys
   pub bit : s.bit ≡ bit_of name named
+  pub closed : IsClosed (2 ^ length named) s.bit
+
+-- a field, and all below it
+abbrev pub BuildsField : {Z : Type 0} → (Z → ℕ → Type 0) → Arena Z → Arena Z → Pools → List ℕ → List (List ℕ) → List (List ℕ) → List ℕ → Node → Bool → Option Data → SlotEntry → Type 0
+BuildsField holds old new P path keys named name N required default s =
+    Builds holds old new P (fixed_at (below path (step.field name)) P) (below path (step.field name)) N [] s.node × IsFieldSlot P path keys named name required default s
 
 -- fields and all below them
 pub record AreBuilt {Z : Type 0} (holds : Z → ℕ → Type 0) (limit : ℕ) (P : Pools) (v : Values) (old new : List (Entry Z)) (path : List ℕ) (fs : Fields) (keys named : List (List ℕ)) (slots : List SlotEntry) : Type 0 where
@@ -66,4 +76,4 @@ pub record AreBuilt {Z : Type 0} (holds : Z → ℕ → Type 0) (limit : ℕ) (P
   pub slots_are : (names : List (List ℕ)) (sites : List Site) (i : ℕ) → AreSitesFrom sites (length old) (sites_of_fields P path fs) → length new ≤ i → AreSlots names sites i slots (field_slots P path keys named fs)
 
 abbrev pub BuildsFields : {Z : Type 0} → (Z → ℕ → Type 0) → Arena Z → Arena Z → Pools → List ℕ → Fields → List (List ℕ) → List (List ℕ) → List SlotEntry → Type 0
-BuildsFields holds old new P path fs keys named slots = AreBuilt holds old.limit P old.values old.entries.items new.entries.items path fs keys named slots
+BuildsFields holds old new P path fs keys named slots = IsKept old new × AreBuilt holds old.limit P old.values old.entries.items new.entries.items path fs keys named slots

@@ -47,6 +47,18 @@ IsLevel {Z} holds limit e P ss seen level = (t : ℕ) (z : Z) → t < length lev
 abbrev pub IsTable : {Z : Type 0} → (Z → ℕ → Type 0) → ℕ → Ending → Pools → List Slot → List (Vec Z Global) → Type 0
 IsTable {Z} holds limit e P ss table = (seen : ℕ) (d : Vec Z Global) → seen < length table → IsLevel holds limit e P ss seen (get_or table seen d).items
 
+-- from the level after a slot, and that where it is filled, the level from the slot on, by what the choice says of it
+abbrev pub MakesLevel : {Z : Type 0} → (Z → ℕ → Type 0) → ℕ → Bounds → Choice Z → List Z → List Z → List Z → Type 0
+MakesLevel holds limit b choice without with level =
+    (P : Pools) (s : Slot) (ss : List Slot) (e : Ending) (seen : ℕ) → e.bounds ≡ b → IsUpTo limit (holds choice.sizes) (HasSize P s.site) → choice.must ≡ s.must
+    → IsLevel holds limit e P ss seen without → IsLevel holds limit e P ss (with_bit s.bit seen) with → IsLevel holds limit e P (s ∷ ss) seen level
+
+-- from the table after a slot, that from the slot on
+abbrev pub MakesTable : {Z : Type 0} → (Z → ℕ → Type 0) → ℕ → Bounds → Choice Z → List (Vec Z Global) → List (Vec Z Global) → Type 0
+MakesTable holds limit b choice after table =
+    (P : Pools) (s : Slot) (ss : List Slot) (e : Ending) → e.bounds ≡ b → IsUpTo limit (holds choice.sizes) (HasSize P s.site) → choice.must ≡ s.must → choice.bit ≡ s.bit
+    → IsTable holds limit e P ss after → IsTable holds limit e P (s ∷ ss) table
+
 -- a table has a level for each of `kinds` sets of the named fields, each of `width` columns
 pub record HasShape {Z : Type 0} (kinds width : ℕ) (table : List (Vec Z Global)) : Type 0 where
   pub whole : length table ≡ kinds

@@ -1,26 +1,17 @@
 -- For private contracts: the pairs of a keyword and a reason, which of them hold of a place.
-use Rattle.std.specs.Prelude.{◌≡◌, ℕ, List, [], ◌∷◌, map, flat_map}
+use Rattle.std.specs.Prelude.{◌≡◌, ℕ, List, map, flat_map}
 use Rattle.jtree.specs.Data.{Data, object}
 use Rattle.jtree.specs.declared.value.Member.{Member}
 use Rattle.schema.specs.Internal.PlaceView.{place_of}
 use Rattle.schema.specs.Internal.Subschemas.{IsSubschema}
 use Rattle.schema.specs.Internal.Taken.{Adds}
 use Rattle.schema.specs.Rules.Reasons.{Explains}
+use Rattle.schema.specs.Rules.ReasonTable.{all_reasons}
 use Rattle.schema.specs.Rules.Explained.{finding}
 use Rattle.schema.specs.declared.listing.Subschema.{Subschema}
 use Rattle.schema.specs.declared.violation.Rule.{Rule}
 use Rattle.schema.specs.declared.reason.Reason.{Reason}
-use Rattle.schema.specs.declared.reason.Reason.TheVariants.{NotInBranches, TypeInBranch, NotSupported, KeysOfOtherList, NoKeys, NoItems, ItemsNotObjects, ItemsNotScalars, NullableItems, RepeatedKey, UndeclaredKey, KeyNotScalar, NullableKey, OptionalKey, MisplacedJunctor, NotInScalarBranches, NotInPresenceBranches, TooManyNames, EmptyEnum, EnumNotScalars, EnumOfOtherKind, UndeclaredField, RootNotObject, NotAtRoot, UnknownType, NotWithPreserving, NotOfScalars, NotOfLists, NotOfObjects, NotOfOpenPlaces, AdditionalPropertiesTrue}
 use Rattle.schema.specs.declared.reason.Finding.{Finding}
-
--- all reasons, in order
-abbrev pub all_reasons : List Reason
-all_reasons =
-    NotInBranches ∷ TypeInBranch ∷ NotSupported ∷ KeysOfOtherList ∷ NoKeys ∷ NoItems ∷ ItemsNotObjects ∷
-    ItemsNotScalars ∷ NullableItems ∷ RepeatedKey ∷ UndeclaredKey ∷ KeyNotScalar ∷ NullableKey ∷ OptionalKey ∷
-    MisplacedJunctor ∷ NotInScalarBranches ∷ NotInPresenceBranches ∷ TooManyNames ∷ EmptyEnum ∷ EnumNotScalars ∷
-    EnumOfOtherKind ∷ UndeclaredField ∷ RootNotObject ∷ NotAtRoot ∷ UnknownType ∷ NotWithPreserving ∷
-    NotOfScalars ∷ NotOfLists ∷ NotOfObjects ∷ NotOfOpenPlaces ∷ AdditionalPropertiesTrue ∷ []
 
 abbrev pub findings_at : List ℕ → List Reason → List Finding
 findings_at k reasons = map (finding k) reasons

@@ -1,56 +1,21 @@
 -- All that is broken in a schema, each with all its reasons once: by the bytes of the keyword and then in the order of the
 -- reasons (the order is this project's own).
-use Rattle.std.specs.Prelude.{◌≡◌, ℕ, List, [], ◌∷◌, AllPairs, All, Contains}
-use Rattle.std.specs.Ordering.{nat_cmp, ordering_then}
-use Rattle.std.specs.declared.cmp.Ordering.{Ordering}
+use Rattle.std.specs.Prelude.{◌≡◌, ◌⊎◌, ℕ, List, [], ◌∷◌, AllPairs, All, Contains}
 use Rattle.std.specs.declared.cmp.Ordering.TheVariants.{Less}
 use Rattle.jtree.specs.Data.{Data}
 use Rattle.jtree.specs.Order.{text_cmp}
 use Rattle.schema.specs.Document.Places.{Place}
 use Rattle.schema.specs.Rules.Breaks.{Break, Breaking, AreBreaks, reported, reported_of}
 use Rattle.schema.specs.Rules.Reasons.{HasReason}
+use Rattle.schema.specs.Rules.ReasonTable.{Precedes}
 use Rattle.schema.specs.declared.violation.Rule.{Rule}
 use Rattle.schema.specs.declared.reason.Reason.{Reason}
-use Rattle.schema.specs.declared.reason.Reason.TheVariants.{NotInBranches, TypeInBranch, NotSupported, KeysOfOtherList, NoKeys, NoItems, ItemsNotObjects, ItemsNotScalars, NullableItems, RepeatedKey, UndeclaredKey, KeyNotScalar, NullableKey, OptionalKey, MisplacedJunctor, NotInScalarBranches, NotInPresenceBranches, TooManyNames, EmptyEnum, EnumNotScalars, EnumOfOtherKind, UndeclaredField, RootNotObject, NotAtRoot, UnknownType, NotWithPreserving, NotOfScalars, NotOfLists, NotOfObjects, NotOfOpenPlaces, AdditionalPropertiesTrue}
 use Rattle.schema.specs.declared.reason.Finding.{Finding}
 use Rattle.schema.specs.declared.reason.Explained.{Explained}
 
--- the order of the reasons
-abbrev pub position : Reason → ℕ
-position NotInBranches = 0
-position TypeInBranch = 1
-position NotSupported = 2
-position KeysOfOtherList = 3
-position NoKeys = 4
-position NoItems = 5
-position ItemsNotObjects = 6
-position ItemsNotScalars = 7
-position NullableItems = 8
-position RepeatedKey = 9
-position UndeclaredKey = 10
-position KeyNotScalar = 11
-position NullableKey = 12
-position OptionalKey = 13
-position MisplacedJunctor = 14
-position NotInScalarBranches = 15
-position NotInPresenceBranches = 16
-position TooManyNames = 17
-position EmptyEnum = 18
-position EnumNotScalars = 19
-position EnumOfOtherKind = 20
-position UndeclaredField = 21
-position RootNotObject = 22
-position NotAtRoot = 23
-position UnknownType = 24
-position NotWithPreserving = 25
-position NotOfScalars = 26
-position NotOfLists = 27
-position NotOfObjects = 28
-position NotOfOpenPlaces = 29
-position AdditionalPropertiesTrue = 30
-
-abbrev pub finding_cmp : Finding → Finding → Ordering
-finding_cmp f g = ordering_then (text_cmp f.keyword g.keyword) (nat_cmp (position f.reason) (position g.reason))
+-- by the bytes of the keyword, and then by the table of the reasons
+abbrev pub IsBefore : Finding → Finding → Type 0
+IsBefore f g = (text_cmp f.keyword g.keyword ≡ Less) ⊎ ((f.keyword ≡ g.keyword) × Precedes f.reason g.reason)
 
 abbrev pub finding : List ℕ → Reason → Finding
 finding k c = record { keyword = k; reason = c }
@@ -59,7 +24,7 @@ finding k c = record { keyword = k; reason = c }
 pub record AreFindings (raw : Data) (p : Place) (r : Rule) (findings : List Finding) : Type 0 where
   pub each : All (λ f. HasReason raw p r f.keyword f.reason) findings
   pub all : (k : List ℕ) (c : Reason) → HasReason raw p r k c → Contains findings (finding k c)
-  pub ascending : AllPairs (λ f g. finding_cmp f g ≡ Less) findings
+  pub ascending : AllPairs IsBefore findings
 
 -- a break is reported, with its reasons
 abbrev pub IsExplained : Data → Break → Explained → Type 0

@@ -1,7 +1,8 @@
 use Rattle.std.proofs.Common.{◌≡◌, [], ◌<◌, length, take, sym, ap, ◌∙◌, subst, arith}
 use Rattle.std.proofs.lemmas.List.{take_all}
 use Rattle.jtree.specs.View.{members_of}
-use Rattle.schema.specs.Internal.Findings.{all_reasons, findings_at, findings_among, AddsFindings}
+use Rattle.schema.specs.Rules.ReasonTable.{all_reasons}
+use Rattle.schema.specs.Internal.Findings.{findings_at, findings_among, AddsFindings}
 use Rattle.schema.proofs.TakenLemmas.{adds_none}
 use Rattle.schema.proofs.FindingLemmas.{found_member, findings_are}
 use Rattle.schema.proofs.explaining.findings_of.Goals as goal
