@@ -2,6 +2,7 @@
 use crate::support::comparison::compare_plan;
 use crate::support::given::Given;
 use crate::support::report::Report;
+use crate::support::rows::Row;
 use crate::support::small_nodes::{
     HOLDERS, HOLDERS_OF_SCALARS, Held, Holder, LEAVES, NODES, PRESENCE, SCALARS,
 };
@@ -86,40 +87,27 @@ fn plans_without_pools(rt: HostRuntime) -> Result<(), Fail> {
     report.end(&rt)
 }
 
-/// A list of values for the path of the node that is held.
-struct Listed {
-    name: &'static str,
-    list: &'static str,
-}
-
 /// With values of another kind and a repeat, and without values.
-static LISTS: [Listed; 3] = [
-    Listed {
-        name: "a list of scalars",
-        list: r#"[3,1,"bb",null,true,3]"#,
-    },
-    Listed {
-        name: "a list of other values",
-        list: r#"[{"q":[1]},"a",[]]"#,
-    },
-    Listed {
-        name: "an empty list",
-        list: "[]",
-    },
-];
+static LISTS: &str = r#"
+3 rows: name | list
+a list of scalars | [3,1,"bb",null,true,3]
+a list of other values | [{"q":[1]},"a",[]]
+an empty list | []
+"#;
 
 fn listed_nodes(
     report: &mut Report,
     alloc: Global,
     holder: &Holder,
     nodes: &[Held],
-    row: &Listed,
+    row: &Row,
 ) -> Result<(), AllocError> {
     let pools = format!(in alloc;
         r#"{{"any":["z"],"integers":[0,5],"names":["p"],"strings":["bb","c"],"paths":{{"{}":{}}}}}"#,
-        holder.path, row.list
+        holder.path,
+        row.text("list")
     )?;
-    let name = format!(in alloc; ", {}", row.name)?;
+    let name = format!(in alloc; ", {}", row.name())?;
     let over = Over {
         pools: pools.as_str(),
         limit: 6,
@@ -128,7 +116,7 @@ fn listed_nodes(
     all_nodes(report, alloc, holder, nodes, over)
 }
 
-fn listed_plans(report: &mut Report, alloc: Global, row: &Listed) -> Result<(), AllocError> {
+fn listed_plans(report: &mut Report, alloc: Global, row: &Row) -> Result<(), AllocError> {
     for holder in &HOLDERS {
         listed_nodes(report, alloc, holder, &SCALARS, row)?;
         listed_nodes(report, alloc, holder, &LEAVES, row)?;
@@ -149,33 +137,26 @@ fn plans_with_lists_for_paths(rt: HostRuntime) -> Result<(), Fail> {
 }
 
 /// Fixed values: of each kind with a repeat, and none.
-static FIXED: [Listed; 3] = [
-    Listed {
-        name: "fixed integers and lists",
-        list: r#"[3,{"a":true,"b":1},["bb"],3,[{"k":"z"}]]"#,
-    },
-    Listed {
-        name: "fixed nulls, texts and objects",
-        list: r#"[null,"bb",{},[true,false],{"p":"a"}]"#,
-    },
-    Listed {
-        name: "no fixed value",
-        list: "[]",
-    },
-];
+static FIXED: &str = r#"
+3 rows: name | list
+fixed integers and lists | [3,{"a":true,"b":1},["bb"],3,[{"k":"z"}]]
+fixed nulls, texts and objects | [null,"bb",{},[true,false],{"p":"a"}]
+no fixed value | []
+"#;
 
 fn fixed_nodes(
     report: &mut Report,
     alloc: Global,
     holder: &Holder,
     nodes: &[Held],
-    row: &Listed,
+    row: &Row,
 ) -> Result<(), AllocError> {
     let pools = format!(in alloc;
         r#"{{"any":["z"],"integers":[0],"names":["p"],"strings":["c"],"fixed":{{"{}":{}}}}}"#,
-        holder.path, row.list
+        holder.path,
+        row.text("list")
     )?;
-    let name = format!(in alloc; ", {}", row.name)?;
+    let name = format!(in alloc; ", {}", row.name())?;
     let over = Over {
         pools: pools.as_str(),
         limit: 6,
@@ -184,7 +165,7 @@ fn fixed_nodes(
     all_nodes(report, alloc, holder, nodes, over)
 }
 
-fn fixed_plans(report: &mut Report, alloc: Global, row: &Listed) -> Result<(), AllocError> {
+fn fixed_plans(report: &mut Report, alloc: Global, row: &Row) -> Result<(), AllocError> {
     for holder in &HOLDERS {
         fixed_nodes(report, alloc, holder, &LEAVES, row)?;
         fixed_nodes(report, alloc, holder, &NODES, row)?;

@@ -1,10 +1,11 @@
 //! Enumerations step by step, and walks.
 use crate::support::documents::{LAST_LINES, SIX_SETS, SPEC, TEN_LINES, ZERO_AND_ONE};
 use crate::support::fakes::FailingSink;
-use crate::support::given::{Given, MAP_LISTS, SETS_OF_63_NODES, TWO_FIELDS, made};
+use crate::support::given::{Given, SETS_OF_63_NODES, TWO_FIELDS, made};
 use crate::support::harness::is_same;
 use crate::support::pages::{WalkInput, walked};
 use crate::support::report::Report;
+use crate::support::rows::{Kind, Row, try_tables};
 use crdx::walk::{WFault, Walked};
 use enumerate::{EFault, Live, page};
 use jtree::Tree;
@@ -22,31 +23,11 @@ const SEVEN_LINES: &str = r#"{}
 {"spec":{"a":0,"b":false}}
 "#;
 
-/// How many samples there are, the most steps from one to the next, and the most steps of a page of them all.
-struct Enumeration {
-    name: &'static str,
-    given: Given<'static>,
-    count: u32,
-    steps: u64,
-    most: u64,
-}
-
-static ENUMERATIONS: [Enumeration; 2] = [
-    Enumeration {
-        name: "two fields",
-        given: TWO_FIELDS,
-        count: 10,
-        steps: 60,
-        most: 660,
-    },
-    Enumeration {
-        name: "a map list",
-        given: MAP_LISTS,
-        count: 14,
-        steps: 108,
-        most: 1620,
-    },
-];
+static ENUMERATIONS: &str = r#"
+2 rows: name | schema | pools | limit | count | steps | most
+two fields | @SPEC | {"integers":[0,1]} | 4 | 10 | 60 | 660
+a map list | @MAP_LIST | {"strings":["a","b"],"integers":[0]} | 8 | 14 | 108 | 1620
+"#;
 
 fn moves(
     report: &mut Report,
@@ -65,13 +46,13 @@ fn goes_through(
     report: &mut Report,
     live: &mut Live<'_, u64>,
     samples: &[Tree],
-    row: &Enumeration,
+    row: &Row,
     meter: &mut Meter,
 ) -> Result<(), Fail> {
     for (place, sample) in samples.iter().enumerate() {
         report.holds("a sample", is_same(live.tree(), sample));
-        let more = place.saturating_add(1) < row.count as usize;
-        moves(report, live, Ok(more), row.steps, meter)?;
+        let more = place.saturating_add(1) < row.small("count")? as usize;
+        moves(report, live, Ok(more), row.number("steps")?, meter)?;
     }
     is_over(report, live, meter)
 }
@@ -91,14 +72,18 @@ fn is_enumerated(
     alloc: Global,
     plan: &Plan<u64>,
     samples: &[Tree],
-    row: &Enumeration,
+    row: &Row,
     meter: &mut Meter,
 ) -> Result<(), Fail> {
-    report.is_number("the number", samples.len() as u64, u64::from(row.count));
+    report.is_number(
+        "the number",
+        samples.len() as u64,
+        u64::from(row.small("count")?),
+    );
     let Some(mut live) = Live::first(alloc, plan, meter)? else {
         return Err(Fail::from("no sample"));
     };
-    report.holds("few steps", meter.steps() <= row.steps);
+    report.holds("few steps", meter.steps() <= row.number("steps")?);
     goes_through(report, &mut live, samples, row, meter)
 }
 
@@ -107,34 +92,40 @@ fn is_paged(
     report: &mut Report,
     alloc: Global,
     plan: &Plan<u64>,
-    row: &Enumeration,
+    row: &Row,
     meter: &mut Meter,
     other: &mut Meter,
 ) -> Result<(), Fail> {
-    let page = page(alloc, plan, None, row.count.clamp(1, 10000), meter)?;
+    let page = page(
+        alloc,
+        plan,
+        None,
+        row.small("count")?.clamp(1, 10000),
+        meter,
+    )?;
     report.holds("the end", page.end);
     is_enumerated(report, alloc, plan, &page.items, row, other)
 }
 
-fn try_enumeration(report: &mut Report, alloc: Global, row: &Enumeration) -> Result<(), Fail> {
-    let mut plan = made(alloc, row.given)?;
-    let mut meter = plan.meter();
-    let mut other = plan.meter();
-    is_paged(report, alloc, &plan, row, &mut meter, &mut other)?;
-    report.holds("some steps", meter.steps() > 0);
-    report.holds("few steps", meter.steps() <= row.most);
-    report.is_number("the steps", other.steps(), meter.steps());
-    Ok(())
+/// How many samples there are, the most steps from one to the next, and the most steps of a page of them all.
+struct Enumeration;
+
+impl Kind for Enumeration {
+    fn attempt(&self, report: &mut Report, alloc: Global, row: &Row) -> Result<(), Fail> {
+        let mut plan = made(alloc, given_of(row)?)?;
+        let mut meter = plan.meter();
+        let mut other = plan.meter();
+        is_paged(report, alloc, &plan, row, &mut meter, &mut other)?;
+        report.holds("some steps", meter.steps() > 0);
+        report.holds("few steps", meter.steps() <= row.number("most")?);
+        report.is_number("the steps", other.steps(), meter.steps());
+        Ok(())
+    }
 }
 
 #[test]
 fn enumerations(rt: HostRuntime) -> Result<(), Fail> {
-    let mut report = Report::new(rt.alloc());
-    for row in &ENUMERATIONS {
-        let ended = try_enumeration(&mut report, rt.alloc(), row);
-        report.row(row.name, ended);
-    }
-    report.end(&rt)
+    try_tables(&rt, rt.alloc(), &Enumeration, &[ENUMERATIONS])
 }
 
 /// A walk, how many bytes there is room for, what is out, and what is answered.

@@ -4,12 +4,12 @@ ghost use Rattle.plan.specs.Samples.Sites.{sites_of};
 
 use crate::support::documents::{SPEC, TWO_TEXTS, ZERO_AND_ONE};
 use crate::support::given::{
-    DEFAULTS, FIFTEEN_ITEMS, Given, LABELLED, LARGE_VALUES, MAP_LISTS, NULLABLE_OBJECTS, SETS,
-    TWO_FIELDS, made,
+    DEFAULTS, FIFTEEN_ITEMS, Given, LABELLED, MAP_LISTS, NULLABLE_OBJECTS, SETS, TWO_FIELDS, made,
 };
 use crate::support::harness::{is_said, pools_of, schema_of};
 use crate::support::plans::{At, node_at, place_of, slot_of};
 use crate::support::report::Report;
+use crate::support::rows::{Kind, Row, try_tables};
 use plan::{Distinct, Meter, PFault, Plan, PlanNode, Sort};
 use std::alloc::{AllocError, Global};
 use std::test::Fail;
@@ -335,91 +335,42 @@ fn slots(rt: HostRuntime) -> Result<(), Fail> {
     report.end(&rt)
 }
 
+static WIDTHS: &str = r#"
+4 rows: name | schema | pools | limit | width | bound
+a map list | @MAP_LIST | {"strings":["a","b"],"integers":[0]} | 8 | 2 | 108
+two fields | @SPEC | {"integers":[0,1]} | 4 | 2 | 60
+fifteen objects | @FIFTEEN | {} | 63 | 3 | 1024
+two values of more nodes than the limit | @OPEN | {"any":[[1,2,3],[4,5,6]]} | 2 | 1 | 24
+"#;
+
 /// The width of a plan, and four times the product of what is one more than the limit and of what is one more than the width.
-struct Width {
-    name: &'static str,
-    given: Given<'static>,
-    width: u64,
-    bound: u64,
-}
+struct Width;
 
-static WIDTHS: [Width; 4] = [
-    Width {
-        name: "a map list",
-        given: MAP_LISTS,
-        width: 2,
-        bound: 108,
-    },
-    Width {
-        name: "two fields",
-        given: TWO_FIELDS,
-        width: 2,
-        bound: 60,
-    },
-    Width {
-        name: "fifteen objects",
-        given: FIFTEEN_ITEMS,
-        width: 3,
-        bound: 1024,
-    },
-    Width {
-        name: "two values of more nodes than the limit",
-        given: LARGE_VALUES,
-        width: 1,
-        bound: 24,
-    },
-];
-
-fn try_width(report: &mut Report, alloc: Global, row: &Width) -> Result<(), Fail> {
-    let plan = made(alloc, row.given)?;
-    let width = plan.width();
-    let limit = u64::from(plan.limit());
-    drop(plan);
-    report.is_number("the width", width, row.width);
-    let bound = limit.wrapping_add(1).wrapping_mul(width.wrapping_add(1));
-    report.is_number("the bound", bound.wrapping_mul(4), row.bound);
-    Ok(())
+impl Kind for Width {
+    fn attempt(&self, report: &mut Report, alloc: Global, row: &Row) -> Result<(), Fail> {
+        let plan = made(alloc, given_of(row)?)?;
+        let width = plan.width();
+        let limit = u64::from(plan.limit());
+        drop(plan);
+        report.is_number("the width", width, row.number("width")?);
+        let bound = limit.wrapping_add(1).wrapping_mul(width.wrapping_add(1));
+        report.is_number("the bound", bound.wrapping_mul(4), row.number("bound")?);
+        Ok(())
+    }
 }
 
 #[test]
 fn widths(rt: HostRuntime) -> Result<(), Fail> {
-    let mut report = Report::new(rt.alloc());
-    for row in &WIDTHS {
-        let ended = try_width(&mut report, rt.alloc(), row);
-        report.row(row.name, ended);
-    }
-    report.end(&rt)
+    try_tables(&rt, rt.alloc(), &Width, &[WIDTHS])
 }
 
-/// A limit, and the limit of the plan, or the code of the fault.
-struct Limit {
-    name: &'static str,
-    limit: u32,
-    wanted: &'static str,
-}
-
-static LIMITS: [Limit; 4] = [
-    Limit {
-        name: "no node",
-        limit: 0,
-        wanted: "P4",
-    },
-    Limit {
-        name: "63 nodes",
-        limit: 63,
-        wanted: "63",
-    },
-    Limit {
-        name: "64 nodes",
-        limit: 64,
-        wanted: "P4",
-    },
-    Limit {
-        name: "the highest number",
-        limit: 4_294_967_295,
-        wanted: "P4",
-    },
-];
+static LIMITS: &str = r#"
+4 rows: name | limit | wanted
+no node | 0 | P4
+63 nodes | 63 | 63
+64 nodes | 64 | P4
+the highest number | 4294967295 | P4
+"#;
 
 fn limit_said(alloc: Global, limit: u32) -> Result<String, Fail> {
     let schema = schema_of(alloc, SPEC)?;

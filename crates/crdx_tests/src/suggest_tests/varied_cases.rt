@@ -1,5 +1,6 @@
 //! The pools document that is suggested around an object, and why there is none.
 use crate::support::report::Report;
+use crate::support::rows::{Kind, Row, try_tables};
 use crate::support::suggestions::{has_member, suggested};
 use jtree::Tree;
 use plan::PoolLimits;
@@ -18,100 +19,27 @@ const NESTED: &str =
 
 const OBJECT: &str = r#"[{"list":[{"k":"p"}],"spec":{"a":5,"b":{"c":"x"},"e":"y"}}]"#;
 
-/// Objects of `NESTED`, the varied paths, those that never occur, and the members `fixed`, `present` and `paths`.
-struct VariedRow {
-    name: &'static str,
-    objects: &'static str,
-    varied: &'static str,
-    without: &'static str,
-    fixed: &'static str,
-    present: &'static str,
-    paths: &'static str,
-}
-
-static VARIED: [VariedRow; 9] = [
-    VariedRow {
-        name: "siblings that are there and one that is not",
-        objects: OBJECT,
-        varied: "/spec/a",
-        without: "",
-        fixed: r#"{"/list":[[{"k":"p"}]],"/spec/b":[{"c":"x"}],"/spec/e":["y"],"/status":[]}"#,
-        present: r#"["/list","/spec","/spec/b","/spec/e"]"#,
-        paths: r#"{"/spec/a":[5,0,1]}"#,
-    },
-    VariedRow {
-        name: "all below a path",
-        objects: OBJECT,
-        varied: "/spec/b",
-        without: "",
-        fixed: r#"{"/list":[[{"k":"p"}]],"/spec/a":[5],"/spec/e":["y"],"/status":[]}"#,
-        present: r#"["/list","/spec","/spec/a","/spec/e"]"#,
-        paths: r#"{"/spec/b/c":["x","1970-01-01","2030-12-31"]}"#,
-    },
-    VariedRow {
-        name: "two levels down, where nothing stands",
-        objects: OBJECT,
-        varied: "/spec/b/d",
-        without: "",
-        fixed: r#"{"/list":[[{"k":"p"}]],"/spec/a":[5],"/spec/b/c":["x"],"/spec/e":["y"],"/status":[]}"#,
-        present: r#"["/list","/spec","/spec/a","/spec/b","/spec/b/c","/spec/e"]"#,
-        paths: "",
-    },
-    VariedRow {
-        name: "two paths",
-        objects: OBJECT,
-        varied: "/status /spec/a",
-        without: "",
-        fixed: r#"{"/list":[[{"k":"p"}]],"/spec/b":[{"c":"x"}],"/spec/e":["y"]}"#,
-        present: r#"["/list","/spec","/spec/b","/spec/e"]"#,
-        paths: r#"{"/spec/a":[5,0,1]}"#,
-    },
-    VariedRow {
-        name: "a path that is left out besides",
-        objects: OBJECT,
-        varied: "/spec/a",
-        without: "/spec/e",
-        fixed: r#"{"/list":[[{"k":"p"}]],"/spec/b":[{"c":"x"}],"/spec/e":[],"/status":[]}"#,
-        present: r#"["/list","/spec","/spec/b"]"#,
-        paths: r#"{"/spec/a":[5,0,1]}"#,
-    },
-    VariedRow {
-        name: "a part of a value beside a varied path is left out",
-        objects: OBJECT,
-        varied: "/spec/a",
-        without: "/spec/b/c",
-        fixed: r#"{"/list":[[{"k":"p"}]],"/spec/b":[{}],"/spec/b/c":[],"/spec/e":["y"],"/status":[]}"#,
-        present: r#"["/list","/spec","/spec/b","/spec/e"]"#,
-        paths: r#"{"/spec/a":[5,0,1]}"#,
-    },
-    VariedRow {
-        name: "an object with nothing in it",
-        objects: "[{}]",
-        varied: "/spec",
-        without: "",
-        fixed: r#"{"/list":[],"/status":[]}"#,
-        present: "",
-        paths: r#"{"/spec/b/c":["1970-01-01","2030-12-31"]}"#,
-    },
-    VariedRow {
-        name: "no varied path",
-        objects: OBJECT,
-        varied: "",
-        without: "/status /list/[]/k",
-        fixed: r#"{"/list/[]/k":[],"/status":[]}"#,
-        present: "",
-        paths: r#"{"/spec/a":[5],"/spec/b/c":["x"],"/spec/e":["y"]}"#,
-    },
-    VariedRow {
-        name: "no object",
-        objects: "[]",
-        varied: "",
-        without: "/status",
-        fixed: r#"{"/status":[]}"#,
-        present: "",
-        paths: r#"{"/spec/b/c":["1970-01-01","2030-12-31"]}"#,
-    },
-];
+static VARIED: &str = r#"
+9 rows: name | objects | varied | without | fixed | present | paths
+siblings that are there and one that is not | [{"list":[{"k":"p"}],"spec":{"a":5,"b":{"c":"x"},"e":"y"}}] | /spec/a | -
+    | {"/list":[[{"k":"p"}]],"/spec/b":[{"c":"x"}],"/spec/e":["y"],"/status":[]} | ["/list","/spec","/spec/b","/spec/e"] | {"/spec/a":[5,0,1]}
+all below a path | [{"list":[{"k":"p"}],"spec":{"a":5,"b":{"c":"x"},"e":"y"}}] | /spec/b | -
+    | {"/list":[[{"k":"p"}]],"/spec/a":[5],"/spec/e":["y"],"/status":[]} | ["/list","/spec","/spec/a","/spec/e"]
+    | {"/spec/b/c":["x","1970-01-01","2030-12-31"]}
+two levels down, where nothing stands | [{"list":[{"k":"p"}],"spec":{"a":5,"b":{"c":"x"},"e":"y"}}] | /spec/b/d | -
+    | {"/list":[[{"k":"p"}]],"/spec/a":[5],"/spec/b/c":["x"],"/spec/e":["y"],"/status":[]}
+    | ["/list","/spec","/spec/a","/spec/b","/spec/b/c","/spec/e"] | -
+two paths | [{"list":[{"k":"p"}],"spec":{"a":5,"b":{"c":"x"},"e":"y"}}] | /status /spec/a | -
+    | {"/list":[[{"k":"p"}]],"/spec/b":[{"c":"x"}],"/spec/e":["y"]} | ["/list","/spec","/spec/b","/spec/e"] | {"/spec/a":[5,0,1]}
+a path that is left out besides | [{"list":[{"k":"p"}],"spec":{"a":5,"b":{"c":"x"},"e":"y"}}] | /spec/a | /spec/e
+    | {"/list":[[{"k":"p"}]],"/spec/b":[{"c":"x"}],"/spec/e":[],"/status":[]} | ["/list","/spec","/spec/b"] | {"/spec/a":[5,0,1]}
+a part of a value beside a varied path is left out | [{"list":[{"k":"p"}],"spec":{"a":5,"b":{"c":"x"},"e":"y"}}] | /spec/a | /spec/b/c
+    | {"/list":[[{"k":"p"}]],"/spec/b":[{}],"/spec/b/c":[],"/spec/e":["y"],"/status":[]} | ["/list","/spec","/spec/b","/spec/e"] | {"/spec/a":[5,0,1]}
+an object with nothing in it | [{}] | /spec | - | {"/list":[],"/status":[]} | - | {"/spec/b/c":["1970-01-01","2030-12-31"]}
+no varied path | [{"list":[{"k":"p"}],"spec":{"a":5,"b":{"c":"x"},"e":"y"}}] | - | /status /list/[]/k | {"/list/[]/k":[],"/status":[]} | -
+    | {"/spec/a":[5],"/spec/b/c":["x"],"/spec/e":["y"]}
+no object | [] | - | /status | {"/status":[]} | - | {"/spec/b/c":["1970-01-01","2030-12-31"]}
+"#;
 
 /// What is answered: a document, or why there is none.
 #[derive(Clone, Copy, Debug, PartialEq)]
@@ -226,22 +154,28 @@ static FAULTS: [Refused; 13] = [
     },
 ];
 
-fn try_varied(report: &mut Report, alloc: Global, row: &VariedRow) -> Result<(), Fail> {
-    let asked = (row.varied, row.without);
-    let document = suggested(alloc, NESTED, row.objects, asked, PoolLimits::STANDARD)??;
-    has_member(report, alloc, &document, "fixed", row.fixed)?;
-    has_member(report, alloc, &document, "present", row.present)?;
-    has_member(report, alloc, &document, "paths", row.paths)
+/// Objects of `NESTED`, the varied paths, those that never occur, and the members `fixed`, `present` and `paths`.
+struct VariedRow;
+
+impl Kind for VariedRow {
+    fn attempt(&self, report: &mut Report, alloc: Global, row: &Row) -> Result<(), Fail> {
+        let asked = (row.text("varied"), row.text("without"));
+        let document = suggested(
+            alloc,
+            NESTED,
+            row.text("objects"),
+            asked,
+            PoolLimits::STANDARD,
+        )??;
+        has_member(report, alloc, &document, "fixed", row.text("fixed"))?;
+        has_member(report, alloc, &document, "present", row.text("present"))?;
+        has_member(report, alloc, &document, "paths", row.text("paths"))
+    }
 }
 
 #[test]
 fn varied(rt: HostRuntime) -> Result<(), Fail> {
-    let mut report = Report::new(rt.alloc());
-    for row in &VARIED {
-        let ended = try_varied(&mut report, rt.alloc(), row);
-        report.row(row.name, ended);
-    }
-    report.end(&rt)
+    try_tables(&rt, rt.alloc(), &VariedRow, &[VARIED])
 }
 
 fn answer_of(document: &Result<Tree, SuggestFault>) -> Answer<'_> {

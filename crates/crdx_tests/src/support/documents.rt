@@ -203,3 +203,45 @@ pub const FRACTION_IN_POOLS: &str = r#"{"integers":[1.5]}"#;
 
 /// What `cover` says where each path is in some sample.
 pub const ALL_PATHS: &str = "crdx: all paths are in some sample\n";
+
+/// The document that a table names so.
+pub fn document(name: &str) -> Option<&'static str> {
+    let document = match name {
+        "@WIDGET" => WIDGET,
+        "@ZERO_AND_ONE" => ZERO_AND_ONE,
+        "@TEN_LINES" => TEN_LINES,
+        "@LAST_LINES" => LAST_LINES,
+        "@TRUTHS" => TRUTHS,
+        "@ONE_OF_TWO" => ONE_OF_TWO,
+        "@MAP_LIST" => MAP_LIST,
+        "@LONG_MAP_LIST" => LONG_MAP_LIST,
+        "@TWO_TEXTS" => TWO_TEXTS,
+        "@SPEC" => SPEC,
+        "@FIFTEEN" => FIFTEEN,
+        "@THIRTY_ONE" => THIRTY_ONE,
+        "@SET" => SET,
+        "@REPEATED" => REPEATED,
+        "@SIX_SETS" => SIX_SETS,
+        "@NULLABLE" => NULLABLE,
+        "@DEFAULTED" => DEFAULTED,
+        "@ZERO_AND_SEVEN" => ZERO_AND_SEVEN,
+        "@LABELS" => LABELS,
+        "@NAMES" => NAMES,
+        "@OPEN" => OPEN,
+        "@OPEN_NULLABLE" => OPEN_NULLABLE,
+        "@BROKEN" => BROKEN,
+        "@BROKEN_LINES" => BROKEN_LINES,
+        "@REQUIRED_LONG_MAP_LIST" => REQUIRED_LONG_MAP_LIST,
+        "@TWO_INTEGER_KEYS" => TWO_INTEGER_KEYS,
+        "@TWO_DEFAULTS" => TWO_DEFAULTS,
+        "@LIST_OF_OBJECTS" => LIST_OF_OBJECTS,
+        "@AT_MOST_ONE" => AT_MOST_ONE,
+        "@ONE_BOUND" => ONE_BOUND,
+        "@NULL_OR_TRUTH" => NULL_OR_TRUTH,
+        "@ONE_OF_TWO_AT_THE_ROOT" => ONE_OF_TWO_AT_THE_ROOT,
+        "@FRACTION_IN_POOLS" => FRACTION_IN_POOLS,
+        "@ALL_PATHS" => ALL_PATHS,
+        _ => return None,
+    };
+    Some(document)
+}

@@ -1,0 +1,368 @@
+//! Tables: texts with a row on a line or two, and what tries their rows.
+//!
+//! The head of a table says how many rows it has, and what their cells are:
+//!
+//! ```text
+//! 2 rows: name | schema | out
+//! @LIST | {"type":"array","items":{"type":"boolean"}}
+//! a list | @LIST | V17 ""
+//! two types | {"type":"object","properties":{
+//!     "a":{},"b":{}}} | V01 "/properties/a"
+//!     > V01 "/properties/b"
+//! ```
+//!
+//! A line that begins with four spaces belongs to the row above it: after `> ` it is a line of standard output, after `! ` one of
+//! standard error, after `| ` it has more cells; any other goes on with the last cell, and may have more. What a cell under `out` has
+//! is the first line of standard output. A cell, or such a line, is the text of the row above or of the document that it names by
+//! `@NAME`; `-` is an empty text; ␊, ␍, ␉, ␠ and ␡ are characters that are not seen. A line that begins with `// ` says something.
+use crate::support::documents::document;
+use crate::support::report::Report;
+use std::alloc::{AllocError, Global};
+use std::process::Abort;
+use std::test::Fail;
+
+/// A row of a table: its name, its other cells, and the lines of standard output and of standard error.
+#[derive(Drop)]
+pub struct Row {
+    /// What its cells are.
+    head: String,
+    name: String,
+    cells: Vec<String>,
+    out: String,
+    err: String,
+}
+
+impl Row {
+    pub fn name(&self) -> &str {
+        self.name.as_str()
+    }
+
+    /// The text of the cell under this word of the head.
+    pub fn text(&self, column: &str) -> &str {
+        for (place, word) in self.head.split(" | ").enumerate() {
+            if word == column {
+                return self.cell(place);
+            }
+        }
+        "(no such cell)"
+    }
+
+    fn cell(&self, place: usize) -> &str {
+        match self.cells.get(place) {
+            Some(cell) => cell.as_str(),
+            None => "(no such cell)",
+        }
+    }
+
+    /// The number in the cell under this word of the head.
+    pub fn number(&self, column: &str) -> Result<u64, Fail> {
+        match self.text(column).parse::<u64>() {
+            Ok(number) => Ok(number),
+            Err(_) => Err(Fail::from("a cell has no number")),
+        }
+    }
+
+    /// As `number`, of what is counted.
+    pub fn count(&self, column: &str) -> Result<usize, Fail> {
+        match self.text(column).parse::<usize>() {
+            Ok(count) => Ok(count),
+            Err(_) => Err(Fail::from("a cell has no count")),
+        }
+    }
+
+    /// As `number`, of 32 bits.
+    pub fn small(&self, column: &str) -> Result<u32, Fail> {
+        match self.text(column).parse::<u32>() {
+            Ok(number) => Ok(number),
+            Err(_) => Err(Fail::from("a cell has no number of 32 bits")),
+        }
+    }
+
+    /// Whether the cell under this word of the head says `yes`; else it has to say `no`.
+    pub fn is(&self, column: &str) -> Result<bool, Fail> {
+        match self.text(column) {
+            "yes" => Ok(true),
+            "no" => Ok(false),
+            _ => Err(Fail::from("a cell says neither yes nor no")),
+        }
+    }
+
+    /// The lines of standard output, each with its end.
+    pub fn out(&self) -> &str {
+        self.out.as_str()
+    }
+
+    /// The lines of standard error, each with its end.
+    pub fn err(&self) -> &str {
+        self.err.as_str()
+    }
+
+    /// Whether it is no row to be tried, but a text that others name.
+    fn is_named(&self) -> bool {
+        self.name.starts_with('@')
+    }
+
+    /// The text that others name.
+    fn meaning(&self) -> &str {
+        match self.cells.get(0) {
+            Some(cell) => cell.as_str(),
+            None => self.out.as_str(),
+        }
+    }
+
+    fn is_whole(&self) -> bool {
+        self.head.split(" | ").count() == self.cells.len()
+    }
+
+    /// Whether its next cell is the first line of standard output.
+    fn is_out_next(&self) -> bool {
+        self.head.split(" | ").nth(self.cells.len()) == Some("out")
+    }
+}
+
+/// What has been read of tables.
+#[derive(Drop)]
+struct Tables {
+    alloc: Global,
+    /// What the last head says of cells.
+    head: String,
+    /// How many rows the heads promise.
+    promised: usize,
+    rows: Vec<Row>,
+}
+
+/// The character that a sign stands for.
+fn meant(sign: char) -> char {
+    match sign {
+        '␊' => '\n',
+        '␍' => '\r',
+        '␉' => '\t',
+        '␠' => ' ',
+        '␡' => '\u{7f}',
+        _ => sign,
+    }
+}
+
+fn push_meant(text: &mut String, cell: &str) -> Result<(), AllocError> {
+    for sign in cell.chars() {
+        text.push(meant(sign))?;
+    }
+    Ok(())
+}
+
+fn push_line(lines: &mut String, line: &str) -> Result<(), AllocError> {
+    push_meant(lines, line)?;
+    lines.push('\n')
+}
+
+fn push_cell(row: &mut Row, cell: String) -> Result<(), AllocError> {
+    if row.is_out_next() && !cell.is_empty() {
+        row.out.push_str(cell.as_str())?;
+        row.out.push('\n')?;
+    }
+    Ok(row.cells.push(cell)?)
+}
+
+impl Tables {
+    fn new(alloc: Global) -> Tables {
+        Tables {
+            alloc,
+            head: String::new(alloc),
+            promised: 0,
+            rows: Vec::new(alloc),
+        }
+    }
+
+    /// The text of this name.
+    fn named(&self, name: &str) -> Option<&str> {
+        if !name.starts_with('@') {
+            return None;
+        }
+        for row in &self.rows {
+            if row.name.as_str() == name {
+                return Some(row.meaning());
+            }
+        }
+        document(name)
+    }
+
+    fn cell_of(&self, cell: &str) -> Result<String, AllocError> {
+        let mut text = String::new(self.alloc);
+        match self.named(cell) {
+            Some(named) => text.push_str(named)?,
+            None if cell == "-" => {}
+            None => push_meant(&mut text, cell)?,
+        }
+        Ok(text)
+    }
+
+    /// The lines that a name stands for, or a line.
+    fn lines_of(&self, line: &str) -> Result<String, AllocError> {
+        let mut lines = String::new(self.alloc);
+        match self.named(line) {
+            Some(named) => lines.push_str(named)?,
+            None => push_line(&mut lines, line)?,
+        }
+        Ok(lines)
+    }
+
+    /// The row whose lines are read.
+    fn last(&mut self) -> Result<&mut Row, Fail> {
+        match self.rows.last_mut() {
+            Some(row) => Ok(row),
+            None => Err(Fail::from("a line before the first row")),
+        }
+    }
+
+    fn push_cells(&mut self, cells: &str) -> Result<(), Fail> {
+        for cell in cells.split(" | ") {
+            let cell = self.cell_of(cell)?;
+            push_cell(self.last()?, cell)?;
+        }
+        Ok(())
+    }
+
+    fn push_row(&mut self, name: &str) -> Result<(), AllocError> {
+        let name = if name == "-" { "" } else { name };
+        let row = Row {
+            head: String::from_str(self.alloc, self.head.as_str())?,
+            name: String::from_str(self.alloc, name)?,
+            cells: Vec::new(self.alloc),
+            out: String::new(self.alloc),
+            err: String::new(self.alloc),
+        };
+        Ok(self.rows.push(row)?)
+    }
+
+    /// Goes on with the last cell.
+    fn go_on(&mut self, text: &str) -> Result<(), Fail> {
+        match self.last()?.cells.last_mut() {
+            Some(cell) => Ok(push_more(cell, text)?),
+            None => Err(Fail::from("a line that goes on with no cell")),
+        }
+    }
+
+    fn go_on_with_cells(&mut self, text: &str) -> Result<(), Fail> {
+        match text.split_once(" | ") {
+            Some((text, cells)) => {
+                self.go_on(text)?;
+                self.push_cells(cells)
+            }
+            None => self.go_on(text),
+        }
+    }
+
+    /// A line that belongs to the last row.
+    fn push_part(&mut self, text: &str) -> Result<(), Fail> {
+        if let Some(cells) = text.strip_prefix("| ") {
+            return self.push_cells(cells);
+        }
+        if let Some(line) = text.strip_prefix("> ") {
+            let lines = self.lines_of(line)?;
+            return Ok(self.last()?.out.push_str(lines.as_str())?);
+        }
+        if let Some(line) = text.strip_prefix("! ") {
+            let lines = self.lines_of(line)?;
+            return Ok(self.last()?.err.push_str(lines.as_str())?);
+        }
+        self.go_on_with_cells(text)
+    }
+
+    fn push_head(&mut self, rows: &str, cells: &str) -> Result<(), Fail> {
+        let rows = rows.parse::<usize>().unwrap_or(usize::MAX);
+        self.promised = self.promised.saturating_add(rows);
+        let cells = cells.split_once(" | ").unwrap_or(("", ""));
+        self.head = String::from_str(self.alloc, cells.1)?;
+        Ok(())
+    }
+
+    fn push_first_line(&mut self, line: &str) -> Result<(), Fail> {
+        if let Some((rows, cells)) = line.split_once(" rows: ") {
+            return self.push_head(rows, cells);
+        }
+        match line.split_once(" | ") {
+            Some((name, cells)) => {
+                self.push_row(name)?;
+                self.push_cells(cells)
+            }
+            None => Ok(self.push_row(line)?),
+        }
+    }
+
+    fn push_line(&mut self, line: &str) -> Result<(), Fail> {
+        if let Some(text) = line.strip_prefix("    ") {
+            return self.push_part(text);
+        }
+        if line.is_empty() || line.starts_with("// ") {
+            return Ok(());
+        }
+        self.push_first_line(line)
+    }
+
+    fn push_table(&mut self, table: &str) -> Result<(), Fail> {
+        for line in table.lines() {
+            self.push_line(line)?;
+        }
+        Ok(())
+    }
+}
+
+fn push_more(cell: &mut String, text: &str) -> Result<(), AllocError> {
+    cell.push('\n')?;
+    push_meant(cell, text)
+}
+
+fn read_tables(alloc: Global, tables: &[&str]) -> Result<Tables, Fail> {
+    let mut all = Tables::new(alloc);
+    for table in tables {
+        all.push_table(table)?;
+    }
+    Ok(all)
+}
+
+/// What the rows of a table are tried by.
+pub trait Kind {
+    fn attempt(&self, report: &mut Report, alloc: Global, row: &Row) -> Result<(), Fail>;
+}
+
+fn try_row<K: Kind>(report: &mut Report, alloc: Global, kind: &K, row: &Row) {
+    let ended = if row.is_whole() {
+        kind.attempt(report, alloc, row)
+    } else {
+        Err(Fail::from("not as many cells as the head says"))
+    };
+    report.row(row.name(), ended);
+}
+
+fn all_read<K: Kind>(report: &mut Report, alloc: Global, kind: &K, tables: &Tables) {
+    let mut tried = 0usize;
+    for row in &tables.rows {
+        if !row.is_named() {
+            try_row(report, alloc, kind, row);
+            tried = tried.saturating_add(1);
+        }
+    }
+    report.holds("some rows", tried > 0);
+    report.is_number("the rows", tried as u64, tables.promised as u64);
+    report.row("as many rows as the heads say", Ok(()));
+}
+
+/// Tries each row of these tables.
+pub fn all_rows<K: Kind>(report: &mut Report, alloc: Global, kind: &K, tables: &[&str]) {
+    match read_tables(alloc, tables) {
+        Ok(tables) => all_read(report, alloc, kind, &tables),
+        Err(fail) => report.row("tables that are not read", Err(fail)),
+    }
+}
+
+/// As `all_rows`, as a whole test.
+pub fn try_tables<K: Kind>(
+    rt: &impl Abort,
+    alloc: Global,
+    kind: &K,
+    tables: &[&str],
+) -> Result<(), Fail> {
+    let mut report = Report::new(alloc);
+    all_rows(&mut report, alloc, kind, tables);
+    report.end(rt)
+}
