@@ -36,15 +36,15 @@ fn is_page(
     row: &Row<'_>,
     meter: &mut Meter,
 ) -> Result<(), Fail> {
-    let place = place_of(alloc, row.after)?;
+    let place = place_of(alloc, row.optional("after"))?;
     let page = page(alloc, plan, place.as_ref(), 3, meter)?;
-    report.is_value("the end", &page.end, &row.is("end")?);
-    report.holds("few steps", meter.steps() <= row.number("steps")?);
+    report.is_value("the end", &page.end, &row.is("end"));
+    report.holds("few steps", meter.steps() <= row.number("steps"));
     is_said(report, "the lines", lines_of(alloc, &page.items), row.out())
 }
 
 fn try_page(report: &mut Report, alloc: Global, row: &Row<'_>) -> Result<(), Fail> {
-    let mut plan = made(alloc, given_of(row)?)?;
+    let mut plan = made(alloc, given_of(row))?;
     let mut meter = plan.meter();
     is_page(report, alloc, &plan, row, &mut meter)
 }
@@ -130,7 +130,7 @@ fn is_place(
         said_of_place(alloc, plan, &place, meter),
         row.text("answer"),
     )?;
-    report.holds("few steps", meter.steps() <= row.number("steps")?);
+    report.holds("few steps", meter.steps() <= row.number("steps"));
     Ok(())
 }
 
@@ -139,7 +139,7 @@ struct Place;
 
 impl Kind for Place {
     fn attempt(&self, report: &mut Report, alloc: Global, row: &Row) -> Result<(), Fail> {
-        let mut plan = made(alloc, given_of(row)?)?;
+        let mut plan = made(alloc, given_of(row))?;
         let mut meter = plan.meter();
         is_place(report, alloc, &plan, row, &mut meter)
     }

@@ -3,9 +3,7 @@ use crate::support::comparison::compare_plan;
 use crate::support::given::Given;
 use crate::support::report::Report;
 use crate::support::rows::Row;
-use crate::support::small_nodes::{
-    HOLDERS, HOLDERS_OF_SCALARS, Held, Holder, LEAVES, NODES, PRESENCE, SCALARS,
-};
+use crate::support::small_nodes::{HOLDERS, HOLDERS_OF_SCALARS, Held, Holder, LEAVES, NODES, PRESENCE, SCALARS};
 use std::alloc::{AllocError, Global};
 use std::test::Fail;
 
@@ -104,8 +102,7 @@ fn listed_nodes(
 ) -> Result<(), AllocError> {
     let pools = format!(in alloc;
         r#"{{"any":["z"],"integers":[0,5],"names":["p"],"strings":["bb","c"],"paths":{{"{}":{}}}}}"#,
-        holder.path,
-        row.text("list")
+        holder.path, row.text("list")
     )?;
     let name = format!(in alloc; ", {}", row.name())?;
     let over = Over {
@@ -153,8 +150,7 @@ fn fixed_nodes(
 ) -> Result<(), AllocError> {
     let pools = format!(in alloc;
         r#"{{"any":["z"],"integers":[0],"names":["p"],"strings":["c"],"fixed":{{"{}":{}}}}}"#,
-        holder.path,
-        row.text("list")
+        holder.path, row.text("list")
     )?;
     let name = format!(in alloc; ", {}", row.name())?;
     let over = Over {

@@ -89,8 +89,8 @@ struct WidePlan;
 
 impl Kind for WidePlan {
     fn attempt(&self, report: &mut Report, alloc: Global, row: &Row) -> Result<(), Fail> {
-        let mut plan = made(alloc, given_of(row)?)?;
-        let other = wide(alloc, given_of(row)?)?;
+        let mut plan = made(alloc, given_of(row))?;
+        let other = wide(alloc, given_of(row))?;
         let mut meter = plan.meter();
         are_same(report, alloc, &plan, &other, &mut meter)
     }

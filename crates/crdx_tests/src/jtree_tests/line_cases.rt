@@ -55,12 +55,7 @@ impl Kind for LinesRow {
     fn attempt(&self, report: &mut Report, alloc: Global, row: &Row) -> Result<(), Fail> {
         for step in [1, 2, 3, usize::MAX] {
             let source = FailingSource::new(row.text("bytes").as_bytes(), step, usize::MAX);
-            is_said(
-                report,
-                "the lines",
-                said_of(alloc, source),
-                row.text("wanted"),
-            )?;
+            is_said(report, "the lines", said_of(alloc, source), row.text("wanted"))?;
         }
         Ok(())
     }
@@ -86,15 +81,10 @@ struct LongLine;
 
 impl Kind for LongLine {
     fn attempt(&self, report: &mut Report, alloc: Global, row: &Row) -> Result<(), Fail> {
-        let mut bytes = padded(alloc, "1", row.count("spaces")?)?;
+        let mut bytes = padded(alloc, "1", row.count("spaces"))?;
         bytes.push_str(row.text("end"))?;
         let source = FailingSource::new(bytes.as_bytes(), usize::MAX, usize::MAX);
-        is_said(
-            report,
-            "the lines",
-            said_of(alloc, source),
-            row.text("wanted"),
-        )
+        is_said(report, "the lines", said_of(alloc, source), row.text("wanted"))
     }
 }
 

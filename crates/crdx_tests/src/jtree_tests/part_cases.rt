@@ -33,17 +33,13 @@ struct Part;
 impl Kind for Part {
     fn attempt(&self, report: &mut Report, alloc: Global, row: &Row) -> Result<(), Fail> {
         let tree = Tree::from_bytes(alloc, row.text("document").as_bytes())?;
-        report.is_number("the nodes", tree.nodes(), row.number("nodes")?);
+        report.is_number("the nodes", tree.nodes(), row.number("nodes"));
         if let Tree::Object(members) = &tree {
             let found = members.nodes().saturating_add(1);
-            report.is_number("the nodes by the members", found, row.number("nodes")?);
+            report.is_number("the nodes by the members", found, row.number("nodes"));
         }
-        report.is_value("the text", &tree.get_text(row.text("member")), &row.text);
-        report.is_value(
-            "the test",
-            &tree.has_text(row.text("member"), "x"),
-            &row.is("is_x")?,
-        );
+        report.is_value("the text", &tree.get_text(row.text("member")), &row.optional("text"));
+        report.is_value("the test", &tree.has_text(row.text("member"), "x"), &row.is("is_x"));
         is_said(
             report,
             "the value",
@@ -111,9 +107,9 @@ impl Kind for LastPart {
         report.is_value(
             "how deep the last node is",
             &tree.last_depth(),
-            &row.count("last_depth")?,
+            &row.count("last_depth"),
         );
-        let text = after_others(alloc, &tree, row.count("depth")?)?;
+        let text = after_others(alloc, &tree, row.count("depth"))?;
         let part = text.as_str().strip_prefix("> ");
         report.is_value("the text of the part", &part, &Some(row.text("text")));
         Ok(())
@@ -133,13 +129,9 @@ fn try_overwriting(
     let done = tree
         .last()
         .overwrite(node, tree.last_depth(), &mut text, &mut scratch)?;
-    report.is_value(
-        "whether it has as many bytes",
-        &done,
-        &row.is("same_length")?,
-    );
+    report.is_value("whether it has as many bytes", &done, &row.is("same_length"));
     let text = String::from_utf8(text)?;
-    let wanted = if row.is("same_length")? {
+    let wanted = if row.is("same_length") {
         row.text("document")
     } else {
         row.text("changed")
@@ -168,16 +160,15 @@ fn try_set_last(
     )
 }
 
-fn try_set(report: &mut Report, alloc: Global, node: &mut Tree, row: &Row) -> Result<(), Fail> {
+fn try_set(
+    report: &mut Report,
+    alloc: Global,
+    node: &mut Tree,
+    row: &Row,
+) -> Result<(), Fail> {
     let before = Tree::from_bytes(alloc, row.text("last").as_bytes())?;
     node.set(alloc, &before)?;
-    is_tree(
-        report,
-        alloc,
-        "a node set to the last one",
-        node,
-        row.text("last"),
-    )
+    is_tree(report, alloc, "a node set to the last one", node, row.text("last"))
 }
 
 /// A document, its last node, another node, the document with that one in its place, and whether it has as many bytes.
@@ -186,13 +177,7 @@ struct LastNode;
 impl Kind for LastNode {
     fn attempt(&self, report: &mut Report, alloc: Global, row: &Row) -> Result<(), Fail> {
         let mut tree = Tree::from_bytes(alloc, row.text("document").as_bytes())?;
-        is_tree(
-            report,
-            alloc,
-            "the last node",
-            tree.last(),
-            row.text("last"),
-        )?;
+        is_tree(report, alloc, "the last node", tree.last(), row.text("last"))?;
         let mut node = Tree::from_bytes(alloc, row.text("other").as_bytes())?;
         try_overwriting(report, alloc, &tree, &node, row)?;
         try_set_last(report, alloc, &mut tree, &node, row)?;

@@ -1,8 +1,8 @@
 //! How many entries the pools of a document may have.
 use crate::support::harness::is_said;
+use crate::support::rows::{Kind, Row, try_tables};
 use crate::support::pools::{all_documents, outcome};
 use crate::support::report::Report;
-use crate::support::rows::Row;
 use plan::PoolLimits;
 use std::alloc::{AllocError, Global};
 use std::fmt::Write;
@@ -71,7 +71,12 @@ too many strings | {"strings":["s","s","s"],"paths":{"/a":[0]}} | P2 strings 3 1
 a text for strings after too many integers | {"integers":[0,1],"strings":"s"} | P1 "/strings"
 "#;
 
-fn try_long(report: &mut Report, alloc: Global, limits: PoolLimits, row: &Row) -> Result<(), Fail> {
+fn try_long(
+    report: &mut Report,
+    alloc: Global,
+    limits: PoolLimits,
+    row: &Row,
+) -> Result<(), Fail> {
     let document = repeated(alloc, row)?;
     let found = outcome(alloc, document.as_str(), limits);
     is_said(report, "what is read", found, row.text("wanted"))
@@ -79,7 +84,7 @@ fn try_long(report: &mut Report, alloc: Global, limits: PoolLimits, row: &Row) -
 
 fn repeated(alloc: Global, row: &Row) -> Result<String, AllocError> {
     let mut document = String::from_str(alloc, row.text("head"))?;
-    for _ in 0..row.count("count")? {
+    for _ in 0..row.count("count") {
         document.push_str(row.text("entry"))?;
     }
     document.push_str(row.text("tail"))?;
@@ -128,93 +133,31 @@ fn many_paths(alloc: Global, name: &str, count: usize) -> Result<String, AllocEr
     Ok(document)
 }
 
+static MANY_PATHS: &str = r#"
+9 rows: name | pool | count | limits | wanted
+one path | paths | 1 | standard | 0 0 0 0 1 0 0
+64 paths | paths | 64 | standard | 0 0 0 0 64 0 0
+65 paths | paths | 65 | standard | P2 paths 65 64
+1,024 paths | paths | 1024 | large | 0 0 0 0 1024 0 0
+1,025 paths | paths | 1025 | large | P2 paths 1025 1024
+64 fixed paths | fixed | 64 | standard | 0 0 0 0 0 64 0
+65 fixed paths | fixed | 65 | standard | P2 fixed 65 64
+1,024 fixed paths | fixed | 1024 | large | 0 0 0 0 0 1024 0
+1,025 fixed paths | fixed | 1025 | large | P2 fixed 1025 1024
+"#;
+
 /// How many paths there are under a name, the limits, and what is read.
-struct ManyPaths {
-    name: &'static str,
-    pool: &'static str,
-    count: usize,
-    limits: PoolLimits,
-    wanted: &'static str,
-}
+struct ManyPaths;
 
-static MANY_PATHS: [ManyPaths; 9] = [
-    ManyPaths {
-        name: "one path",
-        pool: "paths",
-        count: 1,
-        limits: PoolLimits::STANDARD,
-        wanted: "0 0 0 0 1 0 0",
-    },
-    ManyPaths {
-        name: "64 paths",
-        pool: "paths",
-        count: 64,
-        limits: PoolLimits::STANDARD,
-        wanted: "0 0 0 0 64 0 0",
-    },
-    ManyPaths {
-        name: "65 paths",
-        pool: "paths",
-        count: 65,
-        limits: PoolLimits::STANDARD,
-        wanted: "P2 paths 65 64",
-    },
-    ManyPaths {
-        name: "1,024 paths",
-        pool: "paths",
-        count: 1024,
-        limits: PoolLimits::LARGE,
-        wanted: "0 0 0 0 1024 0 0",
-    },
-    ManyPaths {
-        name: "1,025 paths",
-        pool: "paths",
-        count: 1025,
-        limits: PoolLimits::LARGE,
-        wanted: "P2 paths 1025 1024",
-    },
-    ManyPaths {
-        name: "64 fixed paths",
-        pool: "fixed",
-        count: 64,
-        limits: PoolLimits::STANDARD,
-        wanted: "0 0 0 0 0 64 0",
-    },
-    ManyPaths {
-        name: "65 fixed paths",
-        pool: "fixed",
-        count: 65,
-        limits: PoolLimits::STANDARD,
-        wanted: "P2 fixed 65 64",
-    },
-    ManyPaths {
-        name: "1,024 fixed paths",
-        pool: "fixed",
-        count: 1024,
-        limits: PoolLimits::LARGE,
-        wanted: "0 0 0 0 0 1024 0",
-    },
-    ManyPaths {
-        name: "1,025 fixed paths",
-        pool: "fixed",
-        count: 1025,
-        limits: PoolLimits::LARGE,
-        wanted: "P2 fixed 1025 1024",
-    },
-];
-
-fn try_many_paths(report: &mut Report, alloc: Global, row: &ManyPaths) -> Result<(), Fail> {
-    let document = many_paths(alloc, row.pool, row.count)?;
-    let found = outcome(alloc, document.as_str(), row.limits);
-    is_said(report, "what is read", found, row.wanted)
+impl Kind for ManyPaths {
+    fn attempt(&self, report: &mut Report, alloc: Global, row: &Row) -> Result<(), Fail> {
+        let document = many_paths(alloc, row.text("pool"), row.count("count"))?;
+        let found = outcome(alloc, document.as_str(), row.limits);
+        is_said(report, "what is read", found, row.text("wanted"))
+    }
 }
 
 #[test]
 fn paths(rt: HostRuntime) -> Result<(), Fail> {
-    let mut report = Report::new(rt.alloc());
-    for row in &MANY_PATHS {
-        let ended = try_many_paths(&mut report, rt.alloc(), row);
-        report.row(row.name, ended);
-    }
-    report.end(&rt)
+    try_tables(&rt, rt.alloc(), &ManyPaths, &[MANY_PATHS])
 }

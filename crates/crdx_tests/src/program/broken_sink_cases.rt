@@ -125,7 +125,7 @@ struct SinkRun;
 
 impl Kind for SinkRun {
     // Standard output fails after each byte in turn, whole and in pieces, and after all.
-    fn attempt(&self, report: &mut Report, alloc: Global, row: &Row) -> Result<(), Fail> {
+fn attempt(&self, report: &mut Report, alloc: Global, row: &Row) -> Result<(), Fail> {
         let out = with_phrases(alloc, row.out())?;
         let out = out.as_str();
         for (step, answers_zero) in [(usize::MAX, false), (7, true), (1, false)] {

@@ -203,7 +203,7 @@ impl Kind for Explained {
             second: "",
             out: row.out(),
             err: row.err(),
-            status: row.number("status")?,
+            status: row.number("status"),
         };
         try_schema_run(report, alloc, &run)
     }

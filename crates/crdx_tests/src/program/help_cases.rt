@@ -9,7 +9,7 @@ use std::test::Fail;
 
 // What is wanted of a mistake, in these tables: the first line of standard error.
 static COVERS_AND_INPUTS: &str = r#"
-11 rows: name | command | out
+11 rows: name | command | lines
 the standard input for a definition and pools of a cover | crdx cover - v1 --pools - | error: CRD and --pools cannot both be the standard input
 limit 128 of a cover | crdx cover crd.json v1 --limit 128 | error: invalid value '128' for '--limit <N>': 128 is not in 1..=127
 a number of lines of a cover | crdx cover crd.json v1 --count 1 | error: unexpected argument '--count' found
@@ -24,7 +24,7 @@ larger limits twice | crdx explain crd.json v1 --large --large | error: the argu
 "#;
 
 static POOLS: &str = r#"
-7 rows: name | command | out
+7 rows: name | command | lines
 pools of no version | crdx pools crd.json | error: the following required arguments were not provided:
 pools with a limit | crdx pools crd.json v1 --limit 4 | error: unexpected argument '--limit' found
 pools around no object | crdx pools crd.json v1 --vary /spec | error: --vary needs --from, once
@@ -36,7 +36,7 @@ objects without a name | crdx pools crd.json v1 --from | error: a value is requi
 "#;
 
 static WORDS: &str = r#"
-11 rows: name | command | out
+11 rows: name | command | lines
 a sample of nothing | crdx sample | error: the following required arguments were not provided:
 a sample of no version | crdx sample crd.json | error: the following required arguments were not provided:
 a check of no version | crdx check crd.json | error: the following required arguments were not provided:
@@ -51,7 +51,7 @@ a third word | crdx sample crd.json v1 w | error: unexpected argument 'w' found
 "#;
 
 static NUMBERS_OF_SAMPLES: &str = r#"
-7 rows: name | command | out
+7 rows: name | command | lines
 a limit of a check | crdx check crd.json v1 --limit 4 | error: unexpected argument '--limit' found
 a count of a check | crdx check crd.json v1 --count 1 | error: unexpected argument '--count' found
 limit 0 | crdx sample crd.json v1 --limit 0 | error: invalid value '0' for '--limit <N>': 0 is not in 1..=127
@@ -62,7 +62,7 @@ a limit that is no number | crdx sample crd.json v1 --limit x | error: invalid v
 "#;
 
 static ALL_AND_LINES: &str = r#"
-8 rows: name | command | out
+8 rows: name | command | lines
 all samples and a number of them | crdx sample crd.json v1 --all --count 5 | error: --all and --count cannot both be given
 the usual number of samples and all of them | crdx sample --count=100 crd.json v1 --all | error: --all and --count cannot both be given
 all samples twice | crdx sample crd.json v1 --all --all | error: the argument '--all' cannot be used multiple times
@@ -75,7 +75,7 @@ all of a check | crdx check crd.json v1 --all | error: unexpected argument '--al
 
 // What is wanted: a line of the help, or the version.
 static HELP: &str = r#"
-13 rows: name | command | out
+13 rows: name | command | lines
 an option of a cover | crdx cover --help | Usage: crdx cover [OPTIONS] <CRD> <VERSION>
 an option | crdx --help | Usage: crdx <COMMAND>
 a command | crdx help | Usage: crdx <COMMAND>
@@ -92,7 +92,7 @@ an option of a check | crdx check --help | Usage: crdx check [OPTIONS] <CRD> <VE
 "#;
 
 static HELP_OF_OBJECTS: &str = r#"
-12 rows: name | command | out
+12 rows: name | command | lines
 a short option of a validation | crdx validate -h | Usage: crdx validate [OPTIONS] <CRD> <VERSION> [OBJECT]
 an option of pruning | crdx prune --help | Usage: crdx prune [OPTIONS] <CRD> <VERSION> [OBJECT]
 a short option of pruning | crdx prune -h | Usage: crdx prune [OPTIONS] <CRD> <VERSION> [OBJECT]
@@ -159,18 +159,7 @@ impl Kind for CommandLine2 {
 
 #[test]
 fn mistakes(rt: HostRuntime) -> Result<(), Fail> {
-    try_tables(
-        &rt,
-        rt.alloc(),
-        &CommandLine2,
-        &[
-            COVERS_AND_INPUTS,
-            POOLS,
-            WORDS,
-            NUMBERS_OF_SAMPLES,
-            ALL_AND_LINES,
-        ],
-    )
+    try_tables(&rt, rt.alloc(), &CommandLine2, &[COVERS_AND_INPUTS, POOLS, WORDS, NUMBERS_OF_SAMPLES, ALL_AND_LINES])
 }
 
 /// A command line, and what is wanted of it.

@@ -52,7 +52,7 @@ fn try_file(
     path: &str,
     row: &Row,
 ) -> Result<(), Fail> {
-    let text = padded(rt.alloc(), row.text("head"), row.count("spaces")?)?;
+    let text = padded(rt.alloc(), row.text("head"), row.count("spaces"))?;
     let found = said_of_text(rt, path, text.as_str());
     is_said(report, "what is read", found, row.text("wanted"))
 }
@@ -97,18 +97,10 @@ no command | crdx | @WIDGET | 0 | 0 | 0 | 0
 "#;
 
 fn is_read(report: &mut Report, reads: Reads, row: &Row) {
-    report.is_number(
-        "the reads of the definition",
-        reads.crd,
-        row.number("crds")?,
-    );
-    report.is_number("the reads of the pools", reads.pools, row.number("pools")?);
-    report.is_number(
-        "the reads of the object",
-        reads.object,
-        row.number("objects")?,
-    );
-    report.is_number("the other reads", reads.other, row.number("others")?);
+    report.is_number("the reads of the definition", reads.crd, row.number("crds"));
+    report.is_number("the reads of the pools", reads.pools, row.number("pools"));
+    report.is_number("the reads of the object", reads.object, row.number("objects"));
+    report.is_number("the other reads", reads.other, row.number("others"));
 }
 
 /// How often the definition, the pools, the object and any other input are read.
@@ -117,12 +109,7 @@ struct ReadCounts;
 impl Kind for ReadCounts {
     fn attempt(&self, report: &mut Report, alloc: Global, row: &Row) -> Result<(), Fail> {
         let inputs = FakeInputs::new(alloc, row.text("crd"), ZERO_AND_ONE);
-        let output = run_on(
-            alloc,
-            row.text("command"),
-            inputs,
-            FailingSink::endless(alloc),
-        )?;
+        let output = run_on(alloc, row.text("command"), inputs, FailingSink::endless(alloc))?;
         is_read(report, output.reads, row);
         Ok(())
     }
@@ -160,7 +147,7 @@ impl Kind for StandardInput {
             second: row.text("input"),
             out: row.out(),
             err: row.err(),
-            status: row.number("status")?,
+            status: row.number("status"),
         };
         try_run(report, alloc, &run)
     }
@@ -192,12 +179,7 @@ fn try_failing_second(
 ) -> Result<(), AllocError> {
     let mut inputs = FakeInputs::new(alloc, WIDGET, ZERO_AND_ONE);
     inputs.second_left = left;
-    let output = run_on(
-        alloc,
-        row.text("command"),
-        inputs,
-        FailingSink::endless(alloc),
-    )?;
+    let output = run_on(alloc, row.text("command"), inputs, FailingSink::endless(alloc))?;
     is_answer(report, &output, "", row.err(), 4);
     Ok(())
 }

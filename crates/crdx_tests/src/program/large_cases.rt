@@ -74,20 +74,8 @@ struct Long2;
 
 impl Kind for Long2 {
     fn attempt(&self, report: &mut Report, alloc: Global, row: &Row) -> Result<(), Fail> {
-        let schema = repeated(
-            alloc,
-            row.text("head"),
-            row.text("entry"),
-            row.count("count")?,
-            row.text("tail"),
-        )?;
-        try_judged(
-            report,
-            alloc,
-            row.text("command"),
-            schema.as_str(),
-            row.err(),
-        )
+        let schema = repeated(alloc, row.text("head"), row.text("entry"), row.count("count"), row.text("tail"))?;
+        try_judged(report, alloc, row.text("command"), schema.as_str(), row.err())
     }
 }
 
@@ -123,14 +111,8 @@ struct WideObject;
 
 impl Kind for WideObject {
     fn attempt(&self, report: &mut Report, alloc: Global, row: &Row) -> Result<(), Fail> {
-        let schema = wide(alloc, row.count("properties")?)?;
-        try_judged(
-            report,
-            alloc,
-            row.text("command"),
-            schema.as_str(),
-            row.err(),
-        )
+        let schema = wide(alloc, row.count("properties"))?;
+        try_judged(report, alloc, row.text("command"), schema.as_str(), row.err())
     }
 }
 
@@ -194,7 +176,7 @@ struct PathCount;
 impl Kind for PathCount {
     fn attempt(&self, report: &mut Report, alloc: Global, row: &Row) -> Result<(), Fail> {
         let schema = wide(alloc, 1024)?;
-        let pools = pools_of_paths(alloc, row.count("paths")?)?;
+        let pools = pools_of_paths(alloc, row.count("paths"))?;
         let run = SchemaRun {
             name: row.name(),
             command: row.text("command"),
@@ -202,7 +184,7 @@ impl Kind for PathCount {
             second: pools.as_str(),
             out: row.out(),
             err: row.err(),
-            status: row.number("status")?,
+            status: row.number("status"),
         };
         try_schema_run(report, alloc, &run)
     }
@@ -267,13 +249,7 @@ struct Long;
 
 impl Kind for Long {
     fn attempt(&self, report: &mut Report, alloc: Global, row: &Row) -> Result<(), Fail> {
-        let pools = repeated(
-            alloc,
-            row.text("head"),
-            row.text("entry"),
-            row.count("count")?,
-            row.text("tail"),
-        )?;
+        let pools = repeated(alloc, row.text("head"), row.text("entry"), row.count("count"), row.text("tail"))?;
         let (out, err, status) = if row.err().is_empty() {
             ("{}\n{\"a\":1}\n", "crdx: end\n", 0)
         } else {

@@ -163,12 +163,7 @@ impl Kind for ObjectLeaves {
 
 #[test]
 fn leaves(rt: HostRuntime) -> Result<(), Fail> {
-    try_tables(
-        &rt,
-        rt.alloc(),
-        &ObjectLeaves,
-        &[NAMED, LEAVES, OPEN_LEAVES_AND_NULLS],
-    )
+    try_tables(&rt, rt.alloc(), &ObjectLeaves, &[NAMED, LEAVES, OPEN_LEAVES_AND_NULLS])
 }
 
 /// An object that is not as it is stored by a schema.

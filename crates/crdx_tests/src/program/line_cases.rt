@@ -1,6 +1,6 @@
 //! `--lines`: objects on the lines of an input.
 use crate::support::fakes::{FailingSink, FakeInputs};
-use crate::support::harness::{Output, SchemaRunRow, definition, has_failed, is_answer, run_on};
+use crate::support::harness::{Output, definition, has_failed, is_answer, run_on, SchemaRunRow};
 use crate::support::phrases::with_phrases;
 use crate::support::report::Report;
 use crate::support::rows::{Kind, Row, try_tables};
@@ -138,12 +138,7 @@ values that are no objects | crdx validate crd.json v1 object.json --lines | @SC
 
 #[test]
 fn runs(rt: HostRuntime) -> Result<(), Fail> {
-    try_tables(
-        &rt,
-        rt.alloc(),
-        &SchemaRunRow,
-        &[NAMED, ANSWERS, ENVELOPES_AND_FAULTS, LINES, REFUSALS],
-    )
+    try_tables(&rt, rt.alloc(), &SchemaRunRow, &[NAMED, ANSWERS, ENVELOPES_AND_FAULTS, LINES, REFUSALS])
 }
 
 const VALIDATE: &str = "crdx validate crd.json v1 object.json --lines";
@@ -180,12 +175,12 @@ struct LongLine;
 
 impl Kind for LongLine {
     fn attempt(&self, report: &mut Report, alloc: Global, row: &Row) -> Result<(), Fail> {
-        let long = padded(alloc, "{}", row.count("spaces")?)?;
+        let long = padded(alloc, "{}", row.count("spaces"))?;
         let lines = format!(in alloc; "{{}}\n{long}\n{{\"a\":1}}\n")?;
         let command = "crdx prune crd.json v1 object.json --lines";
         let sink = FailingSink::endless(alloc);
         let output = run_lines(alloc, command, lines.as_str(), usize::MAX, sink)?;
-        is_answer(report, &output, row.out(), row.err(), row.number("status")?);
+        is_answer(report, &output, row.out(), row.err(), row.number("status"));
         Ok(())
     }
 }
@@ -246,18 +241,12 @@ fn try_room(
     step: usize,
 ) -> Result<(), AllocError> {
     let sink = FailingSink::new(alloc, room, step, step == 1);
-    let output = run_lines(
-        alloc,
-        row.text("command"),
-        row.text("lines"),
-        usize::MAX,
-        sink,
-    )?;
+    let output = run_lines(alloc, row.text("command"), row.text("lines"), usize::MAX, sink)?;
     if room < out.len() {
         let out = beginning(out, room);
         return has_failed(report, alloc, &output, out, count_lines(out));
     }
-    is_answer(report, &output, out, "", row.number("status")?);
+    is_answer(report, &output, out, "", row.number("status"));
     Ok(())
 }
 

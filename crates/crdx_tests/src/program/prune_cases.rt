@@ -74,10 +74,5 @@ impl Kind for PrintedForms {
 
 #[test]
 fn printed(rt: HostRuntime) -> Result<(), Fail> {
-    try_tables(
-        &rt,
-        rt.alloc(),
-        &PrintedForms,
-        &[NULLS_AND_DEFAULTS, OTHER_OBJECTS],
-    )
+    try_tables(&rt, rt.alloc(), &PrintedForms, &[NULLS_AND_DEFAULTS, OTHER_OBJECTS])
 }

@@ -1,6 +1,6 @@
 //! `sample`: what is listed.
 use crate::support::given::TWO_KEYED_LISTS;
-use crate::support::harness::{RunRow, SchemaRun, try_schema_run};
+use crate::support::harness::{SchemaRun, try_schema_run, RunRow};
 use crate::support::pages::plain_lines;
 use crate::support::report::Report;
 use crate::support::rows::{Row, try_tables};
@@ -107,13 +107,13 @@ a name | crdx sample crd.json v1 --pools pools.json --limit 4 --count 2 --name w
     > {"apiVersion":"example.org/v1","kind":"Widget","metadata":{"name":"w"},"spec":{}}
     ! crdx: more
 a named sample to go on from
-    | crdx sample crd.json v1 --pools pools.json --limit 4 --count 1 --name w --after {"apiVersion":"example.org/v1","kind":"Widget","metadata":{"name":"w"},"spec":{}}
-    | @WIDGET | {"integers":[0,1]} | 0
+    | crdx sample crd.json v1 --pools pools.json --limit 4 --count 1 --name w
+    + ␠--after {"apiVersion":"example.org/v1","kind":"Widget","metadata":{"name":"w"},"spec":{}} | @WIDGET | {"integers":[0,1]} | 0
     > {"apiVersion":"example.org/v1","kind":"Widget","metadata":{"name":"w"},"spec":{"b":false}}
     ! crdx: more
 a sample to go on from with an envelope of another kind
-    | crdx sample crd.json v1 --pools pools.json --limit 4 --count 1 --name w --after {"apiVersion":"example.org/v1","kind":"Other","metadata":{"name":"w"},"spec":{}}
-    | @WIDGET | {"integers":[0,1]} | 0
+    | crdx sample crd.json v1 --pools pools.json --limit 4 --count 1 --name w
+    + ␠--after {"apiVersion":"example.org/v1","kind":"Other","metadata":{"name":"w"},"spec":{}} | @WIDGET | {"integers":[0,1]} | 0
     > {"apiVersion":"example.org/v1","kind":"Widget","metadata":{"name":"w"},"spec":{"b":false}}
     ! crdx: more
 a sample to go on from | crdx sample crd.json v1 --pools pools.json --limit 4 --after {"spec":{"b":false}} | @WIDGET | {"integers":[0,1]} | 0

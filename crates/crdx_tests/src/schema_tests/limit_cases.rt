@@ -35,13 +35,7 @@ struct Long;
 
 impl Kind for Long {
     fn attempt(&self, report: &mut Report, alloc: Global, row: &Row) -> Result<(), Fail> {
-        let schema = repeated(
-            alloc,
-            row.text("head"),
-            row.text("entry"),
-            row.count("count")?,
-            row.text("tail"),
-        )?;
+        let schema = repeated(alloc, row.text("head"), row.text("entry"), row.count("count"), row.text("tail"))?;
         try_schema(report, alloc, schema.as_str(), row.text("wanted"))
     }
 }
@@ -58,7 +52,7 @@ struct Deep;
 
 impl Kind for Deep {
     fn attempt(&self, report: &mut Report, alloc: Global, row: &Row) -> Result<(), Fail> {
-        let schema = nested(alloc, r#"{"items":"#, row.count("depth")?, "{}", "}")?;
+        let schema = nested(alloc, r#"{"items":"#, row.count("depth"), "{}", "}")?;
         try_schema(report, alloc, schema.as_str(), row.text("wanted"))
     }
 }

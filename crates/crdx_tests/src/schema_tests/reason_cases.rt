@@ -10,7 +10,7 @@ use std::test::Fail;
 // What is wanted in these tables: a line for each reason of each violation, the rule, the place, the keyword and the reason; or for a
 // violation without reasons the rule and the place.
 static KEYWORDS: &str = r#"
-10 rows: name | schema | out
+10 rows: name | schema | lines
 pattern | {"type":"object","properties":{"x":{"type":"string","pattern":"a"}}} | V17 "/properties/x" pattern NotOfScalars
 two keywords of other kinds | {"type":"object","properties":{"x":{"type":"integer","properties":{},"multipleOf":2}}}
     | V17 "/properties/x" multipleOf NotOfScalars
@@ -31,7 +31,7 @@ a required name without a field | {"type":"object","properties":{"x":{"type":"ob
 "#;
 
 static BESIDE_OTHERS: &str = r#"
-8 rows: name | schema | out
+8 rows: name | schema | lines
 additionalProperties true | {"type":"object","properties":{"x":{"type":"object","additionalProperties":true}}}
     | V17 "/properties/x" additionalProperties AdditionalPropertiesTrue
 int-or-string beside unknown fields
@@ -54,7 +54,7 @@ the pattern of int-or-string | {"type":"object","properties":{"x":{"x-kubernetes
 "#;
 
 static LISTS: &str = r#"
-10 rows: name | schema | out
+10 rows: name | schema | lines
 keys of an atomic list | {"type":"object","properties":{"x":{"type":"array","items":{"type":"string"},"x-kubernetes-list-map-keys":["k"]}}}
     | V11 "/properties/x" x-kubernetes-list-map-keys KeysOfOtherList
 a map list without keys | {"type":"object","properties":{"x":{"type":"array","x-kubernetes-list-type":"map","items":{"type":"object"}}}}
@@ -85,7 +85,7 @@ a set without items | {"type":"object","properties":{"x":{"type":"array","x-kube
 "#;
 
 static JUNCTORS: &str = r#"
-9 rows: name | schema | out
+9 rows: name | schema | lines
 a junctor at a list | {"type":"object","properties":{"x":{"type":"array","items":{"type":"string"},"not":{}}}}
     | V16 "/properties/x" not MisplacedJunctor
 a branch of a scalar that asks for a field | {"type":"object","properties":{"x":{"type":"integer","not":{"required":["a"]}}}}
@@ -183,12 +183,7 @@ fn said_with_defaults(alloc: Global, schema: &str) -> Result<String, Fail> {
 }
 
 fn try_reasons(report: &mut Report, alloc: Global, row: &Row) -> Result<(), Fail> {
-    is_said(
-        report,
-        "the reasons",
-        said(alloc, row.text("schema")),
-        row.out(),
-    )?;
+    is_said(report, "the reasons", said(alloc, row.text("schema")), row.out())?;
     let found = said_with_defaults(alloc, row.text("schema"));
     is_said(
         report,
@@ -212,7 +207,7 @@ fn reasons(rt: HostRuntime) -> Result<(), Fail> {
 
 // As in the tables before, of defaults that are not valid.
 static DEFAULTS: &str = r#"
-2 rows: name | schema | out
+2 rows: name | schema | lines
 a default of another type | {"type":"object","properties":{"x":{"type":"integer","default":"y"}}} | V14 "/properties/x"
 a default of another type, and a pattern | {"type":"object","properties":{"x":{"type":"integer","default":"y"},"y":{"type":"string","pattern":"a"}}}
     | V17 "/properties/y" pattern NotOfScalars

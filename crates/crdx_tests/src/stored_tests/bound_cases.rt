@@ -9,58 +9,15 @@ use std::test::Fail;
 use stored::is_within;
 use stored::junctors::{BranchTest, meets_junctors};
 
-struct CountRow {
-    name: &'static str,
-    least: Option<u64>,
-    most: Option<u64>,
-    within: &'static [u64],
-    outside: &'static [u64],
-}
-
-static COUNTS: [CountRow; 6] = [
-    CountRow {
-        name: "no bounds",
-        least: None,
-        most: None,
-        within: &[0, 1, 18446744073709551615],
-        outside: &[],
-    },
-    CountRow {
-        name: "two at least",
-        least: Some(2),
-        most: None,
-        within: &[2, 3, 18446744073709551615],
-        outside: &[0, 1],
-    },
-    CountRow {
-        name: "three at most",
-        least: None,
-        most: Some(3),
-        within: &[0, 2, 3],
-        outside: &[4, 18446744073709551615],
-    },
-    CountRow {
-        name: "one to two",
-        least: Some(1),
-        most: Some(2),
-        within: &[1, 2],
-        outside: &[0, 3],
-    },
-    CountRow {
-        name: "none",
-        least: Some(0),
-        most: Some(0),
-        within: &[0],
-        outside: &[1],
-    },
-    CountRow {
-        name: "three at least and two at most",
-        least: Some(3),
-        most: Some(2),
-        within: &[],
-        outside: &[2, 3],
-    },
-];
+static COUNTS: &str = r#"
+6 rows: name | least | most | within | outside
+no bounds | none | none | 0 1 18446744073709551615 | -
+two at least | 2 | none | 2 3 18446744073709551615 | 0 1
+three at most | none | 3 | 0 2 3 | 4 18446744073709551615
+one to two | 1 | 2 | 1 2 | 0 3
+none | 0 | 0 | 0 | 1
+three at least and two at most | 3 | 2 | - | 2 3
+"#;
 
 /// Notes each of these counts that is within the bounds and is not to be, or the other way round.
 fn are_within(
@@ -77,23 +34,22 @@ fn are_within(
     Ok(())
 }
 
-fn try_counts(report: &mut Report, alloc: Global, row: &CountRow) -> Result<(), Fail> {
-    let bounds = Bounds {
-        least: row.least,
-        most: row.most,
-    };
-    are_within(report, alloc, bounds, row.within, true)?;
-    Ok(are_within(report, alloc, bounds, row.outside, false)?)
+struct CountRow;
+
+impl Kind for CountRow {
+    fn attempt(&self, report: &mut Report, alloc: Global, row: &Row) -> Result<(), Fail> {
+        let bounds = Bounds {
+            least: row.least,
+            most: row.most,
+        };
+        are_within(report, alloc, bounds, row.within, true)?;
+        Ok(are_within(report, alloc, bounds, row.outside, false)?)
+    }
 }
 
 #[test]
 fn counts(rt: HostRuntime) -> Result<(), Fail> {
-    let mut report = Report::new(rt.alloc());
-    for row in &COUNTS {
-        let ended = try_counts(&mut report, rt.alloc(), row);
-        report.row(row.name, ended);
-    }
-    report.end(&rt)
+    try_tables(&rt, rt.alloc(), &CountRow, &[COUNTS])
 }
 
 /// The test that a branch meets where it says `exclusiveMinimum`.
@@ -141,7 +97,7 @@ fn asked_of_field(root: &Node) -> Result<&Validations, Fail> {
 
 fn are_met(report: &mut Report, row: &Row, root: &Node) -> Result<(), Fail> {
     let found = meets_junctors(&Marked, asked_of_field(root)?);
-    report.is_value("whether the junctors are met", &found, &row.is("are_met")?);
+    report.is_value("whether the junctors are met", &found, &row.is("are_met"));
     Ok(())
 }
 

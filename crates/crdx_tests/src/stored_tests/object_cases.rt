@@ -10,7 +10,7 @@ use std::test::Fail;
 use stored::{Fault, accept, complete, faults, prune, strict_faults, violations};
 
 static OBJECTS: &str = r#"
-6 rows: name | schema | object | pruned | completed | out
+6 rows: name | schema | object | pruned | completed | lines
 a default below an object without one
     | {"type":"object","properties":{"spec":{"type":"object","properties":{"f":{"type":"integer","default":7}}},"a":{"type":"integer","default":1}}}
     | {} | {} | {"a":1} | -
@@ -104,7 +104,7 @@ null | {"type":"object","properties":{"m":{"type":"array","items":{"type":"strin
 
 // What is wanted: all that is broken, a rule and a pointer a line.
 static DEFAULTS: &str = r#"
-4 rows: name | schema | out
+4 rows: name | schema | lines
 a default of another kind | {"type":"object","properties":{"n":{"type":"integer","default":"x"}}} | V14 /properties/n
 a default of another kind beside a field without a type | {"type":"object","properties":{"n":{"type":"integer","default":"x"},"z":{}}}
     | V01 /properties/z

@@ -122,7 +122,12 @@ fn try_lists(
     try_list(report, alloc, node, row.text("bad"), good, false)
 }
 
-fn try_values(report: &mut Report, alloc: Global, row: &Row, good: Good) -> Result<(), Fail> {
+fn try_values(
+    report: &mut Report,
+    alloc: Global,
+    row: &Row,
+    good: Good,
+) -> Result<(), Fail> {
     let schema = schema_of_field(alloc, row.text("field"))?;
     try_lists(report, alloc, schema.root(), row, good)
 }

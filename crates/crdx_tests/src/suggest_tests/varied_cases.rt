@@ -17,8 +17,6 @@ const NESTED: &str =
         "properties":{"c":{"type":"string","format":"date"},"d":{"type":"boolean"}}},"e":{"type":"string"}}},
         "status":{"type":"object","properties":{"g":{"type":"boolean"}}}}}"#;
 
-const OBJECT: &str = r#"[{"list":[{"k":"p"}],"spec":{"a":5,"b":{"c":"x"},"e":"y"}}]"#;
-
 static VARIED: &str = r#"
 9 rows: name | objects | varied | without | fixed | present | paths
 siblings that are there and one that is not | [{"list":[{"k":"p"}],"spec":{"a":5,"b":{"c":"x"},"e":"y"}}] | /spec/a | -
@@ -51,108 +49,22 @@ enum Answer<'a> {
     NoMemory,
 }
 
-/// Objects of `NESTED`, the varied paths, those that never occur, and why there is no document.
-struct Refused {
-    name: &'static str,
-    objects: &'static str,
-    varied: &'static str,
-    without: &'static str,
-    answer: Answer<'static>,
-}
-
-static FAULTS: [Refused; 13] = [
-    Refused {
-        name: "no such field",
-        objects: OBJECT,
-        varied: "/spec/x",
-        without: "",
-        answer: Answer::BadPath("/spec/x"),
-    },
-    Refused {
-        name: "through a list",
-        objects: OBJECT,
-        varied: "/list/[]/k",
-        without: "",
-        answer: Answer::BadPath("/list/[]/k"),
-    },
-    Refused {
-        name: "the beginning of a name",
-        objects: OBJECT,
-        varied: "/spe",
-        without: "",
-        answer: Answer::BadPath("/spe"),
-    },
-    Refused {
-        name: "no name",
-        objects: OBJECT,
-        varied: "/",
-        without: "",
-        answer: Answer::BadPath("/"),
-    },
-    Refused {
-        name: "nothing that the field belongs to",
-        objects: r#"[{"spec":{"a":5}}]"#,
-        varied: "/spec/b/c",
-        without: "",
-        answer: Answer::NotInObject("/spec/b/c"),
-    },
-    Refused {
-        name: "a null that the field would belong to",
-        objects: r#"[{"spec":null}]"#,
-        varied: "/spec/a",
-        without: "",
-        answer: Answer::NotInObject("/spec/a"),
-    },
-    Refused {
-        name: "below a path that is left out",
-        objects: OBJECT,
-        varied: "/spec/b/c",
-        without: "/spec/b",
-        answer: Answer::NotInObject("/spec/b/c"),
-    },
-    Refused {
-        name: "no object",
-        objects: "[]",
-        varied: "/spec/a",
-        without: "",
-        answer: Answer::NotInObject("/spec/a"),
-    },
-    Refused {
-        name: "two objects",
-        objects: "[{},{}]",
-        varied: "/spec",
-        without: "",
-        answer: Answer::NotInObject("/spec"),
-    },
-    Refused {
-        name: "the first of two",
-        objects: r#"[{"spec":{}}]"#,
-        varied: "/spec/b/c /x",
-        without: "",
-        answer: Answer::NotInObject("/spec/b/c"),
-    },
-    Refused {
-        name: "an item of a map list",
-        objects: OBJECT,
-        varied: "",
-        without: "/list/[]",
-        answer: Answer::BadPath("/list/[]"),
-    },
-    Refused {
-        name: "no such path",
-        objects: "[]",
-        varied: "",
-        without: "/status /none",
-        answer: Answer::BadPath("/none"),
-    },
-    Refused {
-        name: "a varied path first",
-        objects: OBJECT,
-        varied: "/q",
-        without: "/none",
-        answer: Answer::BadPath("/q"),
-    },
-];
+static FAULTS: &str = r#"
+13 rows: name | objects | varied | without | answer
+no such field | [{"list":[{"k":"p"}],"spec":{"a":5,"b":{"c":"x"},"e":"y"}}] | /spec/x | - | BadPath("/spec/x")
+through a list | [{"list":[{"k":"p"}],"spec":{"a":5,"b":{"c":"x"},"e":"y"}}] | /list/[]/k | - | BadPath("/list/[]/k")
+the beginning of a name | [{"list":[{"k":"p"}],"spec":{"a":5,"b":{"c":"x"},"e":"y"}}] | /spe | - | BadPath("/spe")
+no name | [{"list":[{"k":"p"}],"spec":{"a":5,"b":{"c":"x"},"e":"y"}}] | / | - | BadPath("/")
+nothing that the field belongs to | [{"spec":{"a":5}}] | /spec/b/c | - | NotInObject("/spec/b/c")
+a null that the field would belong to | [{"spec":null}] | /spec/a | - | NotInObject("/spec/a")
+below a path that is left out | [{"list":[{"k":"p"}],"spec":{"a":5,"b":{"c":"x"},"e":"y"}}] | /spec/b/c | /spec/b | NotInObject("/spec/b/c")
+no object | [] | /spec/a | - | NotInObject("/spec/a")
+two objects | [{},{}] | /spec | - | NotInObject("/spec")
+the first of two | [{"spec":{}}] | /spec/b/c /x | - | NotInObject("/spec/b/c")
+an item of a map list | [{"list":[{"k":"p"}],"spec":{"a":5,"b":{"c":"x"},"e":"y"}}] | - | /list/[] | BadPath("/list/[]")
+no such path | [] | - | /status /none | BadPath("/none")
+a varied path first | [{"list":[{"k":"p"}],"spec":{"a":5,"b":{"c":"x"},"e":"y"}}] | /q | /none | BadPath("/q")
+"#;
 
 /// Objects of `NESTED`, the varied paths, those that never occur, and the members `fixed`, `present` and `paths`.
 struct VariedRow;
@@ -160,13 +72,7 @@ struct VariedRow;
 impl Kind for VariedRow {
     fn attempt(&self, report: &mut Report, alloc: Global, row: &Row) -> Result<(), Fail> {
         let asked = (row.text("varied"), row.text("without"));
-        let document = suggested(
-            alloc,
-            NESTED,
-            row.text("objects"),
-            asked,
-            PoolLimits::STANDARD,
-        )??;
+        let document = suggested(alloc, NESTED, row.text("objects"), asked, PoolLimits::STANDARD)??;
         has_member(report, alloc, &document, "fixed", row.text("fixed"))?;
         has_member(report, alloc, &document, "present", row.text("present"))?;
         has_member(report, alloc, &document, "paths", row.text("paths"))
@@ -218,20 +124,20 @@ fn is_answer(
     Ok(())
 }
 
-fn try_fault(report: &mut Report, alloc: Global, row: &Refused) -> Result<(), Fail> {
-    let asked = (row.varied, row.without);
-    let document = suggested(alloc, NESTED, row.objects, asked, PoolLimits::STANDARD)?;
-    is_answer(report, alloc, &document, row.answer)
+/// Objects of `NESTED`, the varied paths, those that never occur, and why there is no document.
+struct Refused;
+
+impl Kind for Refused {
+    fn attempt(&self, report: &mut Report, alloc: Global, row: &Row) -> Result<(), Fail> {
+        let asked = (row.text("varied"), row.text("without"));
+        let document = suggested(alloc, NESTED, row.text("objects"), asked, PoolLimits::STANDARD)?;
+        is_answer(report, alloc, &document, row.answer)
+    }
 }
 
 #[test]
 fn faults(rt: HostRuntime) -> Result<(), Fail> {
-    let mut report = Report::new(rt.alloc());
-    for row in &FAULTS {
-        let ended = try_fault(&mut report, rt.alloc(), row);
-        report.row(row.name, ended);
-    }
-    report.end(&rt)
+    try_tables(&rt, rt.alloc(), &Refused, &[FAULTS])
 }
 
 /// Adds so many members with this value, each after a comma but the first.
@@ -271,48 +177,26 @@ fn many_fields(alloc: Global, count: u32) -> Result<(String, String), AllocError
     Ok((schema, objects))
 }
 
-/// How many fields each of the objects has, the limits, and what is answered.
-struct ManyFields {
-    name: &'static str,
-    fields: u32,
-    limits: PoolLimits,
-    answer: Answer<'static>,
-}
-
 /// With so many fields three times, as many are present beside the varied one, and the two objects on the way.
-static MANY_FIELDS: [ManyFields; 3] = [
-    ManyFields {
-        name: "64 present",
-        fields: 21,
-        limits: PoolLimits::STANDARD,
-        answer: Answer::Suggested,
-    },
-    ManyFields {
-        name: "67 present",
-        fields: 22,
-        limits: PoolLimits::STANDARD,
-        answer: Answer::TooLarge,
-    },
-    ManyFields {
-        name: "67 present of 1,024",
-        fields: 22,
-        limits: PoolLimits::LARGE,
-        answer: Answer::Suggested,
-    },
-];
+static MANY_FIELDS: &str = r#"
+3 rows: name | fields | limits | answer
+64 present | 21 | standard | Suggested
+67 present | 22 | standard | TooLarge
+67 present of 1,024 | 22 | large | Suggested
+"#;
 
-fn try_many(report: &mut Report, alloc: Global, row: &ManyFields) -> Result<(), Fail> {
-    let (schema, objects) = many_fields(alloc, row.fields)?;
-    let document = suggested(alloc, &schema, &objects, ("/p/p/f0", ""), row.limits)?;
-    is_answer(report, alloc, &document, row.answer)
+/// How many fields each of the objects has, the limits, and what is answered.
+struct ManyFields;
+
+impl Kind for ManyFields {
+    fn attempt(&self, report: &mut Report, alloc: Global, row: &Row) -> Result<(), Fail> {
+        let (schema, objects) = many_fields(alloc, row.small("fields"))?;
+        let document = suggested(alloc, &schema, &objects, ("/p/p/f0", ""), row.limits)?;
+        is_answer(report, alloc, &document, row.answer)
+    }
 }
 
 #[test]
 fn many_siblings(rt: HostRuntime) -> Result<(), Fail> {
-    let mut report = Report::new(rt.alloc());
-    for row in &MANY_FIELDS {
-        let ended = try_many(&mut report, rt.alloc(), row);
-        report.row(row.name, ended);
-    }
-    report.end(&rt)
+    try_tables(&rt, rt.alloc(), &ManyFields, &[MANY_FIELDS])
 }

@@ -7,6 +7,7 @@ use crate::support::documents::{
     TRUTHS, TWO_INTEGER_KEYS, TWO_TEXTS, ZERO_AND_ONE, ZERO_AND_SEVEN,
 };
 use crate::support::harness::{pools_of, schema_of};
+use crate::support::rows::Row;
 use plan::Plan;
 use std::alloc::Global;
 use std::test::Fail;
@@ -17,6 +18,15 @@ pub struct Given<'a> {
     pub schema: &'a str,
     pub pools: &'a str,
     pub limit: u32,
+}
+
+/// What a row says that a plan is made of.
+pub fn given_of(row: &Row) -> Given<'_> {
+    Given {
+        schema: row.text("schema"),
+        pools: row.text("pools"),
+        limit: row.small("limit"),
+    }
 }
 
 /// The plan of what is given.

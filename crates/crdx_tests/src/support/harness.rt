@@ -125,7 +125,7 @@ impl Kind for RunRow {
             second: row.text("second"),
             out: row.out(),
             err: row.err(),
-            status: row.number("status")?,
+            status: row.number("status"),
         };
         try_run(report, alloc, &run)
     }
@@ -168,7 +168,7 @@ impl Kind for SchemaRunRow {
             second: row.text("second"),
             out: row.out(),
             err: row.err(),
-            status: row.number("status")?,
+            status: row.number("status"),
         };
         try_schema_run(report, alloc, &run)
     }

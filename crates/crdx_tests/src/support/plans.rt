@@ -7,6 +7,7 @@ ghost use Rattle.plan.specs.declared.sort.Sort.TheVariants as sort;
 use crate::support::report::Report;
 use plan::{Meter, Plan, PlanNode, SizeSet, Sort};
 use std::alloc::Global;
+use std::fmt::Write;
 use std::test::Fail;
 
 /// A place in a short table.
@@ -44,15 +45,16 @@ pub fn are_sizes<S: SizeSet>(
     alloc: Global,
     what: &str,
     set: S,
-    wanted: &[u32],
+    wanted: &str,
 ) -> Result<(), Fail> {
-    let mut sizes = Vec::new(alloc);
+    let mut sizes = String::new(alloc);
     for n in 0..S::BITS {
         if set.has(n) {
-            sizes.push(n)?;
+            let space = if sizes.is_empty() { "" } else { " " };
+            write!(sizes, "{space}{n}")?;
         }
     }
-    report.is_value(what, &sizes.as_slice(), &wanted);
+    report.is_text(what, sizes.as_str(), wanted);
     Ok(())
 }
 
@@ -103,26 +105,25 @@ pub fn more_of(plan: &Plan<u64>, node: PlanNode, taken: u32) -> Option<u64>
     }
 }
 
-/// A node of a plan: the root, the root's first slot, a slot of this one, or its items.
-#[derive(Clone, Copy)]
-pub enum At {
-    Root,
-    First,
-    Slot(u64),
-    Item,
+fn place_in(text: &str) -> Option<u64> {
+    match text.strip_prefix("slot ") {
+        Some(place) => place.parse::<u64>().ok(),
+        None => None,
+    }
 }
 
-pub fn node_at(plan: &Plan<u64>, at: At, meter: &mut Meter) -> Option<PlanNode>
+/// A node of a plan: the root, the root's first slot, a slot of this one, or its items, by their names.
+pub fn node_at(plan: &Plan<u64>, at: &str, meter: &mut Meter) -> Option<PlanNode>
     ensures { IfSome result (λ n. n < length (sites_of plan.now.pools plan.now.root)) }
 {
     let root = plan.root();
-    if let At::Root = at {
+    if at == "root" {
         return Some(root);
     }
     let first = slot_of(plan, root, 0, meter)?;
     match at {
-        At::Root | At::First => Some(first),
-        At::Slot(place) => slot_of(plan, first, place, meter),
-        At::Item => item_of(plan, first, 0, meter),
+        "first" => Some(first),
+        "item" => item_of(plan, first, 0, meter),
+        _ => slot_of(plan, first, place_in(at)?, meter),
     }
 }

@@ -18,6 +18,7 @@
 use crate::support::documents::document;
 use crate::support::report::Report;
 use std::alloc::{AllocError, Global};
+use std::cell::Cell;
 use std::process::Abort;
 use std::test::Fail;
 
@@ -30,6 +31,8 @@ pub struct Row {
     cells: Vec<String>,
     out: String,
     err: String,
+    /// Whether a cell was asked for that is not there, or has another form.
+    is_misread: Cell<bool>,
 }
 
 impl Row {
@@ -37,53 +40,74 @@ impl Row {
         self.name.as_str()
     }
 
-    /// The text of the cell under this word of the head.
+    /// The text of the cell under this word of the head. Where there is none, the row fails.
     pub fn text(&self, column: &str) -> &str {
         for (place, word) in self.head.split(" | ").enumerate() {
             if word == column {
                 return self.cell(place);
             }
         }
-        "(no such cell)"
+        self.is_misread.set(true);
+        ""
     }
 
     fn cell(&self, place: usize) -> &str {
         match self.cells.get(place) {
             Some(cell) => cell.as_str(),
-            None => "(no such cell)",
+            None => "",
         }
     }
 
-    /// The number in the cell under this word of the head.
-    pub fn number(&self, column: &str) -> Result<u64, Fail> {
+    /// As `text`, of a cell that may say `none`.
+    pub fn optional(&self, column: &str) -> Option<&str> {
+        match self.text(column) {
+            "none" => None,
+            text => Some(text),
+        }
+    }
+
+    /// The number in the cell under this word of the head. Where it has none, the row fails.
+    pub fn number(&self, column: &str) -> u64 {
         match self.text(column).parse::<u64>() {
-            Ok(number) => Ok(number),
-            Err(_) => Err(Fail::from("a cell has no number")),
+            Ok(number) => number,
+            Err(_) => {
+                self.is_misread.set(true);
+                0
+            }
         }
     }
 
     /// As `number`, of what is counted.
-    pub fn count(&self, column: &str) -> Result<usize, Fail> {
+    pub fn count(&self, column: &str) -> usize {
         match self.text(column).parse::<usize>() {
-            Ok(count) => Ok(count),
-            Err(_) => Err(Fail::from("a cell has no count")),
+            Ok(count) => count,
+            Err(_) => {
+                self.is_misread.set(true);
+                0
+            }
         }
     }
 
     /// As `number`, of 32 bits.
-    pub fn small(&self, column: &str) -> Result<u32, Fail> {
+    pub fn small(&self, column: &str) -> u32 {
         match self.text(column).parse::<u32>() {
-            Ok(number) => Ok(number),
-            Err(_) => Err(Fail::from("a cell has no number of 32 bits")),
+            Ok(number) => number,
+            Err(_) => {
+                self.is_misread.set(true);
+                0
+            }
         }
     }
 
-    /// Whether the cell under this word of the head says `yes`; else it has to say `no`.
-    pub fn is(&self, column: &str) -> Result<bool, Fail> {
+    /// Whether the cell under this word of the head says `yes`. Where it says neither that nor `no`, the row fails.
+    pub fn is(&self, column: &str) -> bool {
         match self.text(column) {
-            "yes" => Ok(true),
-            "no" => Ok(false),
-            _ => Err(Fail::from("a cell says neither yes nor no")),
+            "yes" => true,
+            "no" => false,
+            _ => {
+                self.is_misread.set(true);
+                false
+            }
         }
     }
 
@@ -110,13 +134,17 @@ impl Row {
         }
     }
 
+    /// Whether it has as many cells as its head says, and each that was asked for is there.
     fn is_whole(&self) -> bool {
-        self.head.split(" | ").count() == self.cells.len()
+        self.head.split(" | ").count() == self.cells.len() && !self.is_misread.get()
     }
 
-    /// Whether its next cell is the first line of standard output.
-    fn is_out_next(&self) -> bool {
-        self.head.split(" | ").nth(self.cells.len()) == Some("out")
+    /// Whether its next cell is the first of its lines.
+    fn is_line_next(&self) -> bool {
+        matches!(
+            self.head.split(" | ").nth(self.cells.len()),
+            Some("out" | "lines")
+        )
     }
 }
 
@@ -151,14 +179,18 @@ fn push_meant(text: &mut String, cell: &str) -> Result<(), AllocError> {
 }
 
 fn push_line(lines: &mut String, line: &str) -> Result<(), AllocError> {
-    push_meant(lines, line)?;
-    lines.push('\n')
+    match line.strip_suffix('␄') {
+        Some(cut) => push_meant(lines, cut),
+        None => {
+            push_meant(lines, line)?;
+            lines.push('\n')
+        }
+    }
 }
 
 fn push_cell(row: &mut Row, cell: String) -> Result<(), AllocError> {
-    if row.is_out_next() && !cell.is_empty() {
-        row.out.push_str(cell.as_str())?;
-        row.out.push('\n')?;
+    if row.is_line_next() && !cell.is_empty() {
+        push_line(&mut row.out, cell.as_str())?;
     }
     Ok(row.cells.push(cell)?)
 }
@@ -230,25 +262,27 @@ impl Tables {
             cells: Vec::new(self.alloc),
             out: String::new(self.alloc),
             err: String::new(self.alloc),
+            is_misread: Cell::new(false),
         };
         Ok(self.rows.push(row)?)
     }
 
-    /// Goes on with the last cell.
-    fn go_on(&mut self, text: &str) -> Result<(), Fail> {
-        match self.last()?.cells.last_mut() {
-            Some(cell) => Ok(push_more(cell, text)?),
-            None => Err(Fail::from("a line that goes on with no cell")),
-        }
+    /// Goes on with the last cell, after this.
+    fn push_more(&mut self, between: &str, text: &str) -> Result<(), Fail> {
+        let Some(cell) = self.last()?.cells.last_mut() else {
+            return Err(Fail::from("a line that goes on with no cell"));
+        };
+        cell.push_str(between)?;
+        Ok(push_meant(cell, text)?)
     }
 
-    fn go_on_with_cells(&mut self, text: &str) -> Result<(), Fail> {
+    fn go_on(&mut self, between: &str, text: &str) -> Result<(), Fail> {
         match text.split_once(" | ") {
             Some((text, cells)) => {
-                self.go_on(text)?;
+                self.push_more(between, text)?;
                 self.push_cells(cells)
             }
-            None => self.go_on(text),
+            None => self.push_more(between, text),
         }
     }
 
@@ -265,7 +299,10 @@ impl Tables {
             let lines = self.lines_of(line)?;
             return Ok(self.last()?.err.push_str(lines.as_str())?);
         }
-        self.go_on_with_cells(text)
+        if let Some(text) = text.strip_prefix("+ ") {
+            return self.go_on("", text);
+        }
+        self.go_on("\n", text)
     }
 
     fn push_head(&mut self, rows: &str, cells: &str) -> Result<(), Fail> {
@@ -307,11 +344,6 @@ impl Tables {
     }
 }
 
-fn push_more(cell: &mut String, text: &str) -> Result<(), AllocError> {
-    cell.push('\n')?;
-    push_meant(cell, text)
-}
-
 fn read_tables(alloc: Global, tables: &[&str]) -> Result<Tables, Fail> {
     let mut all = Tables::new(alloc);
     for table in tables {
@@ -326,12 +358,12 @@ pub trait Kind {
 }
 
 fn try_row<K: Kind>(report: &mut Report, alloc: Global, kind: &K, row: &Row) {
-    let ended = if row.is_whole() {
-        kind.attempt(report, alloc, row)
+    let ended = kind.attempt(report, alloc, row);
+    if row.is_whole() {
+        report.row(row.name(), ended);
     } else {
-        Err(Fail::from("not as many cells as the head says"))
-    };
-    report.row(row.name(), ended);
+        report.row(row.name(), Err(Fail::from("a cell is not there, or of another form")));
+    }
 }
 
 fn all_read<K: Kind>(report: &mut Report, alloc: Global, kind: &K, tables: &Tables) {
