@@ -114,17 +114,18 @@ fn lends_pages(
     row: &Row,
     copies: &mut Copies,
     meter: &mut Meter,
-) {
+) -> Result<(), AllocError> {
     let first = live.lend_page(row.small("first"), copies, meter);
     report.is_value("the first answer", &first, &Ok(false));
     let second = live.lend_page(row.small("second"), copies, meter);
-    report.is_value("the second answer", &second, &row.answer);
+    report.is_shown("the second answer", &second, row.text("answer"))?;
     if live.tree().is_none() {
         for count in [0, 1] {
             let again = live.lend_page(count, copies, meter);
             report.is_value("an answer after the end", &again, &Err(EFault::Ended));
         }
     }
+    Ok(())
 }
 
 fn lends(
@@ -139,7 +140,7 @@ fn lends(
         room: row.count("room"),
         trees: Vec::new(alloc),
     };
-    lends_pages(report, live, row, &mut copies, meter);
+    lends_pages(report, live, row, &mut copies, meter)?;
     is_said(report, "taken", texts(alloc, &copies.trees), row.text("taken"))?;
     let place = said_of_tree(alloc, live.tree());
     is_said(report, "the place", place, row.text("at"))

@@ -1,13 +1,13 @@
 //! Pages from place to place, with their steps.
-use crate::support::given::{FIFTEEN_ITEMS, made};
+use crate::support::given::{FIFTEEN_ITEMS, Given, given_of, made};
 use crate::support::harness::is_said;
 use crate::support::pages::{lines_of, list_before_three, next_three_lists, place_of};
 use crate::support::report::Report;
-use crate::support::rows::{Kind, Row, try_tables};
+use crate::support::rows::{Kind, Row, all_rows, try_tables};
 use enumerate::{EFault, Live, page};
 use jtree::Tree;
 use plan::{Meter, Plan};
-use std::alloc::Global;
+use std::alloc::{AllocError, Global};
 use std::test::Fail;
 
 static PAGES: &str = r#"
@@ -29,49 +29,72 @@ the fourth page | @SPEC | {"integers":[0,1]} | 4 | {"spec":{"a":1,"b":false}} | 
 the page past the last sample | @SPEC | {"integers":[0,1]} | 4 | {"spec":{"a":1,"b":true}} | yes | 240
 "#;
 
+/// The place that a page of three items goes on from, its lines, whether it is the last, and the most steps that it takes.
+#[derive(Clone, Copy)]
+struct PageOf<'a> {
+    after: Option<&'a str>,
+    lines: &'a str,
+    end: bool,
+    steps: u64,
+}
+
 fn is_page(
     report: &mut Report,
     alloc: Global,
     plan: &Plan<u64>,
-    row: &Row<'_>,
+    wanted: PageOf<'_>,
     meter: &mut Meter,
 ) -> Result<(), Fail> {
-    let place = place_of(alloc, row.optional("after"))?;
+    let place = place_of(alloc, wanted.after)?;
     let page = page(alloc, plan, place.as_ref(), 3, meter)?;
-    report.is_value("the end", &page.end, &row.is("end"));
-    report.holds("few steps", meter.steps() <= row.number("steps"));
-    is_said(report, "the lines", lines_of(alloc, &page.items), row.out())
+    report.is_value("the end", &page.end, &wanted.end);
+    report.holds("few steps", meter.steps() <= wanted.steps);
+    is_said(report, "the lines", lines_of(alloc, &page.items), wanted.lines)
 }
 
-fn try_page(report: &mut Report, alloc: Global, row: &Row<'_>) -> Result<(), Fail> {
-    let mut plan = made(alloc, given_of(row))?;
+fn try_page(
+    report: &mut Report,
+    alloc: Global,
+    given: Given<'_>,
+    wanted: PageOf<'_>,
+) -> Result<(), Fail> {
+    let mut plan = made(alloc, given)?;
     let mut meter = plan.meter();
-    is_page(report, alloc, &plan, row, &mut meter)
+    is_page(report, alloc, &plan, wanted, &mut meter)
+}
+
+struct PageRow;
+
+impl Kind for PageRow {
+    fn attempt(&self, report: &mut Report, alloc: Global, row: &Row) -> Result<(), Fail> {
+        let wanted = PageOf {
+            after: row.optional("after"),
+            lines: row.out(),
+            end: row.is("end"),
+            steps: row.number("steps"),
+        };
+        try_page(report, alloc, given_of(row), wanted)
+    }
 }
 
 /// A page amid 8^15 samples.
 fn try_fifteen(report: &mut Report, alloc: Global) -> Result<(), Fail> {
     let place = list_before_three(alloc, 15)?;
     let lines = next_three_lists(alloc, 15)?;
-    let row = PageRow {
-        name: "fifteen items",
-        given: FIFTEEN_ITEMS,
+    let wanted = PageOf {
         after: Some(place.as_str()),
         lines: lines.as_str(),
         end: false,
         steps: 4096,
     };
-    try_page(report, alloc, &row)
+    try_page(report, alloc, FIFTEEN_ITEMS, wanted)
 }
 
 #[test]
 fn pages(rt: HostRuntime) -> Result<(), Fail> {
     enumerate::laws::pages_agree();
     let mut report = Report::new(rt.alloc());
-    for row in &PAGES {
-        let ended = try_page(&mut report, rt.alloc(), row);
-        report.row(row.name, ended);
-    }
+    all_rows(&mut report, rt.alloc(), &PageRow, &[PAGES]);
     let ended = try_fifteen(&mut report, rt.alloc());
     report.row("fifteen items", ended);
     report.end(&rt)
@@ -150,43 +173,23 @@ fn places(rt: HostRuntime) -> Result<(), Fail> {
     try_tables(&rt, rt.alloc(), &Place, &[PLACES])
 }
 
-/// A fault of a page, and its code.
-struct Code {
-    name: &'static str,
+fn try_code(
+    report: &mut Report,
+    alloc: Global,
     fault: EFault,
-    code: &'static str,
-}
-
-static FAULTS: [Code; 3] = [
-    Code {
-        name: "a place that is no sample",
-        fault: EFault::NotASample,
-        code: "E1",
-    },
-    Code {
-        name: "out of memory",
-        fault: EFault::NoMemory,
-        code: "E2",
-    },
-    Code {
-        name: "after the end",
-        fault: EFault::Ended,
-        code: "E3",
-    },
-];
-
-fn try_code(report: &mut Report, alloc: Global, row: &Code) -> Result<(), Fail> {
-    let text = row.fault.to_string(alloc)?;
-    report.is_text("the code", text.as_str(), row.code);
+    code: &str,
+) -> Result<(), AllocError> {
+    let text = fault.to_string(alloc)?;
+    report.is_text("the code", text.as_str(), code);
+    report.row(code, Ok(()));
     Ok(())
 }
 
 #[test]
 fn codes_of_faults(rt: HostRuntime) -> Result<(), Fail> {
     let mut report = Report::new(rt.alloc());
-    for row in &FAULTS {
-        let ended = try_code(&mut report, rt.alloc(), row);
-        report.row(row.name, ended);
-    }
+    try_code(&mut report, rt.alloc(), EFault::NotASample, "E1")?;
+    try_code(&mut report, rt.alloc(), EFault::NoMemory, "E2")?;
+    try_code(&mut report, rt.alloc(), EFault::Ended, "E3")?;
     report.end(&rt)
 }

@@ -1,12 +1,12 @@
 //! The plain reference, and walks, against lists of samples that were made by hand.
 use crate::support::comparison::compare_plan;
-use crate::support::documents::TWO_TEXTS;
+use crate::support::documents::{LONG_MAP_LIST, REQUIRED_LONG_MAP_LIST, TWO_TEXTS};
 use crate::support::fakes::FailingSink;
-use crate::support::given::{Given, TWO_KEYED_LISTS};
+use crate::support::given::{Given, TWO_KEYED_LISTS, given_of};
 use crate::support::harness::{is_said, is_tree};
 use crate::support::pages::{WalkInput, listed, plain_lines, walked};
 use crate::support::report::Report;
-use crate::support::rows::{Kind, Row, try_tables};
+use crate::support::rows::{Kind, Row, rows_of, try_tables};
 use jtree::Tree;
 use std::alloc::Global;
 use std::test::Fail;
@@ -102,12 +102,6 @@ null | @OPEN_NULLABLE | {"any":[null]} | 2
     > {"x":null}
 "#;
 
-static LONG_LISTS: &str = r#"
-2 rows: name | schema
-a list that cannot be | @LONG_MAP_LIST
-a required list that cannot be | @REQUIRED_LONG_MAP_LIST
-"#;
-
 /// What a walk writes by pages of three.
 fn walked_lines(alloc: Global, given: Given<'_>) -> Result<String, Fail> {
     let walk = WalkInput {
@@ -139,7 +133,6 @@ fn samples(rt: HostRuntime) -> Result<(), Fail> {
     try_tables(&rt, rt.alloc(), &SamplesRow, &[SAMPLES])
 }
 
-/// The plans of at most 1 to 8 nodes are as the plain reference has them.
 fn are_plain(report: &mut Report, alloc: Global, schema: &str, pools: &str, name: &str) {
     for limit in 1..9 {
         let given = Given {
@@ -154,9 +147,9 @@ fn are_plain(report: &mut Report, alloc: Global, schema: &str, pools: &str, name
 #[test]
 fn plans_at_each_limit(rt: HostRuntime) -> Result<(), Fail> {
     let mut report = Report::new(rt.alloc());
-    for row in &SAMPLES {
-        let Given { schema, pools, .. } = row.given;
-        are_plain(&mut report, rt.alloc(), schema, pools, row.name);
+    for row in &rows_of(rt.alloc(), &[SAMPLES])? {
+        let Given { schema, pools, .. } = given_of(row);
+        are_plain(&mut report, rt.alloc(), schema, pools, row.name());
     }
     report.end(&rt)
 }
@@ -164,8 +157,11 @@ fn plans_at_each_limit(rt: HostRuntime) -> Result<(), Fail> {
 #[test]
 fn plans_of_long_lists(rt: HostRuntime) -> Result<(), Fail> {
     let mut report = Report::new(rt.alloc());
-    for row in &LONG_LISTS {
-        are_plain(&mut report, rt.alloc(), row.schema, TWO_TEXTS, row.name);
+    for (name, schema) in [
+        ("a list that cannot be", LONG_MAP_LIST),
+        ("a required list that cannot be", REQUIRED_LONG_MAP_LIST),
+    ] {
+        are_plain(&mut report, rt.alloc(), schema, TWO_TEXTS, name);
     }
     report.end(&rt)
 }

@@ -163,8 +163,14 @@ struct WalkRow;
 impl Kind for WalkRow {
     fn attempt(&self, report: &mut Report, alloc: Global, row: &Row) -> Result<(), Fail> {
         let mut sink = FailingSink::new(alloc, row.count("room"), usize::MAX, false);
-        let found = walked(alloc, row.walk, &mut sink)?;
-        report.is_value("the answer", &found, &row.answer);
+        let walk = WalkInput {
+            given: given_of(row),
+            place: row.optional("place"),
+            page: row.small("page"),
+            total: row.small("total"),
+        };
+        let found = walked(alloc, walk, &mut sink)?;
+        report.is_shown("the answer", &found, row.text("answer"))?;
         report.is_text("the output", sink.text(), row.out());
         Ok(())
     }

@@ -3,7 +3,7 @@ use crate::support::documents::MAP_LIST;
 use crate::support::harness::{is_said, schema_of};
 use crate::support::nodes::{node_text, push_flag, push_keyword};
 use crate::support::report::Report;
-use crate::support::rows::Row;
+use crate::support::rows::{Kind, Row, all_rows};
 use explain::{Field, Listing, XFault, resolve};
 use schema::{ListType, MapType};
 use std::alloc::Global;
@@ -55,17 +55,19 @@ fn said_of_node(alloc: Global, schema: &Schema, path: &str) -> Result<String, Fa
     }
 }
 
-fn try_path(
-    report: &mut Report,
-    alloc: Global,
-    schema: &Schema,
-    listing: &Listing,
-    row: &Row,
-) -> Result<(), Fail> {
-    let found = said_of_field(alloc, listing, row.text("path"));
-    is_said(report, "the field", found, row.text("field"))?;
-    let found = said_of_node(alloc, schema, row.text("path"));
-    is_said(report, "the node", found, row.text("node"))
+/// A path, the text of its field, and its node; or the code of the fault of both.
+struct PathRow<'a> {
+    schema: &'a Schema,
+    listing: &'a Listing,
+}
+
+impl Kind for PathRow<'_> {
+    fn attempt(&self, report: &mut Report, alloc: Global, row: &Row) -> Result<(), Fail> {
+        let found = said_of_field(alloc, self.listing, row.text("path"));
+        is_said(report, "the field", found, row.text("field"))?;
+        let found = said_of_node(alloc, self.schema, row.text("path"));
+        is_said(report, "the node", found, row.text("node"))
+    }
 }
 
 #[test]
@@ -79,9 +81,10 @@ fn fields_and_nodes_of_paths(rt: HostRuntime) -> Result<(), Fail> {
     let last = fields.last().map(|field| field.path.as_str());
     report.is_value("the last path", &last, &Some("/m/[]/v"));
     report.row("all fields", Ok(()));
-    for row in &PATHS {
-        let ended = try_path(&mut report, rt.alloc(), &schema, &listing, row);
-        report.row(row.name, ended);
-    }
+    let kind = PathRow {
+        schema: &schema,
+        listing: &listing,
+    };
+    all_rows(&mut report, rt.alloc(), &kind, &[PATHS]);
     report.end(&rt)
 }

@@ -104,15 +104,18 @@ two lines | 5 | [{}][1]J5
 two lines and a byte | 6 | [{}][1]J5
 "#;
 
+/// After how many bytes a source fails, and what is read of the lines until then.
+struct FailingLines;
+
+impl Kind for FailingLines {
+    fn attempt(&self, report: &mut Report, alloc: Global, row: &Row) -> Result<(), Fail> {
+        let source = FailingSource::new(b"{}\n1\n2", 1, row.count("left"));
+        is_said(report, "the lines", said_of(alloc, source), row.text("wanted"))
+    }
+}
+
 /// A source that fails after each number of bytes, also after the last one.
 #[test]
 fn failures(rt: HostRuntime) -> Result<(), Fail> {
-    let mut report = Report::new(rt.alloc());
-    for row in &FAILURES {
-        let source = FailingSource::new(b"{}\n1\n2", 1, row.left);
-        let found = said_of(rt.alloc(), source);
-        let ended = is_said(&mut report, "the lines", found, row.wanted);
-        report.row(row.name, ended);
-    }
-    report.end(&rt)
+    try_tables(&rt, rt.alloc(), &FailingLines, &[FAILURES])
 }

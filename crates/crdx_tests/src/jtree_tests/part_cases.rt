@@ -38,7 +38,11 @@ impl Kind for Part {
             let found = members.nodes().saturating_add(1);
             report.is_number("the nodes by the members", found, row.number("nodes"));
         }
-        report.is_value("the text", &tree.get_text(row.text("member")), &row.optional("text"));
+        report.is_value(
+            "the text",
+            &tree.get_text(row.text("member")),
+            &row.optional("text"),
+        );
         report.is_value("the test", &tree.has_text(row.text("member"), "x"), &row.is("is_x"));
         is_said(
             report,

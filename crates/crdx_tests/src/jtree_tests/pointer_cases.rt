@@ -1,6 +1,7 @@
 //! The tokens of pointers.
 use crate::support::harness::is_said;
 use crate::support::report::Report;
+use crate::support::rows::{Kind, Row, all_rows};
 use jtree::{push_index, push_name};
 use std::alloc::Global;
 use std::test::Fail;
@@ -29,14 +30,20 @@ fn below_x(alloc: Global) -> Result<String, Fail> {
     Ok(text)
 }
 
+/// The name of a member, and its token.
+struct TokenRow;
+
+impl Kind for TokenRow {
+    fn attempt(&self, report: &mut Report, alloc: Global, row: &Row) -> Result<(), Fail> {
+        let found = token(alloc, row.text("member"));
+        is_said(report, "the token", found, row.text("token"))
+    }
+}
+
 #[test]
 fn pointers(rt: HostRuntime) -> Result<(), Fail> {
     let mut report = Report::new(rt.alloc());
-    for row in &NAMES {
-        let found = token(rt.alloc(), row.member);
-        let ended = is_said(&mut report, "the token", found, row.token);
-        report.row(row.name, ended);
-    }
+    all_rows(&mut report, rt.alloc(), &TokenRow, &[NAMES]);
     let wanted = "/x/0/y/18446744073709551615";
     let ended = is_said(&mut report, "the pointer", below_x(rt.alloc()), wanted);
     report.row("names and indices", ended);

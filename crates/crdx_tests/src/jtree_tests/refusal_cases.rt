@@ -1,8 +1,8 @@
 //! Why bytes are no document.
 use crate::support::harness::is_said;
 use crate::support::report::Report;
-use crate::support::rows::{Kind, Row, try_tables};
-use crate::support::texts::Border;
+use crate::support::rows::{Kind, Row, all_rows, try_tables};
+use crate::support::texts::border_of;
 use jtree::Refusal;
 use std::alloc::Global;
 use std::test::Fail;
@@ -98,21 +98,20 @@ fn try_bytes(report: &mut Report, alloc: Global, bytes: &[u8], wanted: &str) -> 
     is_said(report, "what is said", said(alloc, bytes), wanted)
 }
 
-fn all_refused(report: &mut Report, alloc: Global, rows: &[Refused]) {
-    for row in rows {
-        let ended = try_bytes(report, alloc, row.document.as_bytes(), row.wanted);
-        report.row(row.name, ended);
+/// A document, and what is said of it.
+struct RefusedRow;
+
+impl Kind for RefusedRow {
+    fn attempt(&self, report: &mut Report, alloc: Global, row: &Row) -> Result<(), Fail> {
+        try_bytes(report, alloc, row.text("document").as_bytes(), row.text("wanted"))
     }
 }
 
 #[test]
 fn refusals(rt: HostRuntime) -> Result<(), Fail> {
     let mut report = Report::new(rt.alloc());
-    all_refused(&mut report, rt.alloc(), &NUMBERS);
-    all_refused(&mut report, rt.alloc(), &NAMES);
-    all_refused(&mut report, rt.alloc(), &TEXTS);
-    all_refused(&mut report, rt.alloc(), &MARKERS_AND_KEYS);
-    all_refused(&mut report, rt.alloc(), &OTHER_KEYS);
+    let tables = &[NUMBERS, NAMES, TEXTS, MARKERS_AND_KEYS, OTHER_KEYS];
+    all_rows(&mut report, rt.alloc(), &RefusedRow, tables);
     let ended = try_bytes(&mut report, rt.alloc(), b"a: \xff", "1:4, no YAML");
     report.row("a byte of 255", ended);
     report.end(&rt)
@@ -126,16 +125,17 @@ static BORDERS: &str = r#"
 1,048,576 spaces | ␠ | 1048576 | - | - | 1:1048576, no YAML
 "#;
 
-struct Border;
+/// A long text, and what is said of it.
+struct BorderRow;
 
-impl Kind for Border {
+impl Kind for BorderRow {
     fn attempt(&self, report: &mut Report, alloc: Global, row: &Row) -> Result<(), Fail> {
-        let text = row.text(alloc)?;
+        let text = border_of(alloc, row)?;
         try_bytes(report, alloc, text.as_bytes(), row.text("wanted"))
     }
 }
 
 #[test]
 fn borders(rt: HostRuntime) -> Result<(), Fail> {
-    try_tables(&rt, rt.alloc(), &Border, &[BORDERS])
+    try_tables(&rt, rt.alloc(), &BorderRow, &[BORDERS])
 }

@@ -156,18 +156,22 @@ a reader that fails | 0 | yes | J5
 an interrupted reader that fails | 3 | yes | J5
 "#;
 
+/// How often a reader is interrupted, whether it fails then, and what is read.
+struct Readable;
+
+impl Kind for Readable {
+    fn attempt(&self, report: &mut Report, alloc: Global, row: &Row) -> Result<(), Fail> {
+        let reader = Interrupted {
+            times: row.small("times"),
+            bytes: b"[1]",
+            fails: row.is("fails"),
+        };
+        let found = said_of(alloc, &mut Feed::new(reader));
+        is_said(report, "what is read", found, row.text("wanted"))
+    }
+}
+
 #[test]
 fn readers(rt: HostRuntime) -> Result<(), Fail> {
-    let mut report = Report::new(rt.alloc());
-    for row in &READERS {
-        let reader = Interrupted {
-            times: row.times,
-            bytes: b"[1]",
-            fails: row.fails,
-        };
-        let found = said_of(rt.alloc(), &mut Feed::new(reader));
-        let ended = is_said(&mut report, "what is read", found, row.wanted);
-        report.row(row.name, ended);
-    }
-    report.end(&rt)
+    try_tables(&rt, rt.alloc(), &Readable, &[READERS])
 }

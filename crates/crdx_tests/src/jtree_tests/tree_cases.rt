@@ -1,8 +1,8 @@
 //! Trees: read, copied and written.
 use crate::support::harness::is_said;
 use crate::support::report::Report;
-use crate::support::rows::{Kind, Row, try_tables};
-use crate::support::texts::{Border, nested};
+use crate::support::rows::{Kind, Row, all_rows, try_tables};
+use crate::support::texts::{border_of, nested};
 use jtree::{Text, Tree};
 use serde_json::Value;
 use std::alloc::Global;
@@ -60,42 +60,24 @@ characters that are not escaped | "/␡é😀" | "/␡é😀"
 control characters | @CONTROL_CHARACTERS | @CONTROL_CHARACTERS
 "#;
 
-/// Bytes that are no text, or none, and what is read.
-struct Bytes {
-    name: &'static str,
-    bytes: &'static [u8],
-    wanted: &'static str,
-}
+/// A document, and its compact text or the fault.
+struct DocumentRow;
 
-static NO_TEXTS: [Bytes; 2] = [
-    Bytes {
-        name: "no byte",
-        bytes: b"",
-        wanted: "J3",
-    },
-    Bytes {
-        name: "a byte of 255",
-        bytes: b"\"\xff\"",
-        wanted: "J3",
-    },
-];
-
-fn all_documents(report: &mut Report, alloc: Global, rows: &[Document]) {
-    for row in rows {
-        let ended = try_bytes(report, alloc, row.document.as_bytes(), row.wanted);
-        report.row(row.name, ended);
+impl Kind for DocumentRow {
+    fn attempt(&self, report: &mut Report, alloc: Global, row: &Row) -> Result<(), Fail> {
+        try_bytes(report, alloc, row.text("document").as_bytes(), row.text("wanted"))
     }
 }
 
 #[test]
 fn documents(rt: HostRuntime) -> Result<(), Fail> {
     let mut report = Report::new(rt.alloc());
-    all_documents(&mut report, rt.alloc(), &DOCUMENTS);
-    all_documents(&mut report, rt.alloc(), &REFUSALS_AND_ESCAPES);
-    for row in &NO_TEXTS {
-        let ended = try_bytes(&mut report, rt.alloc(), row.bytes, row.wanted);
-        report.row(row.name, ended);
-    }
+    let tables = &[NAMED, DOCUMENTS, REFUSALS_AND_ESCAPES];
+    all_rows(&mut report, rt.alloc(), &DocumentRow, tables);
+    let ended = try_bytes(&mut report, rt.alloc(), b"", "J3");
+    report.row("no byte", ended);
+    let ended = try_bytes(&mut report, rt.alloc(), b"\"\xff\"", "J3");
+    report.row("a byte of 255", ended);
     report.end(&rt)
 }
 
@@ -107,18 +89,19 @@ static BORDERS: &str = r#"
 the length goes first | ␠ | 1048576 | nul | - | J4
 "#;
 
-struct Border;
+/// A long text, and what is said of it.
+struct BorderRow;
 
-impl Kind for Border {
+impl Kind for BorderRow {
     fn attempt(&self, report: &mut Report, alloc: Global, row: &Row) -> Result<(), Fail> {
-        let text = row.text(alloc)?;
+        let text = border_of(alloc, row)?;
         try_bytes(report, alloc, text.as_bytes(), row.text("wanted"))
     }
 }
 
 #[test]
 fn borders(rt: HostRuntime) -> Result<(), Fail> {
-    try_tables(&rt, rt.alloc(), &Border, &[BORDERS])
+    try_tables(&rt, rt.alloc(), &BorderRow, &[BORDERS])
 }
 
 fn tree_of_value(alloc: Global, document: &str) -> Result<Tree, Fail> {

@@ -121,11 +121,6 @@ impl Row {
         self.err.as_str()
     }
 
-    /// Whether it is no row to be tried, but a text that others name.
-    fn is_named(&self) -> bool {
-        self.name.starts_with('@')
-    }
-
     /// The text that others name.
     fn meaning(&self) -> &str {
         match self.cells.get(0) {
@@ -134,9 +129,8 @@ impl Row {
         }
     }
 
-    /// Whether it has as many cells as its head says, and each that was asked for is there.
     fn is_whole(&self) -> bool {
-        self.head.split(" | ").count() == self.cells.len() && !self.is_misread.get()
+        self.head.split(" | ").count() == self.cells.len()
     }
 
     /// Whether its next cell is the first of its lines.
@@ -157,6 +151,10 @@ struct Tables {
     /// How many rows the heads promise.
     promised: usize,
     rows: Vec<Row>,
+    /// The texts that rows name.
+    named: Vec<Row>,
+    /// Whether the lines that are read are of such a text.
+    is_naming: bool,
 }
 
 /// The character that a sign stands for.
@@ -202,6 +200,8 @@ impl Tables {
             head: String::new(alloc),
             promised: 0,
             rows: Vec::new(alloc),
+            named: Vec::new(alloc),
+            is_naming: false,
         }
     }
 
@@ -210,7 +210,7 @@ impl Tables {
         if !name.starts_with('@') {
             return None;
         }
-        for row in &self.rows {
+        for row in &self.named {
             if row.name.as_str() == name {
                 return Some(row.meaning());
             }
@@ -240,7 +240,12 @@ impl Tables {
 
     /// The row whose lines are read.
     fn last(&mut self) -> Result<&mut Row, Fail> {
-        match self.rows.last_mut() {
+        let rows = if self.is_naming {
+            &mut self.named
+        } else {
+            &mut self.rows
+        };
+        match rows.last_mut() {
             Some(row) => Ok(row),
             None => Err(Fail::from("a line before the first row")),
         }
@@ -255,6 +260,7 @@ impl Tables {
     }
 
     fn push_row(&mut self, name: &str) -> Result<(), AllocError> {
+        self.is_naming = name.starts_with('@');
         let name = if name == "-" { "" } else { name };
         let row = Row {
             head: String::from_str(self.alloc, self.head.as_str())?,
@@ -264,7 +270,11 @@ impl Tables {
             err: String::new(self.alloc),
             is_misread: Cell::new(false),
         };
-        Ok(self.rows.push(row)?)
+        if self.is_naming {
+            Ok(self.named.push(row)?)
+        } else {
+            Ok(self.rows.push(row)?)
+        }
     }
 
     /// Goes on with the last cell, after this.
@@ -344,12 +354,16 @@ impl Tables {
     }
 }
 
-fn read_tables(alloc: Global, tables: &[&str]) -> Result<Tables, Fail> {
+/// The rows of these tables, where there are as many as the heads say, and each has as many cells.
+pub fn rows_of(alloc: Global, tables: &[&str]) -> Result<Vec<Row>, Fail> {
     let mut all = Tables::new(alloc);
     for table in tables {
         all.push_table(table)?;
     }
-    Ok(all)
+    if all.rows.len() != all.promised || !all.rows.iter().all(Row::is_whole) {
+        return Err(Fail::from("not the rows or the cells that the heads say"));
+    }
+    Ok(all.rows)
 }
 
 /// What the rows of a table are tried by.
@@ -359,30 +373,21 @@ pub trait Kind {
 
 fn try_row<K: Kind>(report: &mut Report, alloc: Global, kind: &K, row: &Row) {
     let ended = kind.attempt(report, alloc, row);
-    if row.is_whole() {
-        report.row(row.name(), ended);
+    if row.is_misread.get() {
+        report.row(row.name(), Err(Fail::from("a cell has another form, or is not there")));
     } else {
-        report.row(row.name(), Err(Fail::from("a cell is not there, or of another form")));
+        report.row(row.name(), ended);
     }
-}
-
-fn all_read<K: Kind>(report: &mut Report, alloc: Global, kind: &K, tables: &Tables) {
-    let mut tried = 0usize;
-    for row in &tables.rows {
-        if !row.is_named() {
-            try_row(report, alloc, kind, row);
-            tried = tried.saturating_add(1);
-        }
-    }
-    report.holds("some rows", tried > 0);
-    report.is_number("the rows", tried as u64, tables.promised as u64);
-    report.row("as many rows as the heads say", Ok(()));
 }
 
 /// Tries each row of these tables.
 pub fn all_rows<K: Kind>(report: &mut Report, alloc: Global, kind: &K, tables: &[&str]) {
-    match read_tables(alloc, tables) {
-        Ok(tables) => all_read(report, alloc, kind, &tables),
+    match rows_of(alloc, tables) {
+        Ok(rows) => {
+            for row in &rows {
+                try_row(report, alloc, kind, row);
+            }
+        }
         Err(fail) => report.row("tables that are not read", Err(fail)),
     }
 }
