@@ -1,6 +1,6 @@
 //! Enumerations step by step, and walks.
 use crate::support::fakes::FailingSink;
-use crate::support::given::made;
+use crate::support::given::{given_of, made};
 use crate::support::harness::is_same;
 use crate::support::pages::walked;
 use crate::support::report::Report;

@@ -28,13 +28,13 @@ fn is_sorted(
     meter: &mut Meter,
     row: &Row,
 ) -> Result<(), Fail> {
-    let Some(node) = node_at(plan, row.at, meter) else {
+    let Some(node) = node_at(plan, row.text("at"), meter) else {
         return Err(Fail::from("no such node"));
     };
-    report.is_value("the sort", &plan.sort(node), &row.sort);
+    report.is_shown("the sort", &plan.sort(node), row.text("sort"))?;
     report.is_value("null", &plan.null_ok(node), &row.is("nullable"));
-    if let Some(distinct) = row.distinct {
-        report.is_value("the items", &plan.distinct(node), &distinct);
+    if let Some(distinct) = row.optional("distinct") {
+        report.is_shown("the items", &plan.distinct(node), distinct)?;
     }
     Ok(())
 }
@@ -57,7 +57,7 @@ fn sorts(rt: HostRuntime) -> Result<(), Fail> {
 
 /// A slot: whether it must be filled, whether it is a key, its place among the named fields, and how many tuples the keys after it
 /// have.
-#[derive(Clone, Copy, Debug, PartialEq)]
+#[derive(Clone, Copy, Debug)]
 struct Slot<'a> {
     name: &'a str,
     must: bool,
@@ -129,16 +129,19 @@ fn are_slots(
     meter: &mut Meter,
     row: &Row,
 ) -> Result<(), Fail> {
-    let Some(node) = node_at(plan, row.at, meter) else {
+    let Some(node) = node_at(plan, row.text("at"), meter) else {
         return Err(Fail::from("no such node"));
     };
-    let wanted = (place_of(row.out().len()), row.is("names_fields"));
+    let count = place_of(row.out().lines().count());
+    let wanted = (count, row.is("names_fields"));
     report.is_value("the row", &row_parts(plan, node), &Some(wanted));
-    for (place, slot) in row.out().iter().enumerate() {
-        let found = slot_at(plan, node, place_of(place), meter);
-        report.is_value("a slot", &found, &Some(*slot));
+    for (place, wanted) in row.out().lines().enumerate() {
+        match slot_at(plan, node, place_of(place), meter) {
+            Some(slot) => report.is_shown("a slot", &slot, wanted)?,
+            None => report.holds("there is a slot", false),
+        }
     }
-    let after = slot_of(plan, node, place_of(row.out().len()), meter);
+    let after = slot_of(plan, node, count, meter);
     report.holds("no slot after the last", after.is_none());
     Ok(())
 }
@@ -210,15 +213,19 @@ fn said_of_made(alloc: Global, made: &Result<Plan<u64>, PFault>) -> Result<Strin
     }
 }
 
+/// A limit, and the limit of the plan, or the code of the fault.
+struct Limit;
+
+impl Kind for Limit {
+    fn attempt(&self, report: &mut Report, alloc: Global, row: &Row) -> Result<(), Fail> {
+        let found = limit_said(alloc, row.small("limit"));
+        is_said(report, "what is made", found, row.text("wanted"))
+    }
+}
+
 #[test]
 fn limits(rt: HostRuntime) -> Result<(), Fail> {
-    let mut report = Report::new(rt.alloc());
-    for row in &LIMITS {
-        let found = limit_said(rt.alloc(), row.limit);
-        let ended = is_said(&mut report, "what is made", found, row.wanted);
-        report.row(row.name, ended);
-    }
-    report.end(&rt)
+    try_tables(&rt, rt.alloc(), &Limit, &[LIMITS])
 }
 
 /// The width of a plan after its laws were called, for which nothing runs and which leave it as it is.

@@ -1,7 +1,7 @@
 //! How many entries the pools of a document may have.
 use crate::support::harness::is_said;
-use crate::support::rows::{Kind, Row, try_tables};
-use crate::support::pools::{all_documents, outcome};
+use crate::support::rows::{Kind, Row, all_rows, try_tables};
+use crate::support::pools::{DocumentRow, limits_of, outcome};
 use crate::support::report::Report;
 use plan::PoolLimits;
 use std::alloc::{AllocError, Global};
@@ -71,17 +71,6 @@ too many strings | {"strings":["s","s","s"],"paths":{"/a":[0]}} | P2 strings 3 1
 a text for strings after too many integers | {"integers":[0,1],"strings":"s"} | P1 "/strings"
 "#;
 
-fn try_long(
-    report: &mut Report,
-    alloc: Global,
-    limits: PoolLimits,
-    row: &Row,
-) -> Result<(), Fail> {
-    let document = repeated(alloc, row)?;
-    let found = outcome(alloc, document.as_str(), limits);
-    is_said(report, "what is read", found, row.text("wanted"))
-}
-
 fn repeated(alloc: Global, row: &Row) -> Result<String, AllocError> {
     let mut document = String::from_str(alloc, row.text("head"))?;
     for _ in 0..row.count("count") {
@@ -91,10 +80,16 @@ fn repeated(alloc: Global, row: &Row) -> Result<String, AllocError> {
     Ok(document)
 }
 
-fn all_long(report: &mut Report, alloc: Global, limits: PoolLimits, rows: &[Long]) {
-    for row in rows {
-        let ended = try_long(report, alloc, limits, row);
-        report.row(row.name, ended);
+/// The beginning of a document, an entry with its comma, how many there are, the text after them, and what is answered.
+struct Long {
+    limits: PoolLimits,
+}
+
+impl Kind for Long {
+    fn attempt(&self, report: &mut Report, alloc: Global, row: &Row) -> Result<(), Fail> {
+        let document = repeated(alloc, row)?;
+        let found = outcome(alloc, document.as_str(), self.limits);
+        is_said(report, "what is read", found, row.text("wanted"))
     }
 }
 
@@ -105,21 +100,17 @@ fn limits(rt: HostRuntime) -> Result<(), Fail> {
         names: 2,
         paths: 3,
     };
-    let mut report = Report::new(rt.alloc());
-    all_long(
-        &mut report,
-        rt.alloc(),
-        PoolLimits::STANDARD,
-        &PATHS_AND_SCALARS,
-    );
-    all_long(
-        &mut report,
-        rt.alloc(),
-        PoolLimits::STANDARD,
-        &NAMES_AND_TREES,
-    );
-    all_long(&mut report, rt.alloc(), PoolLimits::LARGE, &LARGE);
-    all_documents(&mut report, rt.alloc(), few, &FEW);
+    let standard = Long {
+        limits: PoolLimits::STANDARD,
+    };
+    let large = Long {
+        limits: PoolLimits::LARGE,
+    };
+    let alloc = rt.alloc();
+    let mut report = Report::new(alloc);
+    all_rows(&mut report, alloc, &standard, &[PATHS_AND_SCALARS, NAMES_AND_TREES]);
+    all_rows(&mut report, alloc, &large, &[LARGE]);
+    all_rows(&mut report, alloc, &DocumentRow { limits: few }, &[FEW]);
     report.end(&rt)
 }
 
@@ -152,7 +143,8 @@ struct ManyPaths;
 impl Kind for ManyPaths {
     fn attempt(&self, report: &mut Report, alloc: Global, row: &Row) -> Result<(), Fail> {
         let document = many_paths(alloc, row.text("pool"), row.count("count"))?;
-        let found = outcome(alloc, document.as_str(), row.limits);
+        let limits = limits_of(row.text("limits"))?;
+        let found = outcome(alloc, document.as_str(), limits);
         is_said(report, "what is read", found, row.text("wanted"))
     }
 }

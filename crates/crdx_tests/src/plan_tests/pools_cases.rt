@@ -1,8 +1,9 @@
 //! Documents of pools: their form, and what is read.
 use crate::support::harness::{is_said, pools_of};
 use crate::support::pages::lines_of;
-use crate::support::pools::{all_documents, counts, said};
+use crate::support::pools::{DocumentRow, counts, said};
 use crate::support::report::Report;
+use crate::support::rows::try_tables;
 use jtree::{Text, Tree};
 use plan::{PFault, PoolLimits, Pools};
 use std::alloc::Global;
@@ -64,22 +65,11 @@ any trees before an entry | {"any":["x",1],"integers":[1,"x"]} | P1 "/integers/1
 
 #[test]
 fn forms(rt: HostRuntime) -> Result<(), Fail> {
-    let mut report = Report::new(rt.alloc());
-    all_documents(
-        &mut report,
-        rt.alloc(),
-        PoolLimits::STANDARD,
-        &FIXED_AND_PRESENT,
-    );
-    all_documents(
-        &mut report,
-        rt.alloc(),
-        PoolLimits::STANDARD,
-        &VALUES_AND_PATHS,
-    );
-    all_documents(&mut report, rt.alloc(), PoolLimits::STANDARD, &FORMS);
-    all_documents(&mut report, rt.alloc(), PoolLimits::STANDARD, &NAMES);
-    report.end(&rt)
+    let kind = DocumentRow {
+        limits: PoolLimits::STANDARD,
+    };
+    let tables = &[FIXED_AND_PRESENT, VALUES_AND_PATHS, FORMS, NAMES];
+    try_tables(&rt, rt.alloc(), &kind, tables)
 }
 
 fn are_texts(report: &mut Report, found: &[Text], wanted: &[&str]) {

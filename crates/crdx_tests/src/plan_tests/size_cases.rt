@@ -1,6 +1,5 @@
 //! The sizes of what may be at a node of a plan, and of what can follow.
-use crate::support::documents::{LONG_MAP_LIST, TWO_TEXTS};
-use crate::support::given::{Given, made};
+use crate::support::given::{given_of, made};
 use crate::support::rows::{Kind, Row, try_tables};
 use crate::support::plans::{are_sizes, more_of, node_at, rest_of};
 use crate::support::report::Report;
@@ -16,34 +15,6 @@ static NAMED: &str = r#"
 @ANY_NUMBER | {"type":"object","properties":{"o":{"type":"object","maxProperties":9223372036854775807,"properties":{"a":{"type":"boolean"},
     "b":{"type":"boolean"},"c":{"type":"boolean"},"d":{"type":"boolean"}}}}}
 "#;
-
-const ONE_OR_TWO_FIELDS: Given<'static> = Given {
-    schema: ONE_OR_TWO,
-    pools: "{}",
-    limit: 6,
-};
-
-const ANY_NUMBER_OF_FIELDS: Given<'static> = Given {
-    schema: ANY_NUMBER,
-    pools: "{}",
-    limit: 6,
-};
-
-/// A list that needs more items than there are keys.
-const LONG_MAP_LISTS: Given<'static> = Given {
-    schema: LONG_MAP_LIST,
-    pools: TWO_TEXTS,
-    limit: 63,
-};
-
-/// What is asked of a node: its sizes, what the slots from a place on can take after so many filled ones with these named fields
-/// among them, or what can follow after so many items.
-#[derive(Clone, Copy)]
-enum Asked {
-    Sizes,
-    Rest(u64, u32, u8),
-    More(u32),
-}
 
 static SIZES: &str = r#"
 11 rows: name | schema | pools | limit | at | asked | sizes
@@ -104,12 +75,21 @@ the rest at the second of two named fields, after the first | @ONE_OF_TWO | {} |
 the rest after the second of two named fields, and bits of none | @ONE_OF_TWO | {} | 4 | first | rest 2 1 254 | 0 1
 "#;
 
+/// What is asked of a node: its `sizes`; `rest`, what the slots from a place on can take after so many filled ones with these named
+/// fields among them; or `more`, what can follow after so many items.
 fn answer_of(plan: &Plan<u64>, meter: &mut Meter, row: &Row) -> Option<u64> {
-    let node = node_at(plan, row.at, meter)?;
-    match row.asked {
-        Asked::Sizes => Some(plan.sizes(node)),
-        Asked::Rest(place, taken, seen) => rest_of(plan, node, place, taken, seen, meter),
-        Asked::More(taken) => more_of(plan, node, taken),
+    let node = node_at(plan, row.text("at"), meter)?;
+    let mut asked = row.text("asked").split(' ');
+    match asked.next()? {
+        "sizes" => Some(plan.sizes(node)),
+        "rest" => {
+            let place = asked.next()?.parse::<u64>().ok()?;
+            let taken = asked.next()?.parse::<u32>().ok()?;
+            let seen = asked.next()?.parse::<u8>().ok()?;
+            rest_of(plan, node, place, taken, seen, meter)
+        }
+        "more" => more_of(plan, node, asked.next()?.parse::<u32>().ok()?),
+        _ => None,
     }
 }
 
@@ -123,7 +103,7 @@ impl Kind for SizesRow {
         let found = answer_of(&plan, &mut meter, row);
         drop(plan);
         match found {
-            Some(found) => are_sizes(report, alloc, "the sizes", found, row.sizes),
+            Some(found) => are_sizes(report, alloc, "the sizes", found, row.text("sizes")),
             None => Err(Fail::from("no such node")),
         }
     }

@@ -1,5 +1,5 @@
 //! Sets of sizes: their members, sums up to a limit, and the next member.
-use crate::support::rows::{Kind, Row};
+use crate::support::rows::{Kind, Row, all_rows};
 use crate::support::plans::are_sizes;
 use crate::support::report::Report;
 use plan::SizeSet;
@@ -7,13 +7,13 @@ use std::alloc::Global;
 use std::test::Fail;
 
 /// The set of these members, none of which is too large.
-fn set_of<S: SizeSet>(members: &[u32]) -> Result<S, Fail> {
+fn set_of<S: SizeSet>(members: &str) -> Result<S, Fail> {
     let mut set = S::empty();
-    for n in members {
-        if *n >= S::BITS {
-            return Err(Fail::from("no size"));
+    for member in members.split_whitespace() {
+        match member.parse::<u32>() {
+            Ok(n) if n < S::BITS => set = set.union(S::one(n)),
+            _ => return Err(Fail::from("no size")),
         }
-        set = set.union(S::one(*n));
     }
     Ok(set)
 }
@@ -34,35 +34,34 @@ sums to 127 | 63 64 | 62 63 | 127 | 125 126 127
 sums past any size | 64 127 | 1 64 | 127 | 65
 "#;
 
-/// The members of two sets, a limit, and the sums up to it.
-struct SumsRow;
+fn try_sums<S: SizeSet>(report: &mut Report, alloc: Global, row: &Row) -> Result<(), Fail> {
+    let limit = row.small("limit");
+    if limit >= S::BITS {
+        return Err(Fail::from("no limit"));
+    }
+    let sums = set_of::<S>(row.text("left"))?.sums(set_of(row.text("right"))?, limit);
+    are_sizes(report, alloc, "the members", sums, row.text("sums"))
+}
+
+/// The members of two sets, a limit, and the sums up to it, over 128 bits, and over 64 where the members are not wide.
+struct SumsRow {
+    are_wide: bool,
+}
 
 impl Kind for SumsRow {
     fn attempt(&self, report: &mut Report, alloc: Global, row: &Row) -> Result<(), Fail> {
-        if row.small("limit") >= S::BITS {
-            return Err(Fail::from("no limit"));
+        if !self.are_wide {
+            try_sums::<u64>(report, alloc, row)?;
         }
-        let sums = set_of::<S>(row.left)?.sums(set_of(row.right)?, row.small("limit"));
-        are_sizes(report, alloc, "the members", sums, row.sums)
-    }
-}
-
-fn all_sums<S: SizeSet>(report: &mut Report, alloc: Global, rows: &[SumsRow]) {
-    for row in rows {
-        let ended = try_sums::<S>(report, alloc, row);
-        report.row_of(
-            format!(in alloc; "{}, over {} bits", row.name, S::BITS),
-            ended,
-        );
+        try_sums::<u128>(report, alloc, row)
     }
 }
 
 #[test]
 fn sums(rt: HostRuntime) -> Result<(), Fail> {
     let mut report = Report::new(rt.alloc());
-    all_sums::<u64>(&mut report, rt.alloc(), &SUMS);
-    all_sums::<u128>(&mut report, rt.alloc(), &SUMS);
-    all_sums::<u128>(&mut report, rt.alloc(), &WIDE_SUMS);
+    all_rows(&mut report, rt.alloc(), &SumsRow { are_wide: false }, &[SUMS]);
+    all_rows(&mut report, rt.alloc(), &SumsRow { are_wide: true }, &[WIDE_SUMS]);
     report.end(&rt)
 }
 
@@ -86,27 +85,30 @@ the greatest size, not a member | 126 | 127 | None
 a number that is no size | 127 | 128 | None
 "#;
 
-fn try_next(report: &mut Report, row: &Row) -> Result<(), Fail> {
-    let next = set_of::<S>(row.members)?.next(row.small("from"));
-    report.is_value("the next member", &next, &row.next);
+fn try_next<S: SizeSet>(report: &mut Report, row: &Row) -> Result<(), Fail> {
+    let next = set_of::<S>(row.text("members"))?.next(row.small("from"));
+    report.is_shown("the next member", &next, row.text("next"))?;
     Ok(())
 }
 
-fn all_next<S: SizeSet>(report: &mut Report, alloc: Global, rows: &[Next]) {
-    for row in rows {
-        let ended = try_next::<S>(report, row);
-        report.row_of(
-            format!(in alloc; "{}, over {} bits", row.name, S::BITS),
-            ended,
-        );
+/// The members of a set, a number, and the least member at or above it, over 128 bits, and over 64 where they are not wide.
+struct Next {
+    are_wide: bool,
+}
+
+impl Kind for Next {
+    fn attempt(&self, report: &mut Report, _alloc: Global, row: &Row) -> Result<(), Fail> {
+        if !self.are_wide {
+            try_next::<u64>(report, row)?;
+        }
+        try_next::<u128>(report, row)
     }
 }
 
 #[test]
 fn next_members(rt: HostRuntime) -> Result<(), Fail> {
     let mut report = Report::new(rt.alloc());
-    all_next::<u64>(&mut report, rt.alloc(), &NEXT);
-    all_next::<u128>(&mut report, rt.alloc(), &NEXT);
-    all_next::<u128>(&mut report, rt.alloc(), &WIDE_NEXT);
+    all_rows(&mut report, rt.alloc(), &Next { are_wide: false }, &[NEXT]);
+    all_rows(&mut report, rt.alloc(), &Next { are_wide: true }, &[WIDE_NEXT]);
     report.end(&rt)
 }

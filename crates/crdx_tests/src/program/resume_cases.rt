@@ -28,14 +28,23 @@ samples with a name | ␠--name w | 72 154 245 335 422 509 606 702 799 895
 "#;
 
 /// How many lines end within so many bytes.
-fn whole_lines(ends: &[usize; 10], room: usize) -> usize {
-    ends.iter().filter(|end| **end <= room).count()
+fn whole_lines(ends: &str, room: usize) -> u64 {
+    let mut lines: u64 = 0;
+    for end in ends.split(' ') {
+        if end.parse::<usize>().unwrap_or(usize::MAX) <= room {
+            lines = lines.saturating_add(1);
+        }
+    }
+    lines
 }
 
 /// After how many bytes so many lines end.
-fn end_of(ends: &[usize; 10], lines: usize) -> usize {
-    match lines.checked_sub(1) {
-        Some(last) => ends.get(last).copied().unwrap_or(0),
+fn end_of(ends: &str, lines: usize) -> usize {
+    let Some(last) = lines.checked_sub(1) else {
+        return 0;
+    };
+    match ends.split(' ').nth(last) {
+        Some(end) => end.parse::<usize>().unwrap_or(0),
         None => 0,
     }
 }
@@ -56,7 +65,7 @@ fn stops(
     let command = format!(in alloc; "{COMMAND} 10{option}")?;
     let sink = FailingSink::new(alloc, room, usize::MAX, false);
     let output = run_walk(alloc, command.as_str(), sink)?;
-    let lines = whole_lines(&walk.ends, room) as u64;
+    let lines = whole_lines(walk.text("ends"), room);
     has_failed(report, alloc, &output, beginning(walk.out(), room), lines)
 }
 
@@ -79,7 +88,7 @@ fn goes_on(
     walk: &Row,
     lines: usize,
 ) -> Result<(), AllocError> {
-    let out = beginning(walk.out(), end_of(&walk.ends, lines));
+    let out = beginning(walk.out(), end_of(walk.text("ends"), lines));
     let left = 10usize.saturating_sub(lines);
     let command = command_after(alloc, out, left, walk.text("option"))?;
     let output = run_walk(alloc, command.as_str(), FailingSink::endless(alloc))?;

@@ -1,4 +1,5 @@
 //! The pools document that is suggested around an object, and why there is none.
+use crate::support::pools::limits_of;
 use crate::support::report::Report;
 use crate::support::rows::{Kind, Row, try_tables};
 use crate::support::suggestions::{has_member, suggested};
@@ -40,7 +41,7 @@ no object | [] | - | /status | {"/status":[]} | - | {"/spec/b/c":["1970-01-01","
 "#;
 
 /// What is answered: a document, or why there is none.
-#[derive(Clone, Copy, Debug, PartialEq)]
+#[derive(Clone, Copy, Debug)]
 enum Answer<'a> {
     Suggested,
     BadPath(&'a str),
@@ -50,20 +51,20 @@ enum Answer<'a> {
 }
 
 static FAULTS: &str = r#"
-13 rows: name | objects | varied | without | answer
-no such field | [{"list":[{"k":"p"}],"spec":{"a":5,"b":{"c":"x"},"e":"y"}}] | /spec/x | - | BadPath("/spec/x")
-through a list | [{"list":[{"k":"p"}],"spec":{"a":5,"b":{"c":"x"},"e":"y"}}] | /list/[]/k | - | BadPath("/list/[]/k")
-the beginning of a name | [{"list":[{"k":"p"}],"spec":{"a":5,"b":{"c":"x"},"e":"y"}}] | /spe | - | BadPath("/spe")
-no name | [{"list":[{"k":"p"}],"spec":{"a":5,"b":{"c":"x"},"e":"y"}}] | / | - | BadPath("/")
-nothing that the field belongs to | [{"spec":{"a":5}}] | /spec/b/c | - | NotInObject("/spec/b/c")
-a null that the field would belong to | [{"spec":null}] | /spec/a | - | NotInObject("/spec/a")
-below a path that is left out | [{"list":[{"k":"p"}],"spec":{"a":5,"b":{"c":"x"},"e":"y"}}] | /spec/b/c | /spec/b | NotInObject("/spec/b/c")
-no object | [] | /spec/a | - | NotInObject("/spec/a")
-two objects | [{},{}] | /spec | - | NotInObject("/spec")
-the first of two | [{"spec":{}}] | /spec/b/c /x | - | NotInObject("/spec/b/c")
-an item of a map list | [{"list":[{"k":"p"}],"spec":{"a":5,"b":{"c":"x"},"e":"y"}}] | - | /list/[] | BadPath("/list/[]")
-no such path | [] | - | /status /none | BadPath("/none")
-a varied path first | [{"list":[{"k":"p"}],"spec":{"a":5,"b":{"c":"x"},"e":"y"}}] | /q | /none | BadPath("/q")
+13 rows: name | objects | varied | without | answer | phrase
+no such field | [{"list":[{"k":"p"}],"spec":{"a":5,"b":{"c":"x"},"e":"y"}}] | /spec/x | - | BadPath("/spec/x") | bad path /spec/x
+through a list | [{"list":[{"k":"p"}],"spec":{"a":5,"b":{"c":"x"},"e":"y"}}] | /list/[]/k | - | BadPath("/list/[]/k") | bad path /list/[]/k
+the beginning of a name | [{"list":[{"k":"p"}],"spec":{"a":5,"b":{"c":"x"},"e":"y"}}] | /spe | - | BadPath("/spe") | bad path /spe
+no name | [{"list":[{"k":"p"}],"spec":{"a":5,"b":{"c":"x"},"e":"y"}}] | / | - | BadPath("/") | bad path /
+nothing that the field belongs to | [{"spec":{"a":5}}] | /spec/b/c | - | NotInObject("/spec/b/c") | not in the object: /spec/b/c
+a null that the field would belong to | [{"spec":null}] | /spec/a | - | NotInObject("/spec/a") | not in the object: /spec/a
+below a path that is left out | [{"list":[{"k":"p"}],"spec":{"a":5,"b":{"c":"x"},"e":"y"}}] | /spec/b/c | /spec/b | NotInObject("/spec/b/c") | not in the object: /spec/b/c
+no object | [] | /spec/a | - | NotInObject("/spec/a") | not in the object: /spec/a
+two objects | [{},{}] | /spec | - | NotInObject("/spec") | not in the object: /spec
+the first of two | [{"spec":{}}] | /spec/b/c /x | - | NotInObject("/spec/b/c") | not in the object: /spec/b/c
+an item of a map list | [{"list":[{"k":"p"}],"spec":{"a":5,"b":{"c":"x"},"e":"y"}}] | - | /list/[] | BadPath("/list/[]") | bad path /list/[]
+no such path | [] | - | /status /none | BadPath("/none") | bad path /none
+a varied path first | [{"list":[{"k":"p"}],"spec":{"a":5,"b":{"c":"x"},"e":"y"}}] | /q | /none | BadPath("/q") | bad path /q
 "#;
 
 /// Objects of `NESTED`, the varied paths, those that never occur, and the members `fixed`, `present` and `paths`.
@@ -94,17 +95,6 @@ fn answer_of(document: &Result<Tree, SuggestFault>) -> Answer<'_> {
     }
 }
 
-/// What a fault prints: each phrase once.
-fn phrase_of(alloc: Global, answer: Answer<'_>) -> Result<String, AllocError> {
-    match answer {
-        Answer::Suggested => String::from_str(alloc, "no fault"),
-        Answer::BadPath(path) => format!(in alloc; "bad path {path}"),
-        Answer::NotInObject(path) => format!(in alloc; "not in the object: {path}"),
-        Answer::TooLarge => String::from_str(alloc, "too large"),
-        Answer::NoMemory => String::from_str(alloc, "out of memory"),
-    }
-}
-
 fn said_of(alloc: Global, document: &Result<Tree, SuggestFault>) -> Result<String, AllocError> {
     match document {
         Ok(_) => String::from_str(alloc, "no fault"),
@@ -116,11 +106,11 @@ fn is_answer(
     report: &mut Report,
     alloc: Global,
     document: &Result<Tree, SuggestFault>,
-    wanted: Answer<'_>,
+    row: &Row,
 ) -> Result<(), Fail> {
-    report.is_value("the answer", &answer_of(document), &wanted);
-    let phrase = phrase_of(alloc, wanted)?;
-    report.is_text("what is printed", &said_of(alloc, document)?, &phrase);
+    report.is_shown("the answer", &answer_of(document), row.text("answer"))?;
+    let found = said_of(alloc, document)?;
+    report.is_text("what is printed", found.as_str(), row.text("phrase"));
     Ok(())
 }
 
@@ -131,7 +121,7 @@ impl Kind for Refused {
     fn attempt(&self, report: &mut Report, alloc: Global, row: &Row) -> Result<(), Fail> {
         let asked = (row.text("varied"), row.text("without"));
         let document = suggested(alloc, NESTED, row.text("objects"), asked, PoolLimits::STANDARD)?;
-        is_answer(report, alloc, &document, row.answer)
+        is_answer(report, alloc, &document, row)
     }
 }
 
@@ -179,10 +169,10 @@ fn many_fields(alloc: Global, count: u32) -> Result<(String, String), AllocError
 
 /// With so many fields three times, as many are present beside the varied one, and the two objects on the way.
 static MANY_FIELDS: &str = r#"
-3 rows: name | fields | limits | answer
-64 present | 21 | standard | Suggested
-67 present | 22 | standard | TooLarge
-67 present of 1,024 | 22 | large | Suggested
+3 rows: name | fields | limits | answer | phrase
+64 present | 21 | standard | Suggested | no fault
+67 present | 22 | standard | TooLarge | too large
+67 present of 1,024 | 22 | large | Suggested | no fault
 "#;
 
 /// How many fields each of the objects has, the limits, and what is answered.
@@ -191,8 +181,9 @@ struct ManyFields;
 impl Kind for ManyFields {
     fn attempt(&self, report: &mut Report, alloc: Global, row: &Row) -> Result<(), Fail> {
         let (schema, objects) = many_fields(alloc, row.small("fields"))?;
-        let document = suggested(alloc, &schema, &objects, ("/p/p/f0", ""), row.limits)?;
-        is_answer(report, alloc, &document, row.answer)
+        let limits = limits_of(row.text("limits"))?;
+        let document = suggested(alloc, &schema, &objects, ("/p/p/f0", ""), limits)?;
+        is_answer(report, alloc, &document, row)
     }
 }
 
