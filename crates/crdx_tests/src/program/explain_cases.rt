@@ -172,7 +172,6 @@ struct Listing;
 impl Kind for Listing {
     fn attempt(&self, report: &mut Report, alloc: Global, row: &Row) -> Result<(), Fail> {
         let run = SchemaRun {
-            name: row.name(),
             command: "crdx explain crd.json v1",
             schema: row.text("schema"),
             second: "",
@@ -197,7 +196,6 @@ impl Kind for Explained {
         let path = row.name();
         let command = format!(in alloc; "crdx explain crd.json v1 {path}")?;
         let run = SchemaRun {
-            name: path,
             command: command.as_str(),
             schema: SAID,
             second: "",
@@ -214,21 +212,18 @@ fn paths(rt: HostRuntime) -> Result<(), Fail> {
     try_tables(&rt, rt.alloc(), &Explained, &[FIELDS, MISSPELT, UNDECLARED])
 }
 
-static BROKEN_BEFORE_THE_PATH: Run<'static> = Run {
-    name: "a broken schema",
-    command: "crdx explain crd.json v1 ~",
-    crd: BROKEN,
-    second: "",
-    out: "",
-    err: BROKEN_LINES,
-    status: 1,
-};
-
 #[test]
 fn a_schema_that_breaks_rules_is_said_before_the_path_is_read(rt: HostRuntime) -> Result<(), Fail> {
     let mut report = Report::new(rt.alloc());
-    let run = &BROKEN_BEFORE_THE_PATH;
-    let ended = try_run(&mut report, rt.alloc(), run);
-    report.row(run.name, ended);
+    let run = Run {
+        command: "crdx explain crd.json v1 ~",
+        crd: BROKEN,
+        second: "",
+        out: "",
+        err: BROKEN_LINES,
+        status: 1,
+    };
+    let ended = try_run(&mut report, rt.alloc(), &run);
+    report.row("a broken schema", ended);
     report.end(&rt)
 }

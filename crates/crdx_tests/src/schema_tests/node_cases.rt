@@ -2,7 +2,7 @@
 use crate::support::harness::{crd_of, is_said, object_with_field};
 use crate::support::nodes::{first_field, node_text};
 use crate::support::report::Report;
-use crate::support::rows::Row;
+use crate::support::rows::{Kind, Row, all_rows};
 use schema::{Shape, shape};
 use std::alloc::Global;
 use std::test::Fail;
@@ -28,7 +28,6 @@ fn said(alloc: Global, schema: &str, is_field: bool) -> Result<String, Fail> {
     said
 }
 
-// The schema of a field, and its node or its refusal.
 static NODES: &str = r#"
 16 rows: name | schema | wanted
 an integer | {"type":"integer"} | integer
@@ -56,7 +55,6 @@ a number | {"type":"number"} | violations
 no type | {} | violations
 "#;
 
-// A schema, and the node of the root or its refusal.
 static ROOTS: &str = r#"
 6 rows: name | schema | wanted
 an envelope | {"type":"object","required":["kind","spec"],"properties":{"apiVersion":{"type":"string"},"kind":{"type":"string"},
@@ -70,36 +68,32 @@ a violation after a default | {"type":"object","properties":{"x":{"type":"intege
 a violation in the envelope | {"type":"object","properties":{"kind":{"type":"string","default":"x"}}} | violations
 "#;
 
-fn try_field(report: &mut Report, alloc: Global, row: &Row) -> Result<(), Fail> {
-    let root = object_with_field(alloc, row.text("schema"))?;
-    is_said(
-        report,
-        "the node",
-        said(alloc, root.as_str(), true),
-        row.text("wanted"),
-    )
+/// The schema of a field, and its node or its refusal.
+struct NodeRow;
+
+impl Kind for NodeRow {
+    fn attempt(&self, report: &mut Report, alloc: Global, row: &Row) -> Result<(), Fail> {
+        let root = object_with_field(alloc, row.text("schema"))?;
+        let found = said(alloc, root.as_str(), true);
+        is_said(report, "the node", found, row.text("wanted"))
+    }
 }
 
-fn try_root(report: &mut Report, alloc: Global, row: &Row) -> Result<(), Fail> {
-    is_said(
-        report,
-        "the node",
-        said(alloc, row.text("schema"), false),
-        row.text("wanted"),
-    )
+/// A schema, and the node of the root or its refusal.
+struct RootRow;
+
+impl Kind for RootRow {
+    fn attempt(&self, report: &mut Report, alloc: Global, row: &Row) -> Result<(), Fail> {
+        let found = said(alloc, row.text("schema"), false);
+        is_said(report, "the node", found, row.text("wanted"))
+    }
 }
 
 #[test]
 fn nodes(rt: HostRuntime) -> Result<(), Fail> {
     schema::laws::nodes_are_unique();
     let mut report = Report::new(rt.alloc());
-    for row in &NODES {
-        let ended = try_field(&mut report, rt.alloc(), row);
-        report.row(row.name, ended);
-    }
-    for row in &ROOTS {
-        let ended = try_root(&mut report, rt.alloc(), row);
-        report.row(row.name, ended);
-    }
+    all_rows(&mut report, rt.alloc(), &NodeRow, &[NODES]);
+    all_rows(&mut report, rt.alloc(), &RootRow, &[ROOTS]);
     report.end(&rt)
 }

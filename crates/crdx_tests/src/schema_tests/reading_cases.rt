@@ -1,7 +1,7 @@
 //! Definitions that are read or refused, and the forms of the keywords of their schemas.
 use crate::support::harness::{is_said, read, SchemaSaidRow};
 use crate::support::report::Report;
-use crate::support::rows::try_tables;
+use crate::support::rows::{Kind, Row, try_tables};
 use schema::Crd;
 use std::alloc::Global;
 use std::test::Fail;
@@ -56,15 +56,19 @@ fn said(alloc: Global, document: &str) -> Result<String, Fail> {
     }
 }
 
+/// A document, and what is read of it.
+struct Definition;
+
+impl Kind for Definition {
+    fn attempt(&self, report: &mut Report, alloc: Global, row: &Row) -> Result<(), Fail> {
+        let found = said(alloc, row.text("document"));
+        is_said(report, "what is read", found, row.text("wanted"))
+    }
+}
+
 #[test]
 fn definitions(rt: HostRuntime) -> Result<(), Fail> {
-    let mut report = Report::new(rt.alloc());
-    for row in &DEFINITIONS {
-        let found = said(rt.alloc(), row.document);
-        let ended = is_said(&mut report, "what is read", found, row.wanted);
-        report.row(row.name, ended);
-    }
-    report.end(&rt)
+    try_tables(&rt, rt.alloc(), &Definition, &[DEFINITIONS])
 }
 
 // Keywords that have their form.

@@ -1,7 +1,7 @@
 //! Why rules with several conditions are broken: each reason, by the keyword that it is about.
 use crate::support::harness::{crd_of, is_said};
 use crate::support::report::Report;
-use crate::support::rows::Row;
+use crate::support::rows::{Kind, Row, try_tables};
 use schema::{Explained, Finding, Violation};
 use std::alloc::{AllocError, Global};
 use std::fmt::Write;
@@ -182,27 +182,23 @@ fn said_with_defaults(alloc: Global, schema: &str) -> Result<String, Fail> {
     Ok(lines_of(alloc, all.as_slice())?)
 }
 
-fn try_reasons(report: &mut Report, alloc: Global, row: &Row) -> Result<(), Fail> {
-    is_said(report, "the reasons", said(alloc, row.text("schema")), row.out())?;
-    let found = said_with_defaults(alloc, row.text("schema"));
-    is_said(
-        report,
-        "the reasons beside those of defaults",
-        found,
-        row.out(),
-    )
+/// A schema, and why it breaks rules.
+struct ReasonRow;
+
+impl Kind for ReasonRow {
+    fn attempt(&self, report: &mut Report, alloc: Global, row: &Row) -> Result<(), Fail> {
+        let found = said(alloc, row.text("schema"));
+        is_said(report, "the reasons", found, row.out())?;
+        let found = said_with_defaults(alloc, row.text("schema"));
+        is_said(report, "the reasons beside those of defaults", found, row.out())
+    }
 }
 
 #[test]
 fn reasons(rt: HostRuntime) -> Result<(), Fail> {
     schema::laws::broken_for_a_reason();
-    let mut report = Report::new(rt.alloc());
-    all_reasons(&mut report, rt.alloc(), &KEYWORDS);
-    all_reasons(&mut report, rt.alloc(), &BESIDE_OTHERS);
-    all_reasons(&mut report, rt.alloc(), &LISTS);
-    all_reasons(&mut report, rt.alloc(), &JUNCTORS);
-    all_reasons(&mut report, rt.alloc(), &ROOTS);
-    report.end(&rt)
+    let tables = &[KEYWORDS, BESIDE_OTHERS, LISTS, JUNCTORS, ROOTS];
+    try_tables(&rt, rt.alloc(), &ReasonRow, tables)
 }
 
 // As in the tables before, of defaults that are not valid.
@@ -213,13 +209,17 @@ a default of another type, and a pattern | {"type":"object","properties":{"x":{"
     | V17 "/properties/y" pattern NotOfScalars
 "#;
 
+/// As `ReasonRow`, of defaults too.
+struct DefaultReasonRow;
+
+impl Kind for DefaultReasonRow {
+    fn attempt(&self, report: &mut Report, alloc: Global, row: &Row) -> Result<(), Fail> {
+        let found = said_with_defaults(alloc, row.text("schema"));
+        is_said(report, "the reasons", found, row.out())
+    }
+}
+
 #[test]
 fn reasons_of_defaults(rt: HostRuntime) -> Result<(), Fail> {
-    let mut report = Report::new(rt.alloc());
-    for row in &DEFAULTS {
-        let found = said_with_defaults(rt.alloc(), row.schema);
-        let ended = is_said(&mut report, "the reasons", found, row.wanted);
-        report.row(row.name, ended);
-    }
-    report.end(&rt)
+    try_tables(&rt, rt.alloc(), &DefaultReasonRow, &[DEFAULTS])
 }

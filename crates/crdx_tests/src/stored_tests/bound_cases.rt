@@ -24,14 +24,22 @@ fn are_within(
     report: &mut Report,
     alloc: Global,
     bounds: Bounds,
-    counts: &[u64],
+    counts: &str,
     wanted: bool,
-) -> Result<(), AllocError> {
-    for count in counts {
+) -> Result<(), Fail> {
+    for count in counts.split_whitespace() {
         let what = format!(in alloc; "whether {count} is within")?;
-        report.is_value(what.as_str(), &is_within(bounds, *count), &wanted);
+        let count = count.parse::<u64>()?;
+        report.is_value(what.as_str(), &is_within(bounds, count), &wanted);
     }
     Ok(())
+}
+
+fn bound_of(bound: Option<&str>) -> Result<Option<u64>, Fail> {
+    match bound {
+        Some(bound) => Ok(Some(bound.parse::<u64>()?)),
+        None => Ok(None),
+    }
 }
 
 struct CountRow;
@@ -39,11 +47,11 @@ struct CountRow;
 impl Kind for CountRow {
     fn attempt(&self, report: &mut Report, alloc: Global, row: &Row) -> Result<(), Fail> {
         let bounds = Bounds {
-            least: row.least,
-            most: row.most,
+            least: bound_of(row.optional("least"))?,
+            most: bound_of(row.optional("most"))?,
         };
-        are_within(report, alloc, bounds, row.within, true)?;
-        Ok(are_within(report, alloc, bounds, row.outside, false)?)
+        are_within(report, alloc, bounds, row.text("within"), true)?;
+        are_within(report, alloc, bounds, row.text("outside"), false)
     }
 }
 

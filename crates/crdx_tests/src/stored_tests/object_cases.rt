@@ -213,24 +213,28 @@ no field at all | {"type":"object","properties":{"o":{"type":"object"}}} | {"o":
 a default that is absent | {"type":"object","properties":{"f":{"type":"integer","default":7}}} | {}
 "#;
 
-fn strictly_faulty(alloc: Global, row: &Row) -> Result<String, Fail> {
-    let tree = Tree::from_bytes(alloc, row.text("object").as_bytes())?;
-    let schema = schema_of(alloc, row.text("schema"))?;
+fn strictly_faulty(alloc: Global, schema: &str, object: &str) -> Result<String, Fail> {
+    let tree = Tree::from_bytes(alloc, object.as_bytes())?;
+    let schema = schema_of(alloc, schema)?;
     let found = strict_faults(alloc, schema.root(), &tree)?;
     drop(schema);
     Ok(fault_lines(alloc, found.as_slice())?)
 }
 
+/// An object by a schema, and its strict faults: a number and a pointer a line.
+struct StrictFaults;
+
+impl Kind for StrictFaults {
+    fn attempt(&self, report: &mut Report, alloc: Global, row: &Row) -> Result<(), Fail> {
+        let found = strictly_faulty(alloc, row.text("schema"), row.text("object"));
+        is_said(report, "the strict faults", found, row.out())
+    }
+}
+
 #[test]
 fn strict(rt: HostRuntime) -> Result<(), Fail> {
     stored::laws::strictly_valid_is_pruned();
-    let mut report = Report::new(rt.alloc());
-    for row in &STRICT {
-        let found = strictly_faulty(rt.alloc(), row);
-        let ended = is_said(&mut report, "the strict faults", found, row.faults);
-        report.row(row.name, ended);
-    }
-    report.end(&rt)
+    try_tables(&rt, rt.alloc(), &StrictFaults, &[STRICT])
 }
 
 fn push_violation(lines: &mut String, violation: &Violation) -> Result<(), AllocError> {
@@ -261,24 +265,24 @@ fn answer(alloc: Global, raw: RawSchema) -> Result<String, Fail> {
     }
 }
 
-fn try_default(report: &mut Report, alloc: Global, row: &Row) -> Result<(), Fail> {
-    let crd = crd_of(alloc, row.text("schema"))??;
-    let broken = broken_lines(alloc, &crd.raw);
-    match is_said(report, "what is broken", broken, row.out()) {
-        Ok(()) => is_said(report, "the answer", answer(alloc, crd.raw), row.out()),
-        Err(fail) => {
-            drop(crd);
-            Err(fail)
+/// A schema, and all that is broken: a rule and a pointer a line.
+struct DefaultRow;
+
+impl Kind for DefaultRow {
+    fn attempt(&self, report: &mut Report, alloc: Global, row: &Row) -> Result<(), Fail> {
+        let crd = crd_of(alloc, row.text("schema"))??;
+        let broken = broken_lines(alloc, &crd.raw);
+        match is_said(report, "what is broken", broken, row.out()) {
+            Ok(()) => is_said(report, "the answer", answer(alloc, crd.raw), row.out()),
+            Err(fail) => {
+                drop(crd);
+                Err(fail)
+            }
         }
     }
 }
 
 #[test]
 fn defaults(rt: HostRuntime) -> Result<(), Fail> {
-    let mut report = Report::new(rt.alloc());
-    for row in &DEFAULTS {
-        let ended = try_default(&mut report, rt.alloc(), row);
-        report.row(row.name, ended);
-    }
-    report.end(&rt)
+    try_tables(&rt, rt.alloc(), &DefaultRow, &[DEFAULTS])
 }

@@ -2,7 +2,7 @@
 use crate::support::harness::schema_of_field;
 use crate::support::nodes::first_field;
 use crate::support::report::Report;
-use crate::support::rows::Row;
+use crate::support::rows::{Kind, Row, all_rows};
 use jtree::Tree;
 use schema::Node;
 use std::alloc::Global;
@@ -122,29 +122,25 @@ fn try_lists(
     try_list(report, alloc, node, row.text("bad"), good, false)
 }
 
-fn try_values(
-    report: &mut Report,
-    alloc: Global,
-    row: &Row,
+/// The schema of a field `x`, values of it that are good, and others.
+struct FieldValues {
     good: Good,
-) -> Result<(), Fail> {
-    let schema = schema_of_field(alloc, row.text("field"))?;
-    try_lists(report, alloc, schema.root(), row, good)
 }
 
-fn all_values(report: &mut Report, alloc: Global, rows: &[FieldValues], good: Good) {
-    for row in rows {
-        let ended = try_values(report, alloc, row, good);
-        report.row(row.name, ended);
+impl Kind for FieldValues {
+    fn attempt(&self, report: &mut Report, alloc: Global, row: &Row) -> Result<(), Fail> {
+        let schema = schema_of_field(alloc, row.text("field"))?;
+        try_lists(report, alloc, schema.root(), row, self.good)
     }
 }
 
 #[test]
 fn values(rt: HostRuntime) -> Result<(), Fail> {
     stored::laws::becomes_one_tree();
+    let valid = FieldValues { good: Good::Valid };
+    let stored = FieldValues { good: Good::Stored };
     let mut report = Report::new(rt.alloc());
-    all_values(&mut report, rt.alloc(), &SCALARS, Good::Valid);
-    all_values(&mut report, rt.alloc(), &LISTS_AND_OBJECTS, Good::Valid);
-    all_values(&mut report, rt.alloc(), &STORED, Good::Stored);
+    all_rows(&mut report, rt.alloc(), &valid, &[SCALARS, LISTS_AND_OBJECTS]);
+    all_rows(&mut report, rt.alloc(), &stored, &[STORED]);
     report.end(&rt)
 }

@@ -18,24 +18,29 @@ const NESTED: &str =
         "properties":{"c":{"type":"string","format":"date"},"d":{"type":"boolean"}}},"e":{"type":"string"}}},
         "status":{"type":"object","properties":{"g":{"type":"boolean"}}}}}"#;
 
+// What the tables name.
+static NAMED: &str = r#"
+@OBJECT | [{"list":[{"k":"p"}],"spec":{"a":5,"b":{"c":"x"},"e":"y"}}]
+"#;
+
 static VARIED: &str = r#"
 9 rows: name | objects | varied | without | fixed | present | paths
-siblings that are there and one that is not | [{"list":[{"k":"p"}],"spec":{"a":5,"b":{"c":"x"},"e":"y"}}] | /spec/a | -
+siblings that are there and one that is not | @OBJECT | /spec/a | -
     | {"/list":[[{"k":"p"}]],"/spec/b":[{"c":"x"}],"/spec/e":["y"],"/status":[]} | ["/list","/spec","/spec/b","/spec/e"] | {"/spec/a":[5,0,1]}
-all below a path | [{"list":[{"k":"p"}],"spec":{"a":5,"b":{"c":"x"},"e":"y"}}] | /spec/b | -
+all below a path | @OBJECT | /spec/b | -
     | {"/list":[[{"k":"p"}]],"/spec/a":[5],"/spec/e":["y"],"/status":[]} | ["/list","/spec","/spec/a","/spec/e"]
     | {"/spec/b/c":["x","1970-01-01","2030-12-31"]}
-two levels down, where nothing stands | [{"list":[{"k":"p"}],"spec":{"a":5,"b":{"c":"x"},"e":"y"}}] | /spec/b/d | -
+two levels down, where nothing stands | @OBJECT | /spec/b/d | -
     | {"/list":[[{"k":"p"}]],"/spec/a":[5],"/spec/b/c":["x"],"/spec/e":["y"],"/status":[]}
     | ["/list","/spec","/spec/a","/spec/b","/spec/b/c","/spec/e"] | -
-two paths | [{"list":[{"k":"p"}],"spec":{"a":5,"b":{"c":"x"},"e":"y"}}] | /status /spec/a | -
+two paths | @OBJECT | /status /spec/a | -
     | {"/list":[[{"k":"p"}]],"/spec/b":[{"c":"x"}],"/spec/e":["y"]} | ["/list","/spec","/spec/b","/spec/e"] | {"/spec/a":[5,0,1]}
-a path that is left out besides | [{"list":[{"k":"p"}],"spec":{"a":5,"b":{"c":"x"},"e":"y"}}] | /spec/a | /spec/e
+a path that is left out besides | @OBJECT | /spec/a | /spec/e
     | {"/list":[[{"k":"p"}]],"/spec/b":[{"c":"x"}],"/spec/e":[],"/status":[]} | ["/list","/spec","/spec/b"] | {"/spec/a":[5,0,1]}
-a part of a value beside a varied path is left out | [{"list":[{"k":"p"}],"spec":{"a":5,"b":{"c":"x"},"e":"y"}}] | /spec/a | /spec/b/c
+a part of a value beside a varied path is left out | @OBJECT | /spec/a | /spec/b/c
     | {"/list":[[{"k":"p"}]],"/spec/b":[{}],"/spec/b/c":[],"/spec/e":["y"],"/status":[]} | ["/list","/spec","/spec/b","/spec/e"] | {"/spec/a":[5,0,1]}
 an object with nothing in it | [{}] | /spec | - | {"/list":[],"/status":[]} | - | {"/spec/b/c":["1970-01-01","2030-12-31"]}
-no varied path | [{"list":[{"k":"p"}],"spec":{"a":5,"b":{"c":"x"},"e":"y"}}] | - | /status /list/[]/k | {"/list/[]/k":[],"/status":[]} | -
+no varied path | @OBJECT | - | /status /list/[]/k | {"/list/[]/k":[],"/status":[]} | -
     | {"/spec/a":[5],"/spec/b/c":["x"],"/spec/e":["y"]}
 no object | [] | - | /status | {"/status":[]} | - | {"/spec/b/c":["1970-01-01","2030-12-31"]}
 "#;
@@ -52,19 +57,19 @@ enum Answer<'a> {
 
 static FAULTS: &str = r#"
 13 rows: name | objects | varied | without | answer | phrase
-no such field | [{"list":[{"k":"p"}],"spec":{"a":5,"b":{"c":"x"},"e":"y"}}] | /spec/x | - | BadPath("/spec/x") | bad path /spec/x
-through a list | [{"list":[{"k":"p"}],"spec":{"a":5,"b":{"c":"x"},"e":"y"}}] | /list/[]/k | - | BadPath("/list/[]/k") | bad path /list/[]/k
-the beginning of a name | [{"list":[{"k":"p"}],"spec":{"a":5,"b":{"c":"x"},"e":"y"}}] | /spe | - | BadPath("/spe") | bad path /spe
-no name | [{"list":[{"k":"p"}],"spec":{"a":5,"b":{"c":"x"},"e":"y"}}] | / | - | BadPath("/") | bad path /
+no such field | @OBJECT | /spec/x | - | BadPath("/spec/x") | bad path /spec/x
+through a list | @OBJECT | /list/[]/k | - | BadPath("/list/[]/k") | bad path /list/[]/k
+the beginning of a name | @OBJECT | /spe | - | BadPath("/spe") | bad path /spe
+no name | @OBJECT | / | - | BadPath("/") | bad path /
 nothing that the field belongs to | [{"spec":{"a":5}}] | /spec/b/c | - | NotInObject("/spec/b/c") | not in the object: /spec/b/c
 a null that the field would belong to | [{"spec":null}] | /spec/a | - | NotInObject("/spec/a") | not in the object: /spec/a
-below a path that is left out | [{"list":[{"k":"p"}],"spec":{"a":5,"b":{"c":"x"},"e":"y"}}] | /spec/b/c | /spec/b | NotInObject("/spec/b/c") | not in the object: /spec/b/c
+below a path that is left out | @OBJECT | /spec/b/c | /spec/b | NotInObject("/spec/b/c") | not in the object: /spec/b/c
 no object | [] | /spec/a | - | NotInObject("/spec/a") | not in the object: /spec/a
 two objects | [{},{}] | /spec | - | NotInObject("/spec") | not in the object: /spec
 the first of two | [{"spec":{}}] | /spec/b/c /x | - | NotInObject("/spec/b/c") | not in the object: /spec/b/c
-an item of a map list | [{"list":[{"k":"p"}],"spec":{"a":5,"b":{"c":"x"},"e":"y"}}] | - | /list/[] | BadPath("/list/[]") | bad path /list/[]
+an item of a map list | @OBJECT | - | /list/[] | BadPath("/list/[]") | bad path /list/[]
 no such path | [] | - | /status /none | BadPath("/none") | bad path /none
-a varied path first | [{"list":[{"k":"p"}],"spec":{"a":5,"b":{"c":"x"},"e":"y"}}] | /q | /none | BadPath("/q") | bad path /q
+a varied path first | @OBJECT | /q | /none | BadPath("/q") | bad path /q
 "#;
 
 /// Objects of `NESTED`, the varied paths, those that never occur, and the members `fixed`, `present` and `paths`.
@@ -82,7 +87,7 @@ impl Kind for VariedRow {
 
 #[test]
 fn varied(rt: HostRuntime) -> Result<(), Fail> {
-    try_tables(&rt, rt.alloc(), &VariedRow, &[VARIED])
+    try_tables(&rt, rt.alloc(), &VariedRow, &[NAMED, VARIED])
 }
 
 fn answer_of(document: &Result<Tree, SuggestFault>) -> Answer<'_> {
@@ -127,7 +132,7 @@ impl Kind for Refused {
 
 #[test]
 fn faults(rt: HostRuntime) -> Result<(), Fail> {
-    try_tables(&rt, rt.alloc(), &Refused, &[FAULTS])
+    try_tables(&rt, rt.alloc(), &Refused, &[NAMED, FAULTS])
 }
 
 /// Adds so many members with this value, each after a comma but the first.
