@@ -141,7 +141,12 @@ fn lends(
         trees: Vec::new(alloc),
     };
     lends_pages(report, live, row, &mut copies, meter)?;
-    is_said(report, "taken", texts(alloc, &copies.trees), row.text("taken"))?;
+    is_said(
+        report,
+        "taken",
+        texts(alloc, &copies.trees),
+        row.text("taken"),
+    )?;
     let place = said_of_tree(alloc, live.tree());
     is_said(report, "the place", place, row.text("at"))
 }

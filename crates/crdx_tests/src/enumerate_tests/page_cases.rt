@@ -49,7 +49,12 @@ fn is_page(
     let page = page(alloc, plan, place.as_ref(), 3, meter)?;
     report.is_value("the end", &page.end, &wanted.end);
     report.holds("few steps", meter.steps() <= wanted.steps);
-    is_said(report, "the lines", lines_of(alloc, &page.items), wanted.lines)
+    is_said(
+        report,
+        "the lines",
+        lines_of(alloc, &page.items),
+        wanted.lines,
+    )
 }
 
 fn try_page(

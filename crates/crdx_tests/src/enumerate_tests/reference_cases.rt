@@ -123,8 +123,18 @@ struct SamplesRow;
 
 impl Kind for SamplesRow {
     fn attempt(&self, report: &mut Report, alloc: Global, row: &Row) -> Result<(), Fail> {
-        is_said(report, "samples", plain_lines(alloc, given_of(row)), row.out())?;
-        is_said(report, "lines", walked_lines(alloc, given_of(row)), row.out())
+        is_said(
+            report,
+            "samples",
+            plain_lines(alloc, given_of(row)),
+            row.out(),
+        )?;
+        is_said(
+            report,
+            "lines",
+            walked_lines(alloc, given_of(row)),
+            row.out(),
+        )
     }
 }
 

@@ -29,7 +29,11 @@ fn one_node(
     over: Over<'_>,
 ) -> Result<(), AllocError> {
     let name = format!(in alloc; "{} of {}{}", holder.name(), node.name(), over.name)?;
-    let (head, schema, tail) = (holder.text("head"), node.text("schema"), holder.text("tail"));
+    let (head, schema, tail) = (
+        holder.text("head"),
+        node.text("schema"),
+        holder.text("tail"),
+    );
     let schema = format!(in alloc; "{head}{schema}{tail}")?;
     let given = Given {
         schema: schema.as_str(),

@@ -100,5 +100,10 @@ impl Kind for Stored {
 
 #[test]
 fn stored_values(rt: HostRuntime) -> Result<(), Fail> {
-    try_tables(&rt, rt.alloc(), &Stored, &[SCALARS, OBJECTS, LISTS_AND_JUNCTORS])
+    try_tables(
+        &rt,
+        rt.alloc(),
+        &Stored,
+        &[SCALARS, OBJECTS, LISTS_AND_JUNCTORS],
+    )
 }

@@ -2,7 +2,7 @@
 use crate::support::fakes::FailingSink;
 use crate::support::given::{given_of, made};
 use crate::support::harness::is_same;
-use crate::support::pages::walked;
+use crate::support::pages::{WalkInput, walked};
 use crate::support::report::Report;
 use crate::support::rows::{Kind, Row, try_tables};
 use crdx::walk::{WFault, Walked};
@@ -77,7 +77,11 @@ fn is_enumerated(
     row: &Row,
     meter: &mut Meter,
 ) -> Result<(), Fail> {
-    report.is_number("the number", samples.len() as u64, u64::from(row.small("count")));
+    report.is_number(
+        "the number",
+        samples.len() as u64,
+        u64::from(row.small("count")),
+    );
     let Some(mut live) = Live::first(alloc, plan, meter)? else {
         return Err(Fail::from("no sample"));
     };
@@ -178,5 +182,10 @@ impl Kind for WalkRow {
 
 #[test]
 fn walks(rt: HostRuntime) -> Result<(), Fail> {
-    try_tables(&rt, rt.alloc(), &WalkRow, &[NAMED, WALKS, BEGINNINGS_AND_ROOMS])
+    try_tables(
+        &rt,
+        rt.alloc(),
+        &WalkRow,
+        &[NAMED, WALKS, BEGINNINGS_AND_ROOMS],
+    )
 }

@@ -1,6 +1,6 @@
 //! Plans over words of 128 bits: limits above 63, and the same pages as over words of 64 bits below.
 use crate::support::documents::THIRTY_ONE;
-use crate::support::given::{Given, made};
+use crate::support::given::{Given, given_of, made};
 use crate::support::harness::{is_said, pools_of, schema_of};
 use crate::support::pages::{lines_of, list_before_three, next_three_lists};
 use crate::support::report::Report;

@@ -56,6 +56,7 @@ fn said_of_node(alloc: Global, schema: &Schema, path: &str) -> Result<String, Fa
 }
 
 /// A path, the text of its field, and its node; or the code of the fault of both.
+#[derive(Drop)]
 struct PathRow<'a> {
     schema: &'a Schema,
     listing: &'a Listing,

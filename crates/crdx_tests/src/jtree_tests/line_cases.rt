@@ -55,7 +55,12 @@ impl Kind for LinesRow {
     fn attempt(&self, report: &mut Report, alloc: Global, row: &Row) -> Result<(), Fail> {
         for step in [1, 2, 3, usize::MAX] {
             let source = FailingSource::new(row.text("bytes").as_bytes(), step, usize::MAX);
-            is_said(report, "the lines", said_of(alloc, source), row.text("wanted"))?;
+            is_said(
+                report,
+                "the lines",
+                said_of(alloc, source),
+                row.text("wanted"),
+            )?;
         }
         Ok(())
     }
@@ -84,7 +89,12 @@ impl Kind for LongLine {
         let mut bytes = padded(alloc, "1", row.count("spaces"))?;
         bytes.push_str(row.text("end"))?;
         let source = FailingSource::new(bytes.as_bytes(), usize::MAX, usize::MAX);
-        is_said(report, "the lines", said_of(alloc, source), row.text("wanted"))
+        is_said(
+            report,
+            "the lines",
+            said_of(alloc, source),
+            row.text("wanted"),
+        )
     }
 }
 
@@ -110,7 +120,12 @@ struct FailingLines;
 impl Kind for FailingLines {
     fn attempt(&self, report: &mut Report, alloc: Global, row: &Row) -> Result<(), Fail> {
         let source = FailingSource::new(b"{}\n1\n2", 1, row.count("left"));
-        is_said(report, "the lines", said_of(alloc, source), row.text("wanted"))
+        is_said(
+            report,
+            "the lines",
+            said_of(alloc, source),
+            row.text("wanted"),
+        )
     }
 }
 

@@ -33,10 +33,20 @@ impl Kind for Named {
     fn attempt(&self, report: &mut Report, alloc: Global, row: &Row) -> Result<(), Fail> {
         let mut with = members_of(alloc)?;
         let there = with.get(row.name()).is_some();
-        report.is_shown("the place", &search(&with.members, row.name()), row.text("place"))?;
+        report.is_shown(
+            "the place",
+            &search(&with.members, row.name()),
+            row.text("place"),
+        )?;
         let old = with.insert(Text::from_str(alloc, row.name())?, Tree::Int(9))?;
         report.is_value("whether one was replaced", &old.is_some(), &there);
-        is_tree(report, alloc, "with it", &Tree::Object(with), row.text("with"))?;
+        is_tree(
+            report,
+            alloc,
+            "with it",
+            &Tree::Object(with),
+            row.text("with"),
+        )?;
         let mut without = members_of(alloc)?;
         let old = without.remove(row.name());
         report.is_value("whether one was taken off", &old.is_some(), &there);

@@ -43,7 +43,11 @@ impl Kind for Part {
             &tree.get_text(row.text("member")),
             &row.optional("text"),
         );
-        report.is_value("the test", &tree.has_text(row.text("member"), "x"), &row.is("is_x"));
+        report.is_value(
+            "the test",
+            &tree.has_text(row.text("member"), "x"),
+            &row.is("is_x"),
+        );
         is_said(
             report,
             "the value",
@@ -133,7 +137,11 @@ fn try_overwriting(
     let done = tree
         .last()
         .overwrite(node, tree.last_depth(), &mut text, &mut scratch)?;
-    report.is_value("whether it has as many bytes", &done, &row.is("same_length"));
+    report.is_value(
+        "whether it has as many bytes",
+        &done,
+        &row.is("same_length"),
+    );
     let text = String::from_utf8(text)?;
     let wanted = if row.is("same_length") {
         row.text("document")
@@ -164,15 +172,16 @@ fn try_set_last(
     )
 }
 
-fn try_set(
-    report: &mut Report,
-    alloc: Global,
-    node: &mut Tree,
-    row: &Row,
-) -> Result<(), Fail> {
+fn try_set(report: &mut Report, alloc: Global, node: &mut Tree, row: &Row) -> Result<(), Fail> {
     let before = Tree::from_bytes(alloc, row.text("last").as_bytes())?;
     node.set(alloc, &before)?;
-    is_tree(report, alloc, "a node set to the last one", node, row.text("last"))
+    is_tree(
+        report,
+        alloc,
+        "a node set to the last one",
+        node,
+        row.text("last"),
+    )
 }
 
 /// A document, its last node, another node, the document with that one in its place, and whether it has as many bytes.
@@ -181,7 +190,13 @@ struct LastNode;
 impl Kind for LastNode {
     fn attempt(&self, report: &mut Report, alloc: Global, row: &Row) -> Result<(), Fail> {
         let mut tree = Tree::from_bytes(alloc, row.text("document").as_bytes())?;
-        is_tree(report, alloc, "the last node", tree.last(), row.text("last"))?;
+        is_tree(
+            report,
+            alloc,
+            "the last node",
+            tree.last(),
+            row.text("last"),
+        )?;
         let mut node = Tree::from_bytes(alloc, row.text("other").as_bytes())?;
         try_overwriting(report, alloc, &tree, &node, row)?;
         try_set_last(report, alloc, &mut tree, &node, row)?;

@@ -103,7 +103,12 @@ struct RefusedRow;
 
 impl Kind for RefusedRow {
     fn attempt(&self, report: &mut Report, alloc: Global, row: &Row) -> Result<(), Fail> {
-        try_bytes(report, alloc, row.text("document").as_bytes(), row.text("wanted"))
+        try_bytes(
+            report,
+            alloc,
+            row.text("document").as_bytes(),
+            row.text("wanted"),
+        )
     }
 }
 

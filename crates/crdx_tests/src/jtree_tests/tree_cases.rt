@@ -65,7 +65,12 @@ struct DocumentRow;
 
 impl Kind for DocumentRow {
     fn attempt(&self, report: &mut Report, alloc: Global, row: &Row) -> Result<(), Fail> {
-        try_bytes(report, alloc, row.text("document").as_bytes(), row.text("wanted"))
+        try_bytes(
+            report,
+            alloc,
+            row.text("document").as_bytes(),
+            row.text("wanted"),
+        )
     }
 }
 

@@ -3,11 +3,11 @@ ghost use Rattle.std.specs.Prelude.{length, ◌<◌};
 ghost use Rattle.plan.specs.Samples.Sites.{sites_of};
 
 use crate::support::documents::{SPEC, ZERO_AND_ONE};
-use crate::support::given::{Given, MAP_LISTS, made};
+use crate::support::given::{Given, MAP_LISTS, given_of, made};
 use crate::support::harness::{is_said, pools_of, schema_of};
-use crate::support::rows::{Kind, Row, try_tables};
 use crate::support::plans::{node_at, place_of, slot_of};
 use crate::support::report::Report;
+use crate::support::rows::{Kind, Row, try_tables};
 use plan::{Distinct, Meter, PFault, Plan, PlanNode, Sort};
 use std::alloc::{AllocError, Global};
 use std::test::Fail;

@@ -1,8 +1,8 @@
 //! How many entries the pools of a document may have.
 use crate::support::harness::is_said;
-use crate::support::rows::{Kind, Row, all_rows, try_tables};
 use crate::support::pools::{DocumentRow, limits_of, outcome};
 use crate::support::report::Report;
+use crate::support::rows::{Kind, Row, all_rows, try_tables};
 use plan::PoolLimits;
 use std::alloc::{AllocError, Global};
 use std::fmt::Write;
@@ -81,6 +81,7 @@ fn repeated(alloc: Global, row: &Row) -> Result<String, AllocError> {
 }
 
 /// The beginning of a document, an entry with its comma, how many there are, the text after them, and what is answered.
+#[derive(Drop)]
 struct Long {
     limits: PoolLimits,
 }
@@ -108,7 +109,12 @@ fn limits(rt: HostRuntime) -> Result<(), Fail> {
     };
     let alloc = rt.alloc();
     let mut report = Report::new(alloc);
-    all_rows(&mut report, alloc, &standard, &[PATHS_AND_SCALARS, NAMES_AND_TREES]);
+    all_rows(
+        &mut report,
+        alloc,
+        &standard,
+        &[PATHS_AND_SCALARS, NAMES_AND_TREES],
+    );
     all_rows(&mut report, alloc, &large, &[LARGE]);
     all_rows(&mut report, alloc, &DocumentRow { limits: few }, &[FEW]);
     report.end(&rt)

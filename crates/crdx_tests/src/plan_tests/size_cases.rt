@@ -1,8 +1,8 @@
 //! The sizes of what may be at a node of a plan, and of what can follow.
 use crate::support::given::{given_of, made};
-use crate::support::rows::{Kind, Row, try_tables};
-use crate::support::plans::{are_sizes, more_of, node_at, rest_of};
+use crate::support::plans::{are_sizes_of, more_of, node_at, rest_of};
 use crate::support::report::Report;
+use crate::support::rows::{Kind, Row, try_tables};
 use plan::{Meter, Plan};
 use std::alloc::Global;
 use std::test::Fail;
@@ -103,7 +103,7 @@ impl Kind for SizesRow {
         let found = answer_of(&plan, &mut meter, row);
         drop(plan);
         match found {
-            Some(found) => are_sizes(report, alloc, "the sizes", found, row.text("sizes")),
+            Some(found) => are_sizes_of(report, alloc, "the sizes", found, row.text("sizes")),
             None => Err(Fail::from("no such node")),
         }
     }
@@ -111,5 +111,17 @@ impl Kind for SizesRow {
 
 #[test]
 fn sizes(rt: HostRuntime) -> Result<(), Fail> {
-    try_tables(&rt, rt.alloc(), &SizesRow, &[NAMED, SIZES, RESTS, RESTS_WITHIN_BOUNDS, FOLLOWERS, NAMED_FIELDS])
+    try_tables(
+        &rt,
+        rt.alloc(),
+        &SizesRow,
+        &[
+            NAMED,
+            SIZES,
+            RESTS,
+            RESTS_WITHIN_BOUNDS,
+            FOLLOWERS,
+            NAMED_FIELDS,
+        ],
+    )
 }

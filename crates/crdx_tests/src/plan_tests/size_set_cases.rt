@@ -1,7 +1,7 @@
 //! Sets of sizes: their members, sums up to a limit, and the next member.
-use crate::support::rows::{Kind, Row, all_rows};
-use crate::support::plans::are_sizes;
+use crate::support::plans::are_sizes_of;
 use crate::support::report::Report;
+use crate::support::rows::{Kind, Row, all_rows};
 use plan::SizeSet;
 use std::alloc::Global;
 use std::test::Fail;
@@ -40,10 +40,11 @@ fn try_sums<S: SizeSet>(report: &mut Report, alloc: Global, row: &Row) -> Result
         return Err(Fail::from("no limit"));
     }
     let sums = set_of::<S>(row.text("left"))?.sums(set_of(row.text("right"))?, limit);
-    are_sizes(report, alloc, "the members", sums, row.text("sums"))
+    are_sizes_of(report, alloc, "the members", sums, row.text("sums"))
 }
 
 /// The members of two sets, a limit, and the sums up to it, over 128 bits, and over 64 where the members are not wide.
+#[derive(Drop)]
 struct SumsRow {
     are_wide: bool,
 }
@@ -60,8 +61,18 @@ impl Kind for SumsRow {
 #[test]
 fn sums(rt: HostRuntime) -> Result<(), Fail> {
     let mut report = Report::new(rt.alloc());
-    all_rows(&mut report, rt.alloc(), &SumsRow { are_wide: false }, &[SUMS]);
-    all_rows(&mut report, rt.alloc(), &SumsRow { are_wide: true }, &[WIDE_SUMS]);
+    all_rows(
+        &mut report,
+        rt.alloc(),
+        &SumsRow { are_wide: false },
+        &[SUMS],
+    );
+    all_rows(
+        &mut report,
+        rt.alloc(),
+        &SumsRow { are_wide: true },
+        &[WIDE_SUMS],
+    );
     report.end(&rt)
 }
 
@@ -92,6 +103,7 @@ fn try_next<S: SizeSet>(report: &mut Report, row: &Row) -> Result<(), Fail> {
 }
 
 /// The members of a set, a number, and the least member at or above it, over 128 bits, and over 64 where they are not wide.
+#[derive(Drop)]
 struct Next {
     are_wide: bool,
 }
@@ -109,6 +121,11 @@ impl Kind for Next {
 fn next_members(rt: HostRuntime) -> Result<(), Fail> {
     let mut report = Report::new(rt.alloc());
     all_rows(&mut report, rt.alloc(), &Next { are_wide: false }, &[NEXT]);
-    all_rows(&mut report, rt.alloc(), &Next { are_wide: true }, &[WIDE_NEXT]);
+    all_rows(
+        &mut report,
+        rt.alloc(),
+        &Next { are_wide: true },
+        &[WIDE_NEXT],
+    );
     report.end(&rt)
 }

@@ -1,6 +1,6 @@
 //! `sample --all`: all samples, however many, with flushes between blocks of lines.
 use crate::support::fakes::{FailingSink, FakeInputs};
-use crate::support::harness::{Output, definition, has_failed, is_answer, run_on, RunRow};
+use crate::support::harness::{Output, RunRow, definition, has_failed, is_answer, run_on};
 use crate::support::report::Report;
 use crate::support::rows::try_tables;
 use crate::support::texts::beginning;

@@ -1,7 +1,7 @@
 //! The words of the command line: what they ask for.
-use crate::program::help_cases::CommandLine;
 use crate::support::harness::{is_said, words_of};
 use crate::support::report::Report;
+use crate::support::rows::{Kind, Row, try_tables};
 use crdx::arguments::{
     CommonArguments, CoverArguments, ExplainArguments, ObjectArguments, ObjectCommand,
     PoolsArguments, Request, SampleArguments, parse_arguments,
@@ -190,24 +190,22 @@ fn asked(alloc: Global, line: &str) -> Result<String, Fail> {
     Ok(said(alloc, &parse_arguments(alloc, words.as_slice()))?)
 }
 
-fn all_requests(report: &mut Report, alloc: Global, rows: &[CommandLine]) {
-    for row in rows {
-        let ended = is_said(
+/// A command line, and what it asks for.
+struct RequestRow;
+
+impl Kind for RequestRow {
+    fn attempt(&self, report: &mut Report, alloc: Global, row: &Row) -> Result<(), Fail> {
+        is_said(
             report,
             "what is asked",
-            asked(alloc, row.command),
-            row.wanted,
-        );
-        report.row(row.name, ended);
+            asked(alloc, row.text("command")),
+            row.text("wanted"),
+        )
     }
 }
 
 #[test]
 fn requests(rt: HostRuntime) -> Result<(), Fail> {
-    let mut report = Report::new(rt.alloc());
-    all_requests(&mut report, rt.alloc(), &COVERS_AND_CHECKS);
-    all_requests(&mut report, rt.alloc(), &POOLS);
-    all_requests(&mut report, rt.alloc(), &OBJECTS);
-    all_requests(&mut report, rt.alloc(), &FIELDS_AND_SAMPLES);
-    report.end(&rt)
+    let tables = &[COVERS_AND_CHECKS, POOLS, OBJECTS, FIELDS_AND_SAMPLES];
+    try_tables(&rt, rt.alloc(), &RequestRow, tables)
 }

@@ -98,5 +98,16 @@ an integer among present paths | crdx sample crd.json v1 --pools pools.json | @S
 
 #[test]
 fn bad_paths(rt: HostRuntime) -> Result<(), Fail> {
-    try_tables(&rt, rt.alloc(), &SchemaRunRow, &[NO_SCALARS, BELOW_FIELDS, BESIDE_OTHERS, FIXED_AND_PRESENT, OF_SEVERAL_KINDS])
+    try_tables(
+        &rt,
+        rt.alloc(),
+        &SchemaRunRow,
+        &[
+            NO_SCALARS,
+            BELOW_FIELDS,
+            BESIDE_OTHERS,
+            FIXED_AND_PRESENT,
+            OF_SEVERAL_KINDS,
+        ],
+    )
 }

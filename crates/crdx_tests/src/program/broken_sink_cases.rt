@@ -19,16 +19,6 @@ static NAMED: &str = r#"
     "versions":[{"name":"v1","schema":{"openAPIV3Schema":{"type":"object"}}}]}}
 "#;
 
-const LIST_OF_TEXTS: &str = r#"{
-    "apiVersion":"apiextensions.k8s.io/v1","kind":"CustomResourceDefinition",
-    "spec":{
-        "group":"example.com","names":{"kind":"Widget"},
-        "versions":[{"name":"v1","schema":{"openAPIV3Schema":{
-            "type":"object","properties":{"integers":{"type":"array","items":{"type":"string"}}}
-        }}}]
-    }
-}"#;
-
 static RUNS: &str = r#"
 8 rows: name | command | crd | status
 a sample | crdx sample crd.json v1 --pools pools.json --limit 4 | @WIDGET | 0
@@ -71,7 +61,7 @@ fn count_lines(text: &str) -> u64 {
 /// The sinks of a run: its row, all that it writes, and how many bytes are taken in one call, after which a full sink answers 0 or fails.
 #[derive(Clone, Copy)]
 struct Sinks<'a> {
-    row: &'a SinkRun,
+    row: &'a Row,
     out: &'a str,
     step: usize,
     answers_zero: bool,
@@ -95,7 +85,8 @@ fn try_room(
         let out = beginning(sinks.out, room);
         return has_failed(report, alloc, &output, out, count_lines(out));
     }
-    is_answer(report, &output, sinks.out, sinks.row.err, sinks.row.status);
+    let row = sinks.row;
+    is_answer(report, &output, sinks.out, row.err(), row.number("status"));
     Ok(())
 }
 
@@ -125,7 +116,7 @@ struct SinkRun;
 
 impl Kind for SinkRun {
     // Standard output fails after each byte in turn, whole and in pieces, and after all.
-fn attempt(&self, report: &mut Report, alloc: Global, row: &Row) -> Result<(), Fail> {
+    fn attempt(&self, report: &mut Report, alloc: Global, row: &Row) -> Result<(), Fail> {
         let out = with_phrases(alloc, row.out())?;
         let out = out.as_str();
         for (step, answers_zero) in [(usize::MAX, false), (7, true), (1, false)] {
@@ -146,35 +137,24 @@ fn cut_runs(rt: HostRuntime) -> Result<(), Fail> {
     try_tables(&rt, rt.alloc(), &SinkRun, &[NAMED, RUNS])
 }
 
-/// A fault of a walk, and its code.
-struct FaultCode {
-    code: &'static str,
+fn try_code(
+    report: &mut Report,
+    alloc: Global,
     fault: WFault,
+    code: &str,
+) -> Result<(), AllocError> {
+    let text = fault.to_string(alloc)?;
+    report.is_text("the code", text.as_str(), code);
+    report.row(code, Ok(()));
+    Ok(())
 }
-
-static FAULTS: [FaultCode; 3] = [
-    FaultCode {
-        code: "W1",
-        fault: WFault::NotASample,
-    },
-    FaultCode {
-        code: "W2",
-        fault: WFault::NoMemory(3),
-    },
-    FaultCode {
-        code: "W3",
-        fault: WFault::Write(3),
-    },
-];
 
 #[test]
 fn codes_of_faults(rt: HostRuntime) -> Result<(), Fail> {
     let mut report = Report::new(rt.alloc());
-    for row in &FAULTS {
-        let text = row.fault.to_string(rt.alloc())?;
-        report.is_text("the code", text.as_str(), row.code);
-        report.row(row.code, Ok(()));
-    }
+    try_code(&mut report, rt.alloc(), WFault::NotASample, "W1")?;
+    try_code(&mut report, rt.alloc(), WFault::NoMemory(3), "W2")?;
+    try_code(&mut report, rt.alloc(), WFault::Write(3), "W3")?;
     report.end(&rt)
 }
 

@@ -206,5 +206,18 @@ a path that leads nowhere | crdx cover crd.json v1 --pools pools.json | @SPEC | 
 #[test]
 fn covers(rt: HostRuntime) -> Result<(), Fail> {
     cover::laws::lines_cover();
-    try_tables(&rt, rt.alloc(), &SchemaRunRow, &[NAMED, FIELDS, LISTS_AND_MAPS, MEMBERS, FIXED_AND_PRESENT, VALUES, MISSED_VALUES])
+    try_tables(
+        &rt,
+        rt.alloc(),
+        &SchemaRunRow,
+        &[
+            NAMED,
+            FIELDS,
+            LISTS_AND_MAPS,
+            MEMBERS,
+            FIXED_AND_PRESENT,
+            VALUES,
+            MISSED_VALUES,
+        ],
+    )
 }

@@ -23,12 +23,7 @@ a text | "kind" | "kind"
 "#;
 
 // The envelope is taken off a tree and put back.
-fn try_parts(
-    report: &mut Report,
-    alloc: Global,
-    tree: &mut Tree,
-    row: &Row,
-) -> Result<(), Fail> {
+fn try_parts(report: &mut Report, alloc: Global, tree: &mut Tree, row: &Row) -> Result<(), Fail> {
     let parts = split(tree);
     is_tree(report, alloc, "the body", tree, row.text("body"))?;
     join(tree, parts)?;

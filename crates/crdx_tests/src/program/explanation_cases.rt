@@ -201,7 +201,12 @@ fn documents(rt: HostRuntime) -> Result<(), Fail> {
 
 #[test]
 fn schemas(rt: HostRuntime) -> Result<(), Fail> {
-    try_tables(&rt, rt.alloc(), &SchemaRunRow, &[SCHEMAS, POOLS, FIXED_AND_PRESENT, OBJECTS])
+    try_tables(
+        &rt,
+        rt.alloc(),
+        &SchemaRunRow,
+        &[SCHEMAS, POOLS, FIXED_AND_PRESENT, OBJECTS],
+    )
 }
 
 #[test]

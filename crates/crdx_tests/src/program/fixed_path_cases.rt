@@ -188,5 +188,17 @@ with room for 127 nodes | crdx sample crd.json v1 --pools pools.json --limit 127
 
 #[test]
 fn fixed_paths(rt: HostRuntime) -> Result<(), Fail> {
-    try_tables(&rt, rt.alloc(), &SchemaRunRow, &[NAMED, SCALARS_AND_OBJECTS, LISTS_AND_MAPS, OPEN_PLACES_AND_NULLS, BESIDE_OTHER_PATHS, BEGINNINGS])
+    try_tables(
+        &rt,
+        rt.alloc(),
+        &SchemaRunRow,
+        &[
+            NAMED,
+            SCALARS_AND_OBJECTS,
+            LISTS_AND_MAPS,
+            OPEN_PLACES_AND_NULLS,
+            BESIDE_OTHER_PATHS,
+            BEGINNINGS,
+        ],
+    )
 }

@@ -147,9 +147,10 @@ fn is_helped(report: &mut Report, output: &Output, wanted: &str) {
     report.is_number("the status", u64::from(output.status), 0);
 }
 
-struct CommandLine2;
+/// A command line, and the first line of what is said of it.
+struct MistakeRow;
 
-impl Kind for CommandLine2 {
+impl Kind for MistakeRow {
     fn attempt(&self, report: &mut Report, alloc: Global, row: &Row) -> Result<(), Fail> {
         let output = run_of(alloc, row.text("command"))?;
         is_mistaken(report, &output, row.out());
@@ -159,13 +160,24 @@ impl Kind for CommandLine2 {
 
 #[test]
 fn mistakes(rt: HostRuntime) -> Result<(), Fail> {
-    try_tables(&rt, rt.alloc(), &CommandLine2, &[COVERS_AND_INPUTS, POOLS, WORDS, NUMBERS_OF_SAMPLES, ALL_AND_LINES])
+    try_tables(
+        &rt,
+        rt.alloc(),
+        &MistakeRow,
+        &[
+            COVERS_AND_INPUTS,
+            POOLS,
+            WORDS,
+            NUMBERS_OF_SAMPLES,
+            ALL_AND_LINES,
+        ],
+    )
 }
 
-/// A command line, and what is wanted of it.
-struct CommandLine;
+/// A command line, and a line of the help.
+pub struct HelpRow;
 
-impl Kind for CommandLine {
+impl Kind for HelpRow {
     fn attempt(&self, report: &mut Report, alloc: Global, row: &Row) -> Result<(), Fail> {
         let output = run_of(alloc, row.text("command"))?;
         is_helped(report, &output, row.out());
@@ -175,7 +187,7 @@ impl Kind for CommandLine {
 
 #[test]
 fn help(rt: HostRuntime) -> Result<(), Fail> {
-    try_tables(&rt, rt.alloc(), &CommandLine, &[HELP, HELP_OF_OBJECTS])
+    try_tables(&rt, rt.alloc(), &HelpRow, &[HELP, HELP_OF_OBJECTS])
 }
 
 fn is_explained(text: &str, answer: &str) -> bool {

@@ -3,7 +3,7 @@ use crate::support::documents::{MAP_LIST, TWO_TEXTS, WIDGET, ZERO_AND_ONE};
 use crate::support::fakes::{FailingSink, FakeInputs};
 use crate::support::harness::{Run, definition, is_answer, run_on, try_run};
 use crate::support::report::Report;
-use crate::support::rows::Row;
+use crate::support::rows::{Kind, Row, try_tables};
 use crate::support::texts::{beginning, nested, padded};
 use std::alloc::Global;
 use std::test::Fail;
@@ -17,7 +17,6 @@ fn try_refused<'a>(
     err: &'a str,
 ) -> Result<(), Fail> {
     let run = Run {
-        name: "a refusal",
         command: "crdx sample crd.json v1 --pools pools.json",
         crd,
         second: pools,
@@ -105,30 +104,33 @@ static PLACES: &str = r#"
     ! crdx: after: J1
 "#;
 
-fn try_place(report: &mut Report, alloc: Global, crd: &str, row: &Row) -> Result<(), Fail> {
-    let (place, limit) = (row.name(), row.small("limit"));
-    let command = format!(in alloc;
-        "crdx sample crd.json v1 --pools pools.json --limit {limit} --after {place}"
-    )?;
-    let run = Run {
-        name: place,
-        command: command.as_str(),
-        crd,
-        second: TWO_TEXTS,
-        out: "",
-        err: row.err(),
-        status: row.number("status"),
-    };
-    try_run(report, alloc, &run)
+/// A tree to go on from, a limit, and what is said of it.
+#[derive(Drop)]
+struct Place<'a> {
+    crd: &'a str,
+}
+
+impl Kind for Place<'_> {
+    fn attempt(&self, report: &mut Report, alloc: Global, row: &Row) -> Result<(), Fail> {
+        let (place, limit) = (row.name(), row.text("limit"));
+        let command = format!(in alloc;
+            "crdx sample crd.json v1 --pools pools.json --limit {limit} --after {place}"
+        )?;
+        let run = Run {
+            command: command.as_str(),
+            crd: self.crd,
+            second: TWO_TEXTS,
+            out: "",
+            err: row.err(),
+            status: row.number("status"),
+        };
+        try_run(report, alloc, &run)
+    }
 }
 
 #[test]
 fn places_that_are_no_samples(rt: HostRuntime) -> Result<(), Fail> {
-    let mut report = Report::new(rt.alloc());
     let crd = definition(rt.alloc(), MAP_LIST)?;
-    for row in &PLACES {
-        let ended = try_place(&mut report, rt.alloc(), crd.as_str(), row);
-        report.row(row.place, ended);
-    }
-    report.end(&rt)
+    let kind = Place { crd: crd.as_str() };
+    try_tables(&rt, rt.alloc(), &kind, &[PLACES])
 }

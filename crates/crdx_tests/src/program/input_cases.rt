@@ -3,7 +3,7 @@ use crate::support::documents::{WIDGET, ZERO_AND_ONE};
 use crate::support::fakes::{FailingSink, FakeInputs, Reads};
 use crate::support::harness::{Run, is_answer, is_said, run_on, try_run};
 use crate::support::report::Report;
-use crate::support::rows::{Kind, Row, all_rows, try_tables};
+use crate::support::rows::{Kind, Row, all_rows, rows_of, try_tables};
 use crate::support::texts::padded;
 use crdx::inputs::{HostInputs, InFault, InputName, Inputs};
 use jtree::Tree;
@@ -71,9 +71,9 @@ fn files(rt: HostRuntime) -> Result<(), Fail> {
         report.row(path, ended);
     }
     let path = path_of(&rt, process::id(rt.process()))?;
-    for row in &FILES {
+    for row in &rows_of(rt.alloc(), &[FILES])? {
         let ended = try_file(&rt, &mut report, path.as_str(), row);
-        report.row(row.name, ended);
+        report.row(row.name(), ended);
     }
     report.end(&rt)
 }
@@ -99,7 +99,11 @@ no command | crdx | @WIDGET | 0 | 0 | 0 | 0
 fn is_read(report: &mut Report, reads: Reads, row: &Row) {
     report.is_number("the reads of the definition", reads.crd, row.number("crds"));
     report.is_number("the reads of the pools", reads.pools, row.number("pools"));
-    report.is_number("the reads of the object", reads.object, row.number("objects"));
+    report.is_number(
+        "the reads of the object",
+        reads.object,
+        row.number("objects"),
+    );
     report.is_number("the other reads", reads.other, row.number("others"));
 }
 
@@ -109,7 +113,12 @@ struct ReadCounts;
 impl Kind for ReadCounts {
     fn attempt(&self, report: &mut Report, alloc: Global, row: &Row) -> Result<(), Fail> {
         let inputs = FakeInputs::new(alloc, row.text("crd"), ZERO_AND_ONE);
-        let output = run_on(alloc, row.text("command"), inputs, FailingSink::endless(alloc))?;
+        let output = run_on(
+            alloc,
+            row.text("command"),
+            inputs,
+            FailingSink::endless(alloc),
+        )?;
         is_read(report, output.reads, row);
         Ok(())
     }
@@ -141,7 +150,6 @@ struct StandardInput;
 impl Kind for StandardInput {
     fn attempt(&self, report: &mut Report, alloc: Global, row: &Row) -> Result<(), Fail> {
         let run = Run {
-            name: row.name(),
             command: row.text("command"),
             crd: WIDGET,
             second: row.text("input"),
@@ -179,7 +187,12 @@ fn try_failing_second(
 ) -> Result<(), AllocError> {
     let mut inputs = FakeInputs::new(alloc, WIDGET, ZERO_AND_ONE);
     inputs.second_left = left;
-    let output = run_on(alloc, row.text("command"), inputs, FailingSink::endless(alloc))?;
+    let output = run_on(
+        alloc,
+        row.text("command"),
+        inputs,
+        FailingSink::endless(alloc),
+    )?;
     is_answer(report, &output, "", row.err(), 4);
     Ok(())
 }

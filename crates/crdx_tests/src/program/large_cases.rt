@@ -59,7 +59,6 @@ fn try_judged<'a>(
         ("", 3)
     };
     let run = SchemaRun {
-        name: "a schema that is judged",
         command,
         schema,
         second: "",
@@ -70,18 +69,31 @@ fn try_judged<'a>(
     try_schema_run(report, alloc, &run)
 }
 
-struct Long2;
+/// The schema before its entries, an entry, how many there are, the schema after them, and what is said of a limit, where one is passed.
+struct LongSchema;
 
-impl Kind for Long2 {
+impl Kind for LongSchema {
     fn attempt(&self, report: &mut Report, alloc: Global, row: &Row) -> Result<(), Fail> {
-        let schema = repeated(alloc, row.text("head"), row.text("entry"), row.count("count"), row.text("tail"))?;
-        try_judged(report, alloc, row.text("command"), schema.as_str(), row.err())
+        let schema = repeated(
+            alloc,
+            row.text("head"),
+            row.text("entry"),
+            row.count("count"),
+            row.text("tail"),
+        )?;
+        try_judged(
+            report,
+            alloc,
+            row.text("command"),
+            schema.as_str(),
+            row.err(),
+        )
     }
 }
 
 #[test]
 fn schemas(rt: HostRuntime) -> Result<(), Fail> {
-    try_tables(&rt, rt.alloc(), &Long2, &[SCHEMAS])
+    try_tables(&rt, rt.alloc(), &LongSchema, &[SCHEMAS])
 }
 
 /// An object with so many optional truth values.
@@ -112,7 +124,13 @@ struct WideObject;
 impl Kind for WideObject {
     fn attempt(&self, report: &mut Report, alloc: Global, row: &Row) -> Result<(), Fail> {
         let schema = wide(alloc, row.count("properties"))?;
-        try_judged(report, alloc, row.text("command"), schema.as_str(), row.err())
+        try_judged(
+            report,
+            alloc,
+            row.text("command"),
+            schema.as_str(),
+            row.err(),
+        )
     }
 }
 
@@ -121,10 +139,9 @@ fn properties(rt: HostRuntime) -> Result<(), Fail> {
     try_tables(&rt, rt.alloc(), &WideObject, &[PROPERTIES])
 }
 
-fn try_wide_object(report: &mut Report, alloc: Global, name: &str) -> Result<(), Fail> {
+fn try_wide_object(report: &mut Report, alloc: Global) -> Result<(), Fail> {
     let schema = wide(alloc, 1024)?;
     let run = SchemaRun {
-        name,
         command: "crdx sample crd.json v1 --large --limit 2 --count 3",
         schema: schema.as_str(),
         second: "",
@@ -139,7 +156,7 @@ fn try_wide_object(report: &mut Report, alloc: Global, name: &str) -> Result<(),
 fn samples_of_a_wide_object(rt: HostRuntime) -> Result<(), Fail> {
     let mut report = Report::new(rt.alloc());
     let name = "the first samples of 1,024 fields";
-    let ended = try_wide_object(&mut report, rt.alloc(), name);
+    let ended = try_wide_object(&mut report, rt.alloc());
     report.row(name, ended);
     report.end(&rt)
 }
@@ -178,7 +195,6 @@ impl Kind for PathCount {
         let schema = wide(alloc, 1024)?;
         let pools = pools_of_paths(alloc, row.count("paths"))?;
         let run = SchemaRun {
-            name: row.name(),
             command: row.text("command"),
             schema: schema.as_str(),
             second: pools.as_str(),
@@ -244,19 +260,24 @@ static NAMES_AND_PATHS: &str = r#"
     !     found 1025 values at the path "/a"; allowed are 1024
 "#;
 
-/// A document before its entries, an entry, how many there are, the document after them, and what is said of a limit, where one is passed.
-struct Long;
+/// As `LongSchema`, of pools.
+struct LongPools;
 
-impl Kind for Long {
+impl Kind for LongPools {
     fn attempt(&self, report: &mut Report, alloc: Global, row: &Row) -> Result<(), Fail> {
-        let pools = repeated(alloc, row.text("head"), row.text("entry"), row.count("count"), row.text("tail"))?;
+        let pools = repeated(
+            alloc,
+            row.text("head"),
+            row.text("entry"),
+            row.count("count"),
+            row.text("tail"),
+        )?;
         let (out, err, status) = if row.err().is_empty() {
             ("{}\n{\"a\":1}\n", "crdx: end\n", 0)
         } else {
             ("", row.err(), 3)
         };
         let run = SchemaRun {
-            name: row.name(),
             command: row.text("command"),
             schema: INTEGER,
             second: pools.as_str(),
@@ -270,7 +291,12 @@ impl Kind for Long {
 
 #[test]
 fn pools(rt: HostRuntime) -> Result<(), Fail> {
-    try_tables(&rt, rt.alloc(), &Long, &[NAMED, POOLS, NAMES_AND_PATHS])
+    try_tables(
+        &rt,
+        rt.alloc(),
+        &LongPools,
+        &[NAMED, POOLS, NAMES_AND_PATHS],
+    )
 }
 
 fn try_most_steps(report: &mut Report, alloc: Global) -> Result<(), Fail> {

@@ -149,7 +149,6 @@ struct ObjectLeaves;
 impl Kind for ObjectLeaves {
     fn attempt(&self, report: &mut Report, alloc: Global, row: &Row) -> Result<(), Fail> {
         let run = SchemaRun {
-            name: row.name(),
             command: COMMAND,
             schema: row.text("schema"),
             second: row.text("object"),
@@ -163,7 +162,12 @@ impl Kind for ObjectLeaves {
 
 #[test]
 fn leaves(rt: HostRuntime) -> Result<(), Fail> {
-    try_tables(&rt, rt.alloc(), &ObjectLeaves, &[NAMED, LEAVES, OPEN_LEAVES_AND_NULLS])
+    try_tables(
+        &rt,
+        rt.alloc(),
+        &ObjectLeaves,
+        &[NAMED, LEAVES, OPEN_LEAVES_AND_NULLS],
+    )
 }
 
 /// An object that is not as it is stored by a schema.
@@ -172,7 +176,6 @@ struct NotStored;
 impl Kind for NotStored {
     fn attempt(&self, report: &mut Report, alloc: Global, row: &Row) -> Result<(), Fail> {
         let run = SchemaRun {
-            name: row.name(),
             command: COMMAND,
             schema: row.text("schema"),
             second: row.text("object"),

@@ -1,6 +1,7 @@
 //! `--lines`: objects on the lines of an input.
+use crate::support::documents::BOUND_AND_DEFAULT;
 use crate::support::fakes::{FailingSink, FakeInputs};
-use crate::support::harness::{Output, definition, has_failed, is_answer, run_on, SchemaRunRow};
+use crate::support::harness::{Output, SchemaRunRow, definition, has_failed, is_answer, run_on};
 use crate::support::phrases::with_phrases;
 use crate::support::report::Report;
 use crate::support::rows::{Kind, Row, try_tables};
@@ -10,8 +11,6 @@ use std::test::Fail;
 
 // What the tables name.
 static NAMED: &str = r#"
-// An integer of 1 at least, and a text with a default.
-@SCHEMA | {"type":"object","properties":{"a":{"type":"integer","minimum":1},"b":{"type":"string","default":"x"}}}
 @FOUR_COMPLETED
     > {"a":1,"b":"x"}
     > {"a":0,"b":"x"}
@@ -28,71 +27,67 @@ static NAMED: &str = r#"
     > {"metadata":{},"b":"y"}
 "#;
 
-/// An integer of 1 at least, and a text with a default.
-const SCHEMA: &str =
-    r#"{"type":"object","properties":{"a":{"type":"integer","minimum":1},"b":{"type":"string","default":"x"}}}"#;
-
 // In these tables the second document has the lines.
 static ANSWERS: &str = r#"
 7 rows: name | command | schema | second | status
-faults behind their lines | crdx validate crd.json v1 object.json --lines | @SCHEMA | {"a":1}␊{"a":0}␊{"a":"t"}␊{"a":2,"c":3}␊ | 1
+faults behind their lines | crdx validate crd.json v1 object.json --lines | @BOUND_AND_DEFAULT | {"a":1}␊{"a":0}␊{"a":"t"}␊{"a":2,"c":3}␊ | 1
     > 2: F04 "/a"
     > 3: F01 "/a"
-members that are dropped too | crdx validate crd.json v1 --lines --strict | @SCHEMA | {"a":1}␊{"a":0}␊{"a":"t"}␊{"a":2,"c":3}␊ | 1
+members that are dropped too | crdx validate crd.json v1 --lines --strict | @BOUND_AND_DEFAULT | {"a":1}␊{"a":0}␊{"a":"t"}␊{"a":2,"c":3}␊ | 1
     > 2: F04 "/a"
     > 3: F01 "/a"
     > 4: F15 "/c"
-objects without what is pruned | crdx prune crd.json v1 object.json --lines | @SCHEMA | {"a":1}␊{"a":0}␊{"a":"t"}␊{"a":2,"c":3}␊ | 0
+objects without what is pruned | crdx prune crd.json v1 object.json --lines | @BOUND_AND_DEFAULT | {"a":1}␊{"a":0}␊{"a":"t"}␊{"a":2,"c":3}␊ | 0
     > {"a":1}
     > {"a":0}
     > {"a":"t"}
     > {"a":2}
-objects with their defaults | crdx default --lines crd.json v1 | @SCHEMA | {"a":1}␊{"a":0}␊{"a":"t"}␊{"a":2,"c":3}␊ | 0
+objects with their defaults | crdx default --lines crd.json v1 | @BOUND_AND_DEFAULT | {"a":1}␊{"a":0}␊{"a":"t"}␊{"a":2,"c":3}␊ | 0
     > @FOUR_COMPLETED
-leaves, and objects that are not stored | crdx leaves crd.json v1 object.json --lines | @SCHEMA | {"b":"y","a":1}␊{"a":1}␊{"a":0,"b":"x"}␊{"b":"z"}
+leaves, and objects that are not stored | crdx leaves crd.json v1 object.json --lines | @BOUND_AND_DEFAULT | {"b":"y","a":1}␊{"a":1}␊{"a":0,"b":"x"}␊{"b":"z"}
     | 1
     > @STORED_LEAVES
-objects that are not stored are not explained | crdx leaves crd.json v1 object.json --lines --why | @SCHEMA
+objects that are not stored are not explained | crdx leaves crd.json v1 object.json --lines --why | @BOUND_AND_DEFAULT
     | {"b":"y","a":1}␊{"a":1}␊{"a":0,"b":"x"}␊{"b":"z"} | 1
     > @STORED_LEAVES
-leaves of stored objects | crdx leaves crd.json v1 object.json --lines | @SCHEMA | {"b":""}␊{"b":"1"}␊ | 0
+leaves of stored objects | crdx leaves crd.json v1 object.json --lines | @BOUND_AND_DEFAULT | {"b":""}␊{"b":"1"}␊ | 0
     > 1: ["f:b"]
     > 2: ["f:b"]
 "#;
 
 static ENVELOPES_AND_FAULTS: &str = r#"
 6 rows: name | command | schema | second | status
-envelopes stay where objects are pruned | crdx prune crd.json v1 object.json --lines | @SCHEMA | @WITH_ENVELOPES | 0
+envelopes stay where objects are pruned | crdx prune crd.json v1 object.json --lines | @BOUND_AND_DEFAULT | @WITH_ENVELOPES | 0
     > {"a":1,"apiVersion":"g/v1","kind":"K","metadata":{"name":"n"}}
     > {"b":"y","metadata":{}}
-envelopes stay where defaults are put in | crdx default crd.json v1 object.json --lines | @SCHEMA | @WITH_ENVELOPES | 0
+envelopes stay where defaults are put in | crdx default crd.json v1 object.json --lines | @BOUND_AND_DEFAULT | @WITH_ENVELOPES | 0
     > {"a":1,"apiVersion":"g/v1","b":"x","kind":"K","metadata":{"name":"n"}}
     > {"b":"y","metadata":{}}
-envelopes are not judged | crdx validate crd.json v1 object.json --lines | @SCHEMA | @WITH_ENVELOPES | 0
-two faults of one object | crdx validate crd.json v1 object.json --lines | @SCHEMA | {}␊{"b":1,"a":0}␊ | 1
+envelopes are not judged | crdx validate crd.json v1 object.json --lines | @BOUND_AND_DEFAULT | @WITH_ENVELOPES | 0
+two faults of one object | crdx validate crd.json v1 object.json --lines | @BOUND_AND_DEFAULT | {}␊{"b":1,"a":0}␊ | 1
     > 2: F04 "/a"
     > 2: F01 "/b"
-a path with a line break | crdx validate crd.json v1 object.json --lines --strict | @SCHEMA | {"c\nd":1} | 1
+a path with a line break | crdx validate crd.json v1 object.json --lines --strict | @BOUND_AND_DEFAULT | {"c\nd":1} | 1
     > 1: F15 "/c\nd"
-valid objects | crdx validate crd.json v1 object.json --lines --strict | @SCHEMA | {}␊{"a":1}␊ | 0
+valid objects | crdx validate crd.json v1 object.json --lines --strict | @BOUND_AND_DEFAULT | {}␊{"a":1}␊ | 0
 "#;
 
 static LINES: &str = r#"
 7 rows: name | command | schema | second | status
-no lines | crdx validate crd.json v1 object.json --lines | @SCHEMA | - | 0
-no lines to prune | crdx prune crd.json v1 object.json --lines | @SCHEMA | - | 0
-the last line without its end | crdx validate crd.json v1 object.json --lines | @SCHEMA | {"a":1}␊{"a":0} | 1
+no lines | crdx validate crd.json v1 object.json --lines | @BOUND_AND_DEFAULT | - | 0
+no lines to prune | crdx prune crd.json v1 object.json --lines | @BOUND_AND_DEFAULT | - | 0
+the last line without its end | crdx validate crd.json v1 object.json --lines | @BOUND_AND_DEFAULT | {"a":1}␊{"a":0} | 1
     > 2: F04 "/a"
-spaces around objects | crdx prune crd.json v1 object.json --lines | @SCHEMA | ␠{"a" : 1 } ␍␊␉{} | 0
+spaces around objects | crdx prune crd.json v1 object.json --lines | @BOUND_AND_DEFAULT | ␠{"a" : 1 } ␍␊␉{} | 0
     > {"a":1}
     > {}
-an empty line | crdx validate crd.json v1 object.json --lines | @SCHEMA | {}␊{}␊␊{"a":0}␊ | 3
+an empty line | crdx validate crd.json v1 object.json --lines | @BOUND_AND_DEFAULT | {}␊{}␊␊{"a":0}␊ | 3
     > 3: J3
     > 4: F04 "/a"
-an object over two lines | crdx prune crd.json v1 object.json --lines | @SCHEMA | {} | 3
+an object over two lines | crdx prune crd.json v1 object.json --lines | @BOUND_AND_DEFAULT | {} | 3
     ! crdx: object: 1: J3
     ! crdx: object: 2: J3
-two objects on a line | crdx prune crd.json v1 object.json --lines | @SCHEMA | {}␊{} {}␊{"a":1}␊ | 3
+two objects on a line | crdx prune crd.json v1 object.json --lines | @BOUND_AND_DEFAULT | {}␊{} {}␊{"a":1}␊ | 3
     > {}
     > {"a":1}
     ! crdx: object: 2: J3
@@ -100,37 +95,37 @@ two objects on a line | crdx prune crd.json v1 object.json --lines | @SCHEMA | {
 
 static REFUSALS: &str = r#"
 9 rows: name | command | schema | second | status
-a number that is refused, after an object with a fault | crdx validate crd.json v1 object.json --lines | @SCHEMA | {"a":0}␊{"a":0.5}␊{"a":0}␊ | 3
+a number that is refused, after an object with a fault | crdx validate crd.json v1 object.json --lines | @BOUND_AND_DEFAULT | {"a":0}␊{"a":0.5}␊{"a":0}␊ | 3
     > 1: F04 "/a"
     > 2: J1
     > 3: F04 "/a"
-a number that is refused, among leaves | crdx leaves crd.json v1 object.json --lines | @SCHEMA | {"b":"y"}␊{"a":0.5}␊{"b":"z"}␊ | 3
+a number that is refused, among leaves | crdx leaves crd.json v1 object.json --lines | @BOUND_AND_DEFAULT | {"b":"y"}␊{"a":0.5}␊{"b":"z"}␊ | 3
     > 1: ["f:b"]
     > 2: J1
     > 3: ["f:b"]
-a number that is refused, among completed objects | crdx default crd.json v1 object.json --lines | @SCHEMA | {"a":1}␊{"a":0.5}␊{"a":2}␊ | 3
+a number that is refused, among completed objects | crdx default crd.json v1 object.json --lines | @BOUND_AND_DEFAULT | {"a":1}␊{"a":0.5}␊{"a":2}␊ | 3
     > {"a":1,"b":"x"}
     > {"a":2,"b":"x"}
     ! crdx: object: 2: J1
-why it is refused, among completed objects | crdx default crd.json v1 object.json --lines --why | @SCHEMA | {"a":0.5}␊{"a":1}␊ | 3
+why it is refused, among completed objects | crdx default crd.json v1 object.json --lines --why | @BOUND_AND_DEFAULT | {"a":0.5}␊{"a":1}␊ | 3
     > {"a":1,"b":"x"}
     ! crdx: object: 1: J1
     !     found 0.5 at "/a"; allowed are integers of 64 bits
-why it is refused | crdx validate crd.json v1 object.json --lines --why | @SCHEMA | {"a":0}␊{"a":0.5}␊{"a":0}␊ | 3
+why it is refused | crdx validate crd.json v1 object.json --lines --why | @BOUND_AND_DEFAULT | {"a":0}␊{"a":0.5}␊{"a":0}␊ | 3
     > 1: F04 "/a"
     > 2: J1
     > 3: F04 "/a"
     ! crdx: object: 2: J1
     !     found 0.5 at "/a"; allowed are integers of 64 bits
-an input that cannot be opened | crdx validate crd.json v1 missing.json --lines | @SCHEMA | {"a":1}␊{"a":0}␊{"a":"t"}␊{"a":2,"c":3}␊ | 4
+an input that cannot be opened | crdx validate crd.json v1 missing.json --lines | @BOUND_AND_DEFAULT | {"a":1}␊{"a":0}␊{"a":"t"}␊{"a":2,"c":3}␊ | 4
     ! crdx: object: read failed
-why it cannot be opened | crdx validate crd.json v1 missing.json --lines --why | @SCHEMA | {"a":1}␊{"a":0}␊{"a":"t"}␊{"a":2,"c":3}␊ | 4
+why it cannot be opened | crdx validate crd.json v1 missing.json --lines --why | @BOUND_AND_DEFAULT | {"a":1}␊{"a":0}␊{"a":"t"}␊{"a":2,"c":3}␊ | 4
     ! crdx: object: read failed
     !     "missing.json" is not there
 a schema that breaks a rule | crdx validate crd.json v1 object.json --lines | {"properties":{"a":{"type":"integer"}}}
     | {"a":1}␊{"a":0}␊{"a":"t"}␊{"a":2,"c":3}␊ | 1
     ! V01 ""
-values that are no objects | crdx validate crd.json v1 object.json --lines | @SCHEMA | 1␊null␊{}␊[]␊ | 1
+values that are no objects | crdx validate crd.json v1 object.json --lines | @BOUND_AND_DEFAULT | 1␊null␊{}␊[]␊ | 1
     > 1: F01 ""
     > 2: F02 ""
     > 4: F01 ""
@@ -138,7 +133,12 @@ values that are no objects | crdx validate crd.json v1 object.json --lines | @SC
 
 #[test]
 fn runs(rt: HostRuntime) -> Result<(), Fail> {
-    try_tables(&rt, rt.alloc(), &SchemaRunRow, &[NAMED, ANSWERS, ENVELOPES_AND_FAULTS, LINES, REFUSALS])
+    try_tables(
+        &rt,
+        rt.alloc(),
+        &SchemaRunRow,
+        &[NAMED, ANSWERS, ENVELOPES_AND_FAULTS, LINES, REFUSALS],
+    )
 }
 
 const VALIDATE: &str = "crdx validate crd.json v1 object.json --lines";
@@ -151,7 +151,7 @@ fn run_lines(
     left: usize,
     sink: FailingSink,
 ) -> Result<Output, AllocError> {
-    let crd = definition(alloc, SCHEMA)?;
+    let crd = definition(alloc, BOUND_AND_DEFAULT)?;
     let mut inputs = FakeInputs::new(alloc, crd.as_str(), lines);
     inputs.second_left = left;
     run_on(alloc, command, inputs, sink)
@@ -221,7 +221,7 @@ fn count_lines(text: &str) -> u64 {
 }
 
 static WHOLE: &str = r#"
-3 rows: name | command | lines | status
+3 rows: name | command | objects | status
 faults of lines | crdx validate crd.json v1 object.json --lines | {"a":0}␊{"a":1}␊{"a":2,"b":3} | 1
     > 1: F04 "/a"
     > 3: F01 "/b"
@@ -241,7 +241,13 @@ fn try_room(
     step: usize,
 ) -> Result<(), AllocError> {
     let sink = FailingSink::new(alloc, room, step, step == 1);
-    let output = run_lines(alloc, row.text("command"), row.text("lines"), usize::MAX, sink)?;
+    let output = run_lines(
+        alloc,
+        row.text("command"),
+        row.text("objects"),
+        usize::MAX,
+        sink,
+    )?;
     if room < out.len() {
         let out = beginning(out, room);
         return has_failed(report, alloc, &output, out, count_lines(out));
@@ -250,7 +256,7 @@ fn try_room(
     Ok(())
 }
 
-/// A run by `SCHEMA`, and what it writes and answers on a sink that does not fail.
+/// A run by `BOUND_AND_DEFAULT`, and what it writes and answers on a sink that does not fail.
 struct Lines;
 
 impl Kind for Lines {

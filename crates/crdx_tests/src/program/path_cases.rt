@@ -229,5 +229,17 @@ a list with room for 127 nodes | crdx sample crd.json v1 --pools pools.json --li
 
 #[test]
 fn paths(rt: HostRuntime) -> Result<(), Fail> {
-    try_tables(&rt, rt.alloc(), &SchemaRunRow, &[TRUTHS_AND_KEYS, ITEMS_AND_OPEN_PLACES, NULLS, ENUMS_AND_DEFAULTS, SEVERAL_FIELDS, NAMES_AND_BEGINNINGS])
+    try_tables(
+        &rt,
+        rt.alloc(),
+        &SchemaRunRow,
+        &[
+            TRUTHS_AND_KEYS,
+            ITEMS_AND_OPEN_PLACES,
+            NULLS,
+            ENUMS_AND_DEFAULTS,
+            SEVERAL_FIELDS,
+            NAMES_AND_BEGINNINGS,
+        ],
+    )
 }

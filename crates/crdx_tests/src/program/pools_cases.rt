@@ -1,6 +1,6 @@
 //! `pools`: a document to start with, with the values of objects, and around an object.
 use crate::support::fakes::{FailingSink, FakeInputs};
-use crate::support::harness::{Output, definition, is_answer, run_on, SchemaRunRow};
+use crate::support::harness::{Output, SchemaRunRow, definition, is_answer, run_on};
 use crate::support::report::Report;
 use crate::support::rows::try_tables;
 use crate::support::texts::padded;
@@ -85,7 +85,12 @@ a schema that breaks a rule, before an object is read | crdx pools crd.json v1 -
 
 #[test]
 fn pools_of_objects(rt: HostRuntime) -> Result<(), Fail> {
-    try_tables(&rt, rt.alloc(), &SchemaRunRow, &[NAMED, VALUES, VARIED, REFUSALS])
+    try_tables(
+        &rt,
+        rt.alloc(),
+        &SchemaRunRow,
+        &[NAMED, VALUES, VARIED, REFUSALS],
+    )
 }
 
 /// The pools for an object whose text has so many spaces.

@@ -1,5 +1,5 @@
 //! Junctors that ask which fields an object has: where they are allowed, and what objects meet them.
-use crate::support::harness::{CHECKED, VALIDATED, FieldRow};
+use crate::support::harness::{CHECKED, FieldRow, VALIDATED};
 use crate::support::rows::try_tables;
 use std::test::Fail;
 

@@ -170,5 +170,10 @@ junctors inside of each other | crdx sample crd.json v1 --pools pools.json --lim
 
 #[test]
 fn samples(rt: HostRuntime) -> Result<(), Fail> {
-    try_tables(&rt, rt.alloc(), &SchemaRunRow, &[JUNCTORS, PLACES, BOUNDS_AND_DEPTH])
+    try_tables(
+        &rt,
+        rt.alloc(),
+        &SchemaRunRow,
+        &[JUNCTORS, PLACES, BOUNDS_AND_DEPTH],
+    )
 }

@@ -171,5 +171,10 @@ past null above the field | crdx sample crd.json v1 --pools pools.json --limit 4
 
 #[test]
 fn present_paths(rt: HostRuntime) -> Result<(), Fail> {
-    try_tables(&rt, rt.alloc(), &SchemaRunRow, &[FIELDS, ITEMS, VALUES_AND_NULLS, NAMED_FIELDS, BEGINNINGS])
+    try_tables(
+        &rt,
+        rt.alloc(),
+        &SchemaRunRow,
+        &[FIELDS, ITEMS, VALUES_AND_NULLS, NAMED_FIELDS, BEGINNINGS],
+    )
 }

@@ -54,7 +54,6 @@ struct PrintedForms;
 impl Kind for PrintedForms {
     fn attempt(&self, report: &mut Report, alloc: Global, row: &Row) -> Result<(), Fail> {
         let prune = SchemaRun {
-            name: row.name(),
             command: "crdx prune crd.json v1",
             schema: row.text("schema"),
             second: row.text("object"),
@@ -74,5 +73,10 @@ impl Kind for PrintedForms {
 
 #[test]
 fn printed(rt: HostRuntime) -> Result<(), Fail> {
-    try_tables(&rt, rt.alloc(), &PrintedForms, &[NULLS_AND_DEFAULTS, OTHER_OBJECTS])
+    try_tables(
+        &rt,
+        rt.alloc(),
+        &PrintedForms,
+        &[NULLS_AND_DEFAULTS, OTHER_OBJECTS],
+    )
 }

@@ -1,7 +1,7 @@
 //! `explain`, `validate`, `prune`, `default` and `leaves`: what is said of inputs that are refused, and which of them is judged first.
-use crate::program::help_cases::all_helped;
+use crate::program::help_cases::HelpRow;
 use crate::support::documents::WIDGET;
-use crate::support::harness::{Run, try_run, RunRow};
+use crate::support::harness::{Run, RunRow, try_run};
 use crate::support::report::Report;
 use crate::support::rows::{Kind, Row, try_tables};
 use crate::support::texts::padded;
@@ -68,7 +68,12 @@ a bad default of a definition that is sampled | crdx sample crd.json v1 | @BAD_D
 
 #[test]
 fn inputs(rt: HostRuntime) -> Result<(), Fail> {
-    try_tables(&rt, rt.alloc(), &RunRow, &[NAMED, OBJECTS, DEFINITIONS, LEAVES_AND_FIELDS])
+    try_tables(
+        &rt,
+        rt.alloc(),
+        &RunRow,
+        &[NAMED, OBJECTS, DEFINITIONS, LEAVES_AND_FIELDS],
+    )
 }
 
 // What is wanted: a line of the help.
@@ -80,9 +85,7 @@ help beside an object that does not exist | crdx prune crd.json v1 nowhere.json 
 
 #[test]
 fn help(rt: HostRuntime) -> Result<(), Fail> {
-    let mut report = Report::new(rt.alloc());
-    all_helped(&mut report, rt.alloc(), &HELP);
-    report.end(&rt)
+    try_tables(&rt, rt.alloc(), &HelpRow, &[HELP])
 }
 
 static LONG: &str = r#"
@@ -99,7 +102,6 @@ impl Kind for LongObject {
     fn attempt(&self, report: &mut Report, alloc: Global, row: &Row) -> Result<(), Fail> {
         let object = padded(alloc, "{}", row.count("spaces"))?;
         let run = Run {
-            name: row.name(),
             command: "crdx prune crd.json v1",
             crd: WIDGET,
             second: object.as_str(),

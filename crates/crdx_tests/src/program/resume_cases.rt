@@ -55,12 +55,7 @@ fn run_walk(alloc: Global, command: &str, sink: FailingSink) -> Result<Output, A
 }
 
 /// The sink takes so many bytes and then fails: the whole lines are counted.
-fn stops(
-    report: &mut Report,
-    alloc: Global,
-    walk: &Row,
-    room: usize,
-) -> Result<(), AllocError> {
+fn stops(report: &mut Report, alloc: Global, walk: &Row, room: usize) -> Result<(), AllocError> {
     let option = walk.text("option");
     let command = format!(in alloc; "{COMMAND} 10{option}")?;
     let sink = FailingSink::new(alloc, room, usize::MAX, false);
@@ -82,12 +77,7 @@ fn command_after(
     }
 }
 
-fn goes_on(
-    report: &mut Report,
-    alloc: Global,
-    walk: &Row,
-    lines: usize,
-) -> Result<(), AllocError> {
+fn goes_on(report: &mut Report, alloc: Global, walk: &Row, lines: usize) -> Result<(), AllocError> {
     let out = beginning(walk.out(), end_of(walk.text("ends"), lines));
     let left = 10usize.saturating_sub(lines);
     let command = command_after(alloc, out, left, walk.text("option"))?;

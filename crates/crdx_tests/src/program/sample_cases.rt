@@ -1,9 +1,9 @@
 //! `sample`: what is listed.
 use crate::support::given::TWO_KEYED_LISTS;
-use crate::support::harness::{SchemaRun, try_schema_run, RunRow};
+use crate::support::harness::{RunRow, SchemaRun, try_schema_run};
 use crate::support::pages::plain_lines;
 use crate::support::report::Report;
-use crate::support::rows::{Row, try_tables};
+use crate::support::rows::{Kind, Row, try_tables};
 use std::alloc::Global;
 use std::test::Fail;
 
@@ -146,53 +146,46 @@ a required set of more items than values
     | {"integers":[0,1,2,3,4,5,6,7,8,9,10,11,12,13,14,15,16,17,18,19]} | -
 "#;
 
-fn try_whole(
-    report: &mut Report,
-    alloc: Global,
-    command: &'a str,
-    row: &Row<'a>,
-) -> Result<(), Fail> {
+/// Pools over which the samples of a schema end.
+struct WholeList;
+
+impl Kind for WholeList {
+    fn attempt(&self, report: &mut Report, alloc: Global, row: &Row) -> Result<(), Fail> {
+        let run = SchemaRun {
+            command: "crdx sample crd.json v1 --pools pools.json --limit 63",
+            schema: row.text("schema"),
+            second: row.text("pools"),
+            out: row.out(),
+            err: "crdx: end\n",
+            status: 0,
+        };
+        try_schema_run(report, alloc, &run)
+    }
+}
+
+#[test]
+fn whole_lists(rt: HostRuntime) -> Result<(), Fail> {
+    try_tables(&rt, rt.alloc(), &WholeList, &[WHOLE])
+}
+
+fn try_74_samples(report: &mut Report, alloc: Global) -> Result<(), Fail> {
+    let lines = plain_lines(alloc, TWO_KEYED_LISTS)?;
     let run = SchemaRun {
-        name: row.name(),
-        command,
-        schema: row.text("schema"),
-        second: row.text("pools"),
-        out: row.out(),
+        command: "crdx sample crd.json v1 --pools pools.json --limit 9",
+        schema: TWO_KEYED_LISTS.schema,
+        second: TWO_KEYED_LISTS.pools,
+        out: lines.as_str(),
         err: "crdx: end\n",
         status: 0,
     };
     try_schema_run(report, alloc, &run)
 }
 
-#[test]
-fn whole_lists(rt: HostRuntime) -> Result<(), Fail> {
-    let mut report = Report::new(rt.alloc());
-    let command = "crdx sample crd.json v1 --pools pools.json --limit 63";
-    for row in &WHOLE {
-        let ended = try_whole(&mut report, rt.alloc(), command, row);
-        report.row(row.name, ended);
-    }
-    report.end(&rt)
-}
-
-fn try_74_samples(report: &mut Report, alloc: Global, name: &str) -> Result<(), Fail> {
-    let lines = plain_lines(alloc, TWO_KEYED_LISTS)?;
-    let command = "crdx sample crd.json v1 --pools pools.json --limit 9";
-    let row = WholeList {
-        name,
-        schema: TWO_KEYED_LISTS.schema,
-        pools: TWO_KEYED_LISTS.pools,
-        out: lines.as_str(),
-    };
-    try_whole(report, alloc, command, &row)
-}
-
 // More samples than the program asks for at once.
 #[test]
 fn more_than_a_page(rt: HostRuntime) -> Result<(), Fail> {
     let mut report = Report::new(rt.alloc());
-    let name = "74 samples";
-    let ended = try_74_samples(&mut report, rt.alloc(), name);
-    report.row(name, ended);
+    let ended = try_74_samples(&mut report, rt.alloc());
+    report.row("74 samples", ended);
     report.end(&rt)
 }

@@ -152,7 +152,14 @@ fn kinds(rt: HostRuntime) -> Result<(), Fail> {
 
 #[test]
 fn strict(rt: HostRuntime) -> Result<(), Fail> {
-    try_tables(&rt, rt.alloc(), &ValidatedRow { command: "crdx validate --strict crd.json v1" }, &[NAMED, STRICT])
+    try_tables(
+        &rt,
+        rt.alloc(),
+        &ValidatedRow {
+            command: "crdx validate --strict crd.json v1",
+        },
+        &[NAMED, STRICT],
+    )
 }
 
 #[test]

@@ -40,5 +40,12 @@ a keyword with a quote | {"type":"object","properties":{"a":{"type":"string","x\
 
 #[test]
 fn reasons(rt: HostRuntime) -> Result<(), Fail> {
-    try_tables(&rt, rt.alloc(), &CheckedRow { command: "crdx check crd.json v1 --why" }, &[JUDGED])
+    try_tables(
+        &rt,
+        rt.alloc(),
+        &CheckedRow {
+            command: "crdx check crd.json v1 --why",
+        },
+        &[JUDGED],
+    )
 }

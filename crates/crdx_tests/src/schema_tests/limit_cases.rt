@@ -35,7 +35,13 @@ struct Long;
 
 impl Kind for Long {
     fn attempt(&self, report: &mut Report, alloc: Global, row: &Row) -> Result<(), Fail> {
-        let schema = repeated(alloc, row.text("head"), row.text("entry"), row.count("count"), row.text("tail"))?;
+        let schema = repeated(
+            alloc,
+            row.text("head"),
+            row.text("entry"),
+            row.count("count"),
+            row.text("tail"),
+        )?;
         try_schema(report, alloc, schema.as_str(), row.text("wanted"))
     }
 }

@@ -1,5 +1,5 @@
 //! Definitions that are read or refused, and the forms of the keywords of their schemas.
-use crate::support::harness::{is_said, read, SchemaSaidRow};
+use crate::support::harness::{SchemaSaidRow, is_said, read};
 use crate::support::report::Report;
 use crate::support::rows::{Kind, Row, try_tables};
 use schema::Crd;
@@ -144,5 +144,10 @@ an entry of required, below values | {"additionalProperties":{"additionalPropert
 
 #[test]
 fn forms(rt: HostRuntime) -> Result<(), Fail> {
-    try_tables(&rt, rt.alloc(), &SchemaSaidRow, &[FORMS, TEXTS, SCHEMAS, NUMBERS, FIRST_BREAKS])
+    try_tables(
+        &rt,
+        rt.alloc(),
+        &SchemaSaidRow,
+        &[FORMS, TEXTS, SCHEMAS, NUMBERS, FIRST_BREAKS],
+    )
 }

@@ -190,7 +190,12 @@ impl Kind for ReasonRow {
         let found = said(alloc, row.text("schema"));
         is_said(report, "the reasons", found, row.out())?;
         let found = said_with_defaults(alloc, row.text("schema"));
-        is_said(report, "the reasons beside those of defaults", found, row.out())
+        is_said(
+            report,
+            "the reasons beside those of defaults",
+            found,
+            row.out(),
+        )
     }
 }
 

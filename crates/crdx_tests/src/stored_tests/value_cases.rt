@@ -123,6 +123,7 @@ fn try_lists(
 }
 
 /// The schema of a field `x`, values of it that are good, and others.
+#[derive(Drop)]
 struct FieldValues {
     good: Good,
 }
@@ -140,7 +141,12 @@ fn values(rt: HostRuntime) -> Result<(), Fail> {
     let valid = FieldValues { good: Good::Valid };
     let stored = FieldValues { good: Good::Stored };
     let mut report = Report::new(rt.alloc());
-    all_rows(&mut report, rt.alloc(), &valid, &[SCALARS, LISTS_AND_OBJECTS]);
+    all_rows(
+        &mut report,
+        rt.alloc(),
+        &valid,
+        &[SCALARS, LISTS_AND_OBJECTS],
+    );
     all_rows(&mut report, rt.alloc(), &stored, &[STORED]);
     report.end(&rt)
 }

@@ -106,7 +106,13 @@ struct SuggestedRow;
 impl Kind for SuggestedRow {
     fn attempt(&self, report: &mut Report, alloc: Global, row: &Row) -> Result<(), Fail> {
         let document = suggested_for(alloc, row.text("field"))?;
-        is_tree(report, alloc, "the document", &document, row.text("document"))
+        is_tree(
+            report,
+            alloc,
+            "the document",
+            &document,
+            row.text("document"),
+        )
     }
 }
 
@@ -135,7 +141,13 @@ struct FromObjects;
 
 impl Kind for FromObjects {
     fn attempt(&self, report: &mut Report, alloc: Global, row: &Row) -> Result<(), Fail> {
-        let document = suggested(alloc, KINDS, row.text("objects"), ("", ""), PoolLimits::STANDARD)??;
+        let document = suggested(
+            alloc,
+            KINDS,
+            row.text("objects"),
+            ("", ""),
+            PoolLimits::STANDARD,
+        )??;
         has_member(report, alloc, &document, "paths", row.text("paths"))?;
         has_member(report, alloc, &document, "names", row.text("names"))
     }

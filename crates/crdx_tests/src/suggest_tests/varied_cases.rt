@@ -78,7 +78,13 @@ struct VariedRow;
 impl Kind for VariedRow {
     fn attempt(&self, report: &mut Report, alloc: Global, row: &Row) -> Result<(), Fail> {
         let asked = (row.text("varied"), row.text("without"));
-        let document = suggested(alloc, NESTED, row.text("objects"), asked, PoolLimits::STANDARD)??;
+        let document = suggested(
+            alloc,
+            NESTED,
+            row.text("objects"),
+            asked,
+            PoolLimits::STANDARD,
+        )??;
         has_member(report, alloc, &document, "fixed", row.text("fixed"))?;
         has_member(report, alloc, &document, "present", row.text("present"))?;
         has_member(report, alloc, &document, "paths", row.text("paths"))
@@ -125,7 +131,13 @@ struct Refused;
 impl Kind for Refused {
     fn attempt(&self, report: &mut Report, alloc: Global, row: &Row) -> Result<(), Fail> {
         let asked = (row.text("varied"), row.text("without"));
-        let document = suggested(alloc, NESTED, row.text("objects"), asked, PoolLimits::STANDARD)?;
+        let document = suggested(
+            alloc,
+            NESTED,
+            row.text("objects"),
+            asked,
+            PoolLimits::STANDARD,
+        )?;
         is_answer(report, alloc, &document, row)
     }
 }

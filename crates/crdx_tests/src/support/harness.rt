@@ -267,6 +267,7 @@ impl Kind for SchemaSaidRow {
 }
 
 /// A schema, and what `check` writes: `structural` with the status 0, or the lines of all that is broken with the status 1.
+#[derive(Drop)]
 pub struct CheckedRow {
     pub command: &'static str,
 }
@@ -311,6 +312,7 @@ impl Kind for FieldRow {
 }
 
 /// An object by a schema, and what `validate` writes: `valid` with the status 0, or the lines of all faults with the status 1.
+#[derive(Drop)]
 pub struct ValidatedRow {
     pub command: &'static str,
 }

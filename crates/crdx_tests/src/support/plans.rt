@@ -7,7 +7,6 @@ ghost use Rattle.plan.specs.declared.sort.Sort.TheVariants as sort;
 use crate::support::report::Report;
 use plan::{Meter, Plan, PlanNode, SizeSet, Sort};
 use std::alloc::Global;
-use std::fmt::Write;
 use std::test::Fail;
 
 /// A place in a short table.
@@ -45,17 +44,31 @@ pub fn are_sizes<S: SizeSet>(
     alloc: Global,
     what: &str,
     set: S,
-    wanted: &str,
+    wanted: &[u32],
 ) -> Result<(), Fail> {
-    let mut sizes = String::new(alloc);
+    let mut sizes = Vec::new(alloc);
     for n in 0..S::BITS {
         if set.has(n) {
-            let space = if sizes.is_empty() { "" } else { " " };
-            write!(sizes, "{space}{n}")?;
+            sizes.push(n)?;
         }
     }
-    report.is_text(what, sizes.as_str(), wanted);
+    report.is_value(what, &sizes.as_slice(), &wanted);
     Ok(())
+}
+
+/// As `are_sizes`, of a text with the numbers.
+pub fn are_sizes_of<S: SizeSet>(
+    report: &mut Report,
+    alloc: Global,
+    what: &str,
+    set: S,
+    wanted: &str,
+) -> Result<(), Fail> {
+    let mut sizes = Vec::new(alloc);
+    for size in wanted.split_whitespace() {
+        sizes.push(size.parse::<u32>()?)?;
+    }
+    are_sizes(report, alloc, what, set, sizes.as_slice())
 }
 
 /// The sizes that the slots of a row from a place on can take; none where there is no such place.

@@ -66,6 +66,7 @@ pub fn outcome(alloc: Global, document: &str, limits: PoolLimits) -> Result<Stri
 }
 
 /// A document, and how many entries there are in each pool, or the fault.
+#[derive(Drop)]
 pub struct DocumentRow {
     pub limits: PoolLimits,
 }

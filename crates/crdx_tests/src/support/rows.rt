@@ -372,12 +372,13 @@ pub trait Kind {
 }
 
 fn try_row<K: Kind>(report: &mut Report, alloc: Global, kind: &K, row: &Row) {
-    let ended = kind.attempt(report, alloc, row);
-    if row.is_misread.get() {
-        report.row(row.name(), Err(Fail::from("a cell has another form, or is not there")));
-    } else {
-        report.row(row.name(), ended);
-    }
+    let ended = match kind.attempt(report, alloc, row) {
+        Ok(()) if row.is_misread.get() => {
+            Err(Fail::from("a cell has another form, or is not there"))
+        }
+        ended => ended,
+    };
+    report.row(row.name(), ended);
 }
 
 /// Tries each row of these tables.
