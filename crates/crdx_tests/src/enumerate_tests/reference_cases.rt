@@ -38,8 +38,9 @@ a map list | @MAP_LIST | {"strings":["a","b"],"integers":[0]} | 8
     > {"m":[{"k":"b","v":0},{"k":"a"}]}
     > {"m":[{"k":"a","v":0},{"k":"b","v":0}]}
     > {"m":[{"k":"b","v":0},{"k":"a","v":0}]}
-a map list by two keys | {"type":"object","properties":{"m":{"type":"array","x-kubernetes-list-type":"map","x-kubernetes-list-map-keys":["host",
-    "port"],"items":{"type":"object","properties":{"host":{"type":"string"},"port":{"type":"integer"}},"required":["host","port"]}}}}
+a map list by two keys
+    | {"type":"object","properties":{"m":{"type":"array","x-kubernetes-list-type":"map","x-kubernetes-list-map-keys":["host","port"],
+    "items":{"type":"object","properties":{"host":{"type":"string"},"port":{"type":"integer"}},"required":["host","port"]}}}}
     | {"strings":["x"],"integers":[0,1]} | 8
     > {}
     > {"m":[]}

@@ -187,15 +187,19 @@ objects | {"type":"object","properties":{"a":{"type":"boolean"},"b":{"type":"boo
 objects or null | {"type":"object","nullable":true,"properties":{"a":{"type":"boolean"},"b":{"type":"integer"}}} | /a | /a
 objects with a required field and a default
     | {"type":"object","nullable":true,"required":["a"],"properties":{"a":{"type":"boolean"},"f":{"type":"integer","default":7}}} | /f | /a
-objects with at most one of two fields | {"type":"object","maxProperties":1,"properties":{"a":{"type":"boolean"},"b":{"type":"object","nullable":true,
+objects with at most one of two fields
+    | {"type":"object","maxProperties":1,"properties":{"a":{"type":"boolean"},"b":{"type":"object","nullable":true,
     "properties":{"c":{"type":"boolean"}}}}} | /b | /b/c
-objects with one of two fields | {"type":"object","nullable":true,"oneOf":[{"required":["a"]},{"required":["b"]}],
+objects with one of two fields
+    | {"type":"object","nullable":true,"oneOf":[{"required":["a"]},{"required":["b"]}],
     "properties":{"a":{"type":"boolean"},"b":{"type":"object"},"c":{"type":"object"}}} | /c | /b
 maps or null | {"type":"object","nullable":true,"additionalProperties":{"type":"boolean","nullable":true}} | /{} | /{}
 maps of lists | {"type":"object","maxProperties":1,"additionalProperties":{"type":"array","nullable":true,"items":{"type":"boolean"}}} | /{}/[] | /{}
 lists or null | {"type":"array","nullable":true,"items":{"type":"object","nullable":true,"properties":{"a":{"type":"boolean"}}}} | /[] | /[]/a
-map lists | {"type":"array","maxItems":2,"x-kubernetes-list-type":"map","x-kubernetes-list-map-keys":["k"],"items":{"type":"object","required":["k"],
-    "properties":{"k":{"type":"boolean"},"v":{"type":"boolean"}}}} | /[] | /[]/v
+map lists
+    | {"type":"array","maxItems":2,"x-kubernetes-list-type":"map","x-kubernetes-list-map-keys":["k"],
+    "items":{"type":"object","required":["k"],"properties":{"k":{"type":"boolean"},"v":{"type":"boolean"}}}}
+    | /[] | /[]/v
 "#;
 
 /// The path of the node that is held, what is below it, or both are asked for.

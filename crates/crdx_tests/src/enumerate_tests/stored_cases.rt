@@ -48,19 +48,22 @@ static LISTS_AND_JUNCTORS: &str = r#"
 numbers of items | {"type":"array","minItems":1,"maxItems":2,"items":{"type":"integer"}} | [[1],[1,1]] | [[],[1,2,3],["1"],[null]]
 sets | {"type":"array","x-kubernetes-list-type":"set","items":{"x-kubernetes-int-or-string":true}} | [[],[1,2],[2,1],[1,"1"]]
     | [[1,1],[1,2,1],["1",1,"1"]]
-map lists by two keys | {"type":"array","x-kubernetes-list-type":"map","x-kubernetes-list-map-keys":["h","p"],"items":{"type":"object",
-    "required":["h","p"],"properties":{"h":{"type":"string"},"p":{"type":"integer"},"v":{"type":"integer"}}}}
+map lists by two keys
+    | {"type":"array","x-kubernetes-list-type":"map","x-kubernetes-list-map-keys":["h","p"],
+    "items":{"type":"object","required":["h","p"],"properties":{"h":{"type":"string"},"p":{"type":"integer"},"v":{"type":"integer"}}}}
     | [[],[{"h":"a","p":0},{"h":"a","p":1}],[{"h":"a","p":0},{"h":"b","p":0,"v":1}]]
     | [[{"h":"a","p":0},{"h":"a","p":0,"v":1}],[{"h":"a","p":0},{"h":"b","p":0},{"h":"a","p":0}],[{"h":"a"}],[1]]
 junctors of integers | {"type":"integer","allOf":[{"minimum":1},{"maximum":9}],"anyOf":[{"maximum":3},{"minimum":7}],"not":{"enum":[2]}} | [1,3,7,9]
     | [0,2,4,6,10]
 exactly one branch, and branches in branches
     | {"type":"integer","oneOf":[{"minimum":1},{"maximum":3}],"allOf":[{"anyOf":[{"not":{"minimum":5}},{"enum":[7]}]}]} | [0,4,7] | [1,2,3,5,6,8]
-one of two fields | {"type":"object","oneOf":[{"required":["a"]},{"required":["b"]}],"properties":{"a":{"type":"boolean","nullable":true},
-    "b":{"type":"boolean"},"c":{"type":"boolean"}}} | [{"a":true},{"a":null},{"b":true,"c":true}]
+one of two fields
+    | {"type":"object","oneOf":[{"required":["a"]},{"required":["b"]}],"properties":{"a":{"type":"boolean","nullable":true},"b":{"type":"boolean"},
+    "c":{"type":"boolean"}}} | [{"a":true},{"a":null},{"b":true,"c":true}]
     | [{},{"c":true},{"a":true,"b":true},{"a":null,"b":true,"c":true}]
-fields that are not both there, and one of which is | {"type":"object","not":{"required":["a","b"]},"anyOf":[{"required":["b"]},
-    {"allOf":[{"required":["c"]}]}],"properties":{"a":{"type":"boolean"},"b":{"type":"boolean"},"c":{"type":"boolean"}}}
+fields that are not both there, and one of which is
+    | {"type":"object","not":{"required":["a","b"]},"anyOf":[{"required":["b"]},{"allOf":[{"required":["c"]}]}],
+    "properties":{"a":{"type":"boolean"},"b":{"type":"boolean"},"c":{"type":"boolean"}}}
     | [{"b":true},{"c":true},{"a":true,"c":true},{"b":true,"c":true}] | [{},{"a":true},{"a":true,"b":true},{"a":true,"b":true,"c":true}]
 "#;
 

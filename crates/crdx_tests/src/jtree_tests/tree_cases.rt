@@ -23,8 +23,8 @@ fn try_bytes(report: &mut Report, alloc: Global, bytes: &[u8], wanted: &str) -> 
 // What the tables name.
 static NAMED: &str = r#"
 @CONTROL_CHARACTERS
-    | "\u0000\u0001\u0002\u0003\u0004\u0005\u0006\u0007\b\t\n\u000b\f\r\u000e\u000f
-    + \u0010\u0011\u0012\u0013\u0014\u0015\u0016\u0017\u0018\u0019\u001a\u001b\u001c\u001d\u001e\u001f"
+    | "\u0000\u0001\u0002\u0003\u0004\u0005\u0006\u0007\b\t\n\u000b\f\r\u000e\u000f\u0010\u0011\u0012\u0013\u0014\u0015\u0016\u0017\u0018\u0019
+    \u001a\u001b\u001c\u001d\u001e\u001f"
 "#;
 
 static DOCUMENTS: &str = r#"

@@ -68,9 +68,10 @@ struct Slot<'a> {
 
 static SLOTS: &str = r#"
 4 rows: name | schema | pools | limit | at | names_fields
-an item of a map list with three keys | {"type":"object","properties":{"m":{"type":"array","x-kubernetes-list-type":"map",
-    "x-kubernetes-list-map-keys":["d","a","c"],"items":{"type":"object","properties":{"a":{"type":"integer"},"b":{"type":"string"},
-    "c":{"type":"boolean"},"d":{"type":"string"}},"required":["a","c","d"]}}}} | {"strings":["a","b"],"integers":[0]} | 8 | item | no
+an item of a map list with three keys
+    | {"type":"object","properties":{"m":{"type":"array","x-kubernetes-list-type":"map","x-kubernetes-list-map-keys":["d","a","c"],
+    "items":{"type":"object","properties":{"a":{"type":"integer"},"b":{"type":"string"},"c":{"type":"boolean"},"d":{"type":"string"}},
+    "required":["a","c","d"]}}}} | {"strings":["a","b"],"integers":[0]} | 8 | item | no
     > Slot { name: "a", must: true, key: true, bit: None, later: 4 }
     > Slot { name: "b", must: false, key: false, bit: None, later: 4 }
     > Slot { name: "c", must: true, key: true, bit: None, later: 2 }
@@ -80,9 +81,10 @@ a field with a default | @DEFAULTED | {"integers":[0,7]} | 3 | first | no
 a map over names with a repeat | @LABELS | {"names":["k","j","k"],"strings":["x"]} | 4 | first | no
     > Slot { name: "j", must: false, key: false, bit: None, later: 1 }
     > Slot { name: "k", must: false, key: false, bit: None, later: 1 }
-an object whose junctors name four fields | {"type":"object","properties":{"o":{"type":"object","not":{"required":["z","b","a0"]},
-    "anyOf":[{"required":["b"]},{"not":{"required":["a"]}}],"properties":{"a":{"type":"boolean"},"a0":{"type":"boolean"},"b":{"type":"boolean"},
-    "c":{"type":"boolean"},"z":{"type":"boolean"}}}}} | {} | 8 | first | yes
+an object whose junctors name four fields
+    | {"type":"object","properties":{"o":{"type":"object","not":{"required":["z","b","a0"]},"anyOf":[{"required":["b"]},{"not":{"required":["a"]}}],
+    "properties":{"a":{"type":"boolean"},"a0":{"type":"boolean"},"b":{"type":"boolean"},"c":{"type":"boolean"},"z":{"type":"boolean"}}}}}
+    | {} | 8 | first | yes
     > Slot { name: "a", must: false, key: false, bit: Some(0), later: 1 }
     > Slot { name: "a0", must: false, key: false, bit: Some(1), later: 1 }
     > Slot { name: "b", must: false, key: false, bit: Some(2), later: 1 }

@@ -10,10 +10,12 @@ use std::test::Fail;
 // What the tables name.
 static NAMED: &str = r#"
 // Four optional truth values, of which one or two are there, and where any number of them may be there.
-@ONE_OR_TWO | {"type":"object","properties":{"o":{"type":"object","minProperties":1,"maxProperties":2,"properties":{"a":{"type":"boolean"},
-    "b":{"type":"boolean"},"c":{"type":"boolean"},"d":{"type":"boolean"}}}}}
-@ANY_NUMBER | {"type":"object","properties":{"o":{"type":"object","maxProperties":9223372036854775807,"properties":{"a":{"type":"boolean"},
-    "b":{"type":"boolean"},"c":{"type":"boolean"},"d":{"type":"boolean"}}}}}
+@ONE_OR_TWO
+    | {"type":"object","properties":{"o":{"type":"object","minProperties":1,"maxProperties":2,
+    "properties":{"a":{"type":"boolean"},"b":{"type":"boolean"},"c":{"type":"boolean"},"d":{"type":"boolean"}}}}}
+@ANY_NUMBER
+    | {"type":"object","properties":{"o":{"type":"object","maxProperties":9223372036854775807,
+    "properties":{"a":{"type":"boolean"},"b":{"type":"boolean"},"c":{"type":"boolean"},"d":{"type":"boolean"}}}}}
 "#;
 
 static SIZES: &str = r#"

@@ -15,7 +15,8 @@ use std::test::Fail;
 
 // What the tables name.
 static NAMED: &str = r#"
-@SOUND | {"apiVersion":"apiextensions.k8s.io/v1","kind":"CustomResourceDefinition","spec":{"group":"example.com","names":{"kind":"Widget"},
+@SOUND
+    | {"apiVersion":"apiextensions.k8s.io/v1","kind":"CustomResourceDefinition","spec":{"group":"example.com","names":{"kind":"Widget"},
     "versions":[{"name":"v1","schema":{"openAPIV3Schema":{"type":"object"}}}]}}
 "#;
 
@@ -31,18 +32,20 @@ a check of what breaks rules | crdx check crd.json v1 | @BROKEN | 1
     > @BROKEN_LINES
 a check of what breaks none | crdx check crd.json v1 | @SOUND | 0
     > structural
-an object with two faults, on the standard input | crdx validate crd.json v1 | {"apiVersion":"apiextensions.k8s.io/v1",
-    "kind":"CustomResourceDefinition","spec":{"group":"example.com","names":{"kind":"Widget"},"versions":[{"name":"v1",
-    "schema":{"openAPIV3Schema":{"type":"object","properties":{"integers":{"type":"array","items":{"type":"string"}}}}}}]}} | 1
+an object with two faults, on the standard input | crdx validate crd.json v1
+    | {"apiVersion":"apiextensions.k8s.io/v1","kind":"CustomResourceDefinition","spec":{"group":"example.com","names":{"kind":"Widget"},
+    "versions":[{"name":"v1","schema":{"openAPIV3Schema":{"type":"object","properties":{"integers":{"type":"array","items":{"type":"string"}}}}}}]}}
+    | 1
     > F01 "/integers/0"
     > F01 "/integers/1"
 all fields | crdx explain crd.json v1 | @WIDGET | 0
     > "/spec" <Object>
     > "/spec/a" <integer>
     > "/spec/b" <boolean>
-the leaves of an object | crdx leaves crd.json v1 object.json | {"apiVersion":"apiextensions.k8s.io/v1","kind":"CustomResourceDefinition",
-    "spec":{"group":"example.com","names":{"kind":"Widget"},"versions":[{"name":"v1","schema":{"openAPIV3Schema":{"type":"object",
-    "properties":{"integers":{"type":"array","items":{"type":"integer"}}}}}}]}} | 0
+the leaves of an object | crdx leaves crd.json v1 object.json
+    | {"apiVersion":"apiextensions.k8s.io/v1","kind":"CustomResourceDefinition","spec":{"group":"example.com","names":{"kind":"Widget"},
+    "versions":[{"name":"v1","schema":{"openAPIV3Schema":{"type":"object","properties":{"integers":{"type":"array","items":{"type":"integer"}}}}}}]}}
+    | 0
     > ["f:integers"]
 an object without what is pruned | crdx prune crd.json v1 object.json | @SOUND | 0
     > {}

@@ -10,23 +10,27 @@ metadata below the root
     | {"type":"object","properties":{"spec":{"type":"object","properties":{"metadata":{"type":"object","properties":{"labels":{"type":"object"}}}}}}}
     | structural
 metadata alone | {"type":"object","properties":{"metadata":{"type":"object"}}} | structural
-keywords without effect, and the envelope | {"type":"object","title":"","properties":{"apiVersion":{"type":"string"},"kind":{"type":"array",
-    "items":{"type":"integer"}},"metadata":{"type":"object","description":"","properties":{"name":{"type":"string","minLength":1}}},
+keywords without effect, and the envelope
+    | {"type":"object","title":"","properties":{"apiVersion":{"type":"string"},"kind":{"type":"array","items":{"type":"integer"}},
+    "metadata":{"type":"object","description":"","properties":{"name":{"type":"string","minLength":1}}},
     "spec":{"type":"object","description":"","format":"","example":[1],"externalDocs":{"url":""},"uniqueItems":false,
     "properties":{"kind":{"type":"integer","format":"int32","title":"x"}}}}} | structural
 a text | {"type":"object","properties":{"a":{"type":"string"}}} | structural
 the int-or-string pattern | {"type":"object","properties":{"x":{"x-kubernetes-int-or-string":true,"anyOf":[{"type":"integer"},{"type":"string"}]}}}
     | structural
-the int-or-string pattern in allOf | {"type":"object","properties":{"x":{"x-kubernetes-int-or-string":true,"allOf":[{"anyOf":[{"type":"integer"},
-    {"type":"string"}]},{"minimum":1}]}}} | structural
+the int-or-string pattern in allOf
+    | {"type":"object","properties":{"x":{"x-kubernetes-int-or-string":true,"allOf":[{"anyOf":[{"type":"integer"},{"type":"string"}]},{"minimum":1}]}}}
+    | structural
 a field named as one of the envelope | {"type":"object","properties":{"spec":{"type":"object","properties":{"kind":{"type":"string"}}}}} | structural
 nullable | {"type":"object","properties":{"a":{"type":"integer","nullable":false}}} | structural
 junctors of a test | @ONE_BOUND | structural
-a set, a map list and a map | {"type":"object","properties":{"labels":{"type":"object","additionalProperties":{"type":"string"},
-    "x-kubernetes-map-type":"atomic"},"m":{"type":"array","x-kubernetes-list-type":"map","x-kubernetes-list-map-keys":["host","port"],
-    "items":{"type":"object","required":["host","port"],"properties":{"host":{"type":"string"},"port":{"type":"integer"}}}},"s":{"type":"array",
-    "x-kubernetes-list-type":"set","items":{"type":"integer"}}}} | structural
-fields that are not declared | {"type":"object","properties":{"spec":{"type":"object","x-kubernetes-preserve-unknown-fields":true,
+a set, a map list and a map
+    | {"type":"object","properties":{"labels":{"type":"object","additionalProperties":{"type":"string"},"x-kubernetes-map-type":"atomic"},
+    "m":{"type":"array","x-kubernetes-list-type":"map","x-kubernetes-list-map-keys":["host","port"],
+    "items":{"type":"object","required":["host","port"],"properties":{"host":{"type":"string"},"port":{"type":"integer"}}}},
+    "s":{"type":"array","x-kubernetes-list-type":"set","items":{"type":"integer"}}}} | structural
+fields that are not declared
+    | {"type":"object","properties":{"spec":{"type":"object","x-kubernetes-preserve-unknown-fields":true,
     "properties":{"a":{"x-kubernetes-preserve-unknown-fields":true}}}}} | structural
 a number of fields | @TRUTHS | structural
 a field named default | {"type":"object","properties":{"default":{"type":"string"}}} | structural
@@ -40,9 +44,10 @@ two rules | {"type":"object","properties":{"a":{},"b":{"type":"string","uniqueIt
 places in path order | {"type":"object","properties":{"a":{"type":"object","properties":{"b":{}}},"a-b":{}}}
     > V01 "/properties/a/properties/b"
     > V01 "/properties/a-b"
-seven rules | {"type":"object","properties":{"metadata":{"type":"object","properties":{"labels":{"type":"object"},"name":{"type":"string"}}},
-    "p":{"type":"string","x-kubernetes-int-or-string":true},"q":{"type":"object","additionalProperties":false,"properties":{}},"r":{"type":"string",
-    "$ref":"x"},"s":{"type":"object","properties":{"t":{"type":"string"}},"allOf":[{"properties":{"u":{}}}]}}}
+seven rules
+    | {"type":"object","properties":{"metadata":{"type":"object","properties":{"labels":{"type":"object"},"name":{"type":"string"}}},
+    "p":{"type":"string","x-kubernetes-int-or-string":true},"q":{"type":"object","additionalProperties":false,"properties":{}},
+    "r":{"type":"string","$ref":"x"},"s":{"type":"object","properties":{"t":{"type":"string"}},"allOf":[{"properties":{"u":{}}}]}}}
     > V04 "/properties/metadata/properties/labels"
     > V09 "/properties/p"
     > V07 "/properties/q"
@@ -52,11 +57,13 @@ seven rules | {"type":"object","properties":{"metadata":{"type":"object","proper
     > V02 "/properties/s/allOf/0/properties/u"
 a number in the enum of a text | {"type":"object","properties":{"e":{"type":"string","enum":[1]}}}
     > V17 "/properties/e"
-markers of lists and maps | {"type":"object","properties":{"a":{"type":"string","x-kubernetes-list-type":"set"},"b":{"type":"array",
-    "items":{"type":"string"},"x-kubernetes-list-map-keys":["k"]},"c":{"type":"array","items":{"type":"object"},"x-kubernetes-list-type":"set"},
-    "d":{"type":"array","items":{"type":"string"},"x-kubernetes-map-type":"atomic"},"e":{"type":"array","x-kubernetes-list-type":"map",
-    "x-kubernetes-list-map-keys":["k","k"],"items":{"type":"object","properties":{"k":{"type":"string"}},"required":["k"]}},"f":{"type":"array",
-    "items":{"type":"string","nullable":true},"x-kubernetes-list-type":"set"}}}
+markers of lists and maps
+    | {"type":"object","properties":{"a":{"type":"string","x-kubernetes-list-type":"set"},
+    "b":{"type":"array","items":{"type":"string"},"x-kubernetes-list-map-keys":["k"]},
+    "c":{"type":"array","items":{"type":"object"},"x-kubernetes-list-type":"set"},"d":{"type":"array","items":{"type":"string"},
+    "x-kubernetes-map-type":"atomic"},"e":{"type":"array","x-kubernetes-list-type":"map","x-kubernetes-list-map-keys":["k","k"],
+    "items":{"type":"object","properties":{"k":{"type":"string"}},"required":["k"]}},
+    "f":{"type":"array","items":{"type":"string","nullable":true},"x-kubernetes-list-type":"set"}}}
     > V10 "/properties/a"
     > V11 "/properties/b"
     > V12 "/properties/c"
@@ -81,10 +88,11 @@ keywords that are not supported | {"type":"object","definitions":1,"dependencies
     > V05 "/not"
     > V06 "/not"
     > V16 "/not"
-each keyword that is not supported | {"type":"object","properties":{"$ref":{"type":"string","$ref":1},"definitions":{"type":"string","definitions":1},
-    "dependencies":{"type":"string","dependencies":1},"deprecated":{"type":"string","deprecated":1},"discriminator":{"type":"string",
-    "discriminator":1},"id":{"type":"string","id":1},"patternProperties":{"type":"string","patternProperties":1},"readOnly":{"type":"string",
-    "readOnly":1},"writeOnly":{"type":"string","writeOnly":1},"xml":{"type":"string","xml":1}}}
+each keyword that is not supported
+    | {"type":"object","properties":{"$ref":{"type":"string","$ref":1},"definitions":{"type":"string","definitions":1},
+    "dependencies":{"type":"string","dependencies":1},"deprecated":{"type":"string","deprecated":1},
+    "discriminator":{"type":"string","discriminator":1},"id":{"type":"string","id":1},"patternProperties":{"type":"string","patternProperties":1},
+    "readOnly":{"type":"string","readOnly":1},"writeOnly":{"type":"string","writeOnly":1},"xml":{"type":"string","xml":1}}}
     > V05 "/properties/$ref"
     > V05 "/properties/definitions"
     > V05 "/properties/dependencies"
@@ -97,7 +105,8 @@ each keyword that is not supported | {"type":"object","properties":{"$ref":{"typ
     > V05 "/properties/xml"
 metadata that is a text | {"type":"object","properties":{"metadata":{"type":"string"}}}
     > V04 "/properties/metadata"
-properties beside additionalProperties | {"type":"object","properties":{"a":{"type":"object","additionalProperties":true,"properties":{}},
+properties beside additionalProperties
+    | {"type":"object","properties":{"a":{"type":"object","additionalProperties":true,"properties":{}},
     "b":{"type":"object","uniqueItems":false,"id":"","xml":{}}}}
     > V08 "/properties/a"
     > V17 "/properties/a"
@@ -114,8 +123,8 @@ static BROKEN_JUNCTORS: &str = r#"
 types in a junctor | {"type":"object","properties":{"x":{"type":"integer","anyOf":[{"type":"integer"},{"type":"string"}]}}}
     > V03 "/properties/x/anyOf/0"
     > V03 "/properties/x/anyOf/1"
-the int-or-string pattern second in allOf | {"type":"object","properties":{"x":{"x-kubernetes-int-or-string":true,"allOf":[{"minimum":1},
-    {"anyOf":[{"type":"integer"},{"type":"string"}]}]}}}
+the int-or-string pattern second in allOf
+    | {"type":"object","properties":{"x":{"x-kubernetes-int-or-string":true,"allOf":[{"minimum":1},{"anyOf":[{"type":"integer"},{"type":"string"}]}]}}}
     > V03 "/properties/x/allOf/1/anyOf/0"
     > V03 "/properties/x/allOf/1/anyOf/1"
 the int-or-string pattern turned round

@@ -139,9 +139,10 @@ the values of a map | crdx cover crd.json v1 --pools pools.json --values | @MAP_
     > {"m":{"k":false}}
     > {"m":{"k":true}}
     ! crdx: all paths and values are in some sample
-the values of a key of a map list | crdx cover crd.json v1 --pools pools.json --values | {"type":"object","properties":{"l":{"type":"array",
-    "x-kubernetes-list-type":"map","x-kubernetes-list-map-keys":["k"],"items":{"type":"object","required":["k"],"properties":{"k":{"type":"string"},
-    "v":{"type":"boolean"}}}}}} | {"strings":["b","a"]} | 0
+the values of a key of a map list | crdx cover crd.json v1 --pools pools.json --values
+    | {"type":"object","properties":{"l":{"type":"array","x-kubernetes-list-type":"map","x-kubernetes-list-map-keys":["k"],
+    "items":{"type":"object","required":["k"],"properties":{"k":{"type":"string"},"v":{"type":"boolean"}}}}}}
+    | {"strings":["b","a"]} | 0
     > {"l":[]}
     > {"l":[{"k":"a"}]}
     > {"l":[{"k":"b"}]}

@@ -14,15 +14,16 @@ a map list | @MAP_LIST
     > "/m/[]" <Object>
     > "/m/[]/k" <string> required
     > "/m/[]/v" <integer>
-names that are escaped | {"type":"object","properties":{"a/b":{"type":"array","items":{"x-kubernetes-int-or-string":true}},"c[":{"type":"object",
-    "additionalProperties":{"type":"string","nullable":true}}}}
+names that are escaped
+    | {"type":"object","properties":{"a/b":{"type":"array","items":{"x-kubernetes-int-or-string":true}},
+    "c[":{"type":"object","additionalProperties":{"type":"string","nullable":true}}}}
     > "/a~1b" <[]int-or-string>
     > "/a~1b/[]" <int-or-string>
     > "/c~2" <map[string]string>
     > "/c~2/{}" <string> nullable
-each letter that is escaped or looks like it, and an empty name | {"type":"object","properties":{"":{"type":"integer"},"~":{"type":"integer"},
-    "/":{"type":"integer"},"[":{"type":"integer"},"]":{"type":"integer"},"[]":{"type":"integer"},"{":{"type":"integer"},"}":{"type":"integer"},
-    "\"é":{"type":"integer"},"~1":{"type":"integer"}}}
+each letter that is escaped or looks like it, and an empty name
+    | {"type":"object","properties":{"":{"type":"integer"},"~":{"type":"integer"},"/":{"type":"integer"},"[":{"type":"integer"},
+    "]":{"type":"integer"},"[]":{"type":"integer"},"{":{"type":"integer"},"}":{"type":"integer"},"\"é":{"type":"integer"},"~1":{"type":"integer"}}}
     > "/" <integer>
     > "/\"é" <integer>
     > "/~1" <integer>
@@ -39,14 +40,15 @@ a field before its siblings, and below it what it has
     > "/a/b" <boolean>
     > "/a/z" <boolean>
     > "/a-b" <boolean>
-every sort of node, without the envelope | {"type":"object","required":["b","g","metadata"],"properties":{"apiVersion":{"type":"string"},
-    "kind":{"type":"string"},"metadata":{"type":"object"},"a":{"type":"boolean"},"b":{"type":"integer","nullable":true},"c":{"type":"string",
-    "default":"x\"y"},"d":{"x-kubernetes-int-or-string":true,"enum":[1,"x"]},"e":{"type":"object","x-kubernetes-preserve-unknown-fields":true,
+every sort of node, without the envelope
+    | {"type":"object","required":["b","g","metadata"],"properties":{"apiVersion":{"type":"string"},"kind":{"type":"string"},
+    "metadata":{"type":"object"},"a":{"type":"boolean"},"b":{"type":"integer","nullable":true},"c":{"type":"string","default":"x\"y"},
+    "d":{"x-kubernetes-int-or-string":true,"enum":[1,"x"]},"e":{"type":"object","x-kubernetes-preserve-unknown-fields":true,
     "properties":{"z":{"type":"boolean","default":true}},"default":{}},"f":{"type":"object","x-kubernetes-map-type":"atomic",
-    "additionalProperties":{"type":"array","items":{"type":"string"}}},"g":{"type":"array","items":{"type":"array","x-kubernetes-list-type":"set",
-    "items":{"type":"string"}}},"h":{"x-kubernetes-preserve-unknown-fields":true},"i":{"type":"object","x-kubernetes-map-type":"atomic",
-    "nullable":true,"default":null,"properties":{"y":{"type":"object","additionalProperties":{"x-kubernetes-preserve-unknown-fields":true,
-    "nullable":true}}}}}}
+    "additionalProperties":{"type":"array","items":{"type":"string"}}},"g":{"type":"array",
+    "items":{"type":"array","x-kubernetes-list-type":"set","items":{"type":"string"}}},"h":{"x-kubernetes-preserve-unknown-fields":true},
+    "i":{"type":"object","x-kubernetes-map-type":"atomic","nullable":true,"default":null,
+    "properties":{"y":{"type":"object","additionalProperties":{"x-kubernetes-preserve-unknown-fields":true,"nullable":true}}}}}}
     > "/a" <boolean>
     > "/b" <integer> required nullable
     > "/c" <string> default="x\"y"
@@ -63,9 +65,10 @@ every sort of node, without the envelope | {"type":"object","required":["b","g",
     > "/i" <Object> nullable map-type=atomic default=null
     > "/i/y" <map[string]any>
     > "/i/y/{}" <any> nullable
-a map list of two keys, and all that a line can say | {"type":"object","required":["m"],"properties":{"m":{"type":"array","nullable":true,
-    "default":[{"protocol":"UDP","port":1}],"x-kubernetes-list-type":"map","x-kubernetes-list-map-keys":["protocol","port"],"items":{"type":"object",
-    "x-kubernetes-map-type":"atomic","required":["port"],"properties":{"port":{"type":"integer"},"protocol":{"type":"string","default":"TCP"}}}}}}
+a map list of two keys, and all that a line can say
+    | {"type":"object","required":["m"],"properties":{"m":{"type":"array","nullable":true,"default":[{"protocol":"UDP","port":1}],
+    "x-kubernetes-list-type":"map","x-kubernetes-list-map-keys":["protocol","port"],"items":{"type":"object","x-kubernetes-map-type":"atomic",
+    "required":["port"],"properties":{"port":{"type":"integer"},"protocol":{"type":"string","default":"TCP"}}}}}}
     > "/m" <[]Object> required nullable list-type=map keys=["protocol","port"] default=[{"port":1,"protocol":"UDP"}]
     > "/m/[]" <Object> map-type=atomic
     > "/m/[]/port" <integer> required

@@ -6,8 +6,9 @@ use std::test::Fail;
 // What the tables name.
 static NAMED: &str = r#"
 // An object with two truth values, all of it required.
-@TWO_REQUIRED | {"type":"object","required":["s"],"properties":{"s":{"type":"object","required":["a","b"],"properties":{"a":{"type":"boolean"},
-    "b":{"type":"boolean"}}}}}
+@TWO_REQUIRED
+    | {"type":"object","required":["s"],"properties":{"s":{"type":"object","required":["a","b"],
+    "properties":{"a":{"type":"boolean"},"b":{"type":"boolean"}}}}}
 "#;
 
 static DEFINITIONS: &str = r#"
@@ -23,8 +24,9 @@ no kind | crdx pools crd.json v1 --why | {"apiVersion":"apiextensions.k8s.io/v1"
     | - | 3
     ! crdx: crd: S1
     !     "kind" of "names" of "spec" has to be a text that is not empty
-two versions of one name | crdx prune crd.json v1 object.json --why | {"apiVersion":"apiextensions.k8s.io/v1","kind":"CustomResourceDefinition",
-    "spec":{"group":"g","names":{"kind":"K"},"versions":[{"name":"v1"},{"name":"v1"}]}} | {} | 3
+two versions of one name | crdx prune crd.json v1 object.json --why
+    | {"apiVersion":"apiextensions.k8s.io/v1","kind":"CustomResourceDefinition","spec":{"group":"g","names":{"kind":"K"},
+    "versions":[{"name":"v1"},{"name":"v1"}]}} | {} | 3
     ! crdx: crd: S1
     !     "versions" of "spec" has to be a list of objects, each with a "name" that no other has
 a version without a schema | crdx default crd.json v1 object.json --why
@@ -158,8 +160,9 @@ samples | crdx sample crd.json v1 --limit 1 --why | @SPEC | - | 0
 // Listings, most of them empty: what is said below `crdx: end`.
 static LISTINGS: &str = r#"
 10 rows: name | command | schema | second | status
-a required field without a value | crdx sample crd.json v1 --why | {"type":"object","required":["s"],"properties":{"s":{"type":"object",
-    "required":["a","b"],"properties":{"a":{"type":"boolean"},"b":{"type":"string"},"c":{"type":"integer"}}}}} | - | 0
+a required field without a value | crdx sample crd.json v1 --why
+    | {"type":"object","required":["s"],"properties":{"s":{"type":"object","required":["a","b"],
+    "properties":{"a":{"type":"boolean"},"b":{"type":"string"},"c":{"type":"integer"}}}}} | - | 0
     ! crdx: end
     !     found no value of at most 127 nodes for "/s/b", which has to be there
 a field with a default, whose value is not in the pools | crdx sample crd.json v1 --why

@@ -40,7 +40,8 @@ static SCHEMAS: &str = r#"
 9 keys | crdx check crd.json v1 --why --large | {"type":"object","x-kubernetes-list-map-keys":[ | "k" | 9 | ]}
     ! crdx: crd: S4 "/x-kubernetes-list-map-keys"
     !     found 9 keys; allowed are 8
-8 keys | crdx check crd.json v1 --why --large | {"type":"object","properties":{"m":{"type":"array","x-kubernetes-list-type":"map",
+8 keys | crdx check crd.json v1 --why --large
+    | {"type":"object","properties":{"m":{"type":"array","x-kubernetes-list-type":"map",
     "items":{"type":"object","required":["a","b","c","d","e","f","g","h"],"properties":{"a":{"type":"string"},"b":{"type":"string"},
     "c":{"type":"string"},"d":{"type":"string"},"e":{"type":"string"},"f":{"type":"string"},"g":{"type":"string"},"h":{"type":"string"}}},
     "x-kubernetes-list-map-keys":[ | "a","b","c","d","e","f","g","h" | 1 | ]}}}

@@ -9,32 +9,39 @@ const COMMAND: &str = "crdx leaves crd.json v1";
 
 // What the tables name.
 static NAMED: &str = r#"
-@SPEC | {"type":"object","properties":{"spec":{"type":"object","properties":{"args":{"type":"array","items":{"type":"string"}},
-    "ports":{"type":"array","x-kubernetes-list-type":"map","x-kubernetes-list-map-keys":["port"],"items":{"type":"object","required":["port"],
-    "properties":{"name":{"type":"string"},"port":{"type":"integer"}}}},"sel":{"type":"object","additionalProperties":{"type":"string"}},
-    "tags":{"type":"array","x-kubernetes-list-type":"set","items":{"type":"string"}}}}}}
+@SPEC
+    | {"type":"object","properties":{"spec":{"type":"object","properties":{"args":{"type":"array","items":{"type":"string"}},
+    "ports":{"type":"array","x-kubernetes-list-type":"map","x-kubernetes-list-map-keys":["port"],
+    "items":{"type":"object","required":["port"],"properties":{"name":{"type":"string"},"port":{"type":"integer"}}}},
+    "sel":{"type":"object","additionalProperties":{"type":"string"}},"tags":{"type":"array","x-kubernetes-list-type":"set",
+    "items":{"type":"string"}}}}}}
 // Two keys, one of which has a default.
-@TWO_KEYS | {"type":"object","properties":{"m":{"type":"array","x-kubernetes-list-type":"map","x-kubernetes-list-map-keys":["protocol","port"],
-    "items":{"type":"object","required":["port"],"properties":{"name":{"type":"string"},"port":{"type":"integer"},"protocol":{"type":"string",
-    "default":"TCP"}}}}}}
+@TWO_KEYS
+    | {"type":"object","properties":{"m":{"type":"array","x-kubernetes-list-type":"map","x-kubernetes-list-map-keys":["protocol","port"],
+    "items":{"type":"object","required":["port"],"properties":{"name":{"type":"string"},"port":{"type":"integer"},
+    "protocol":{"type":"string","default":"TCP"}}}}}}
 // Granular and atomic objects and maps, and lists of each type.
-@MARKERS | {"type":"object","properties":{"ao":{"type":"object","x-kubernetes-map-type":"atomic","properties":{"x":{"type":"integer"}}},
-    "go":{"type":"object","x-kubernetes-map-type":"granular","properties":{"x":{"type":"integer"}}},"am":{"type":"object",
-    "x-kubernetes-map-type":"atomic","additionalProperties":{"type":"integer"}},"gm":{"type":"object","additionalProperties":{"type":"object",
-    "properties":{"x":{"type":"integer"}}}},"al":{"type":"array","x-kubernetes-list-type":"atomic","items":{"type":"object",
-    "properties":{"x":{"type":"integer"}}}},"s":{"type":"array","x-kubernetes-list-type":"set","items":{"x-kubernetes-int-or-string":true}},
-    "m":{"type":"array","x-kubernetes-list-type":"map","x-kubernetes-list-map-keys":["k"],"items":{"type":"object","x-kubernetes-map-type":"atomic",
-    "required":["k"],"properties":{"k":{"type":"boolean"},"v":{"type":"integer"}}}}}}
+@MARKERS
+    | {"type":"object","properties":{"ao":{"type":"object","x-kubernetes-map-type":"atomic","properties":{"x":{"type":"integer"}}},
+    "go":{"type":"object","x-kubernetes-map-type":"granular","properties":{"x":{"type":"integer"}}},
+    "am":{"type":"object","x-kubernetes-map-type":"atomic","additionalProperties":{"type":"integer"}},
+    "gm":{"type":"object","additionalProperties":{"type":"object","properties":{"x":{"type":"integer"}}}},
+    "al":{"type":"array","x-kubernetes-list-type":"atomic","items":{"type":"object","properties":{"x":{"type":"integer"}}}},
+    "s":{"type":"array","x-kubernetes-list-type":"set","items":{"x-kubernetes-int-or-string":true}},
+    "m":{"type":"array","x-kubernetes-list-type":"map","x-kubernetes-list-map-keys":["k"],
+    "items":{"type":"object","x-kubernetes-map-type":"atomic","required":["k"],"properties":{"k":{"type":"boolean"},"v":{"type":"integer"}}}}}}
 // Each sort of node, and nulls are accepted.
-@NULLABLE | {"type":"object","properties":{"a":{"type":"integer","nullable":true},"b":{"type":"object","nullable":true,
-    "properties":{"x":{"type":"integer","nullable":true}}},"c":{"type":"object","nullable":true,"additionalProperties":{"type":"integer",
-    "nullable":true}},"d":{"type":"array","nullable":true,"items":{"type":"integer","nullable":true}},"e":{"type":"array","nullable":true,
-    "x-kubernetes-list-type":"set","items":{"type":"integer"}},"f":{"type":"array","nullable":true,"x-kubernetes-list-type":"map",
-    "x-kubernetes-list-map-keys":["k"],"items":{"type":"object","required":["k"],"properties":{"k":{"type":"integer"},"v":{"type":"integer",
-    "nullable":true}}}},"g":{"x-kubernetes-preserve-unknown-fields":true,"nullable":true}}}
-@PRESERVING | {"type":"object","x-kubernetes-preserve-unknown-fields":true,"properties":{"m":{"type":"object",
-    "x-kubernetes-preserve-unknown-fields":true,"properties":{"d":{"type":"object","properties":{"x":{"type":"integer"}}}}},
-    "o":{"x-kubernetes-preserve-unknown-fields":true}}}
+@NULLABLE
+    | {"type":"object","properties":{"a":{"type":"integer","nullable":true},"b":{"type":"object","nullable":true,
+    "properties":{"x":{"type":"integer","nullable":true}}},"c":{"type":"object","nullable":true,
+    "additionalProperties":{"type":"integer","nullable":true}},"d":{"type":"array","nullable":true,"items":{"type":"integer","nullable":true}},
+    "e":{"type":"array","nullable":true,"x-kubernetes-list-type":"set","items":{"type":"integer"}},
+    "f":{"type":"array","nullable":true,"x-kubernetes-list-type":"map","x-kubernetes-list-map-keys":["k"],
+    "items":{"type":"object","required":["k"],"properties":{"k":{"type":"integer"},"v":{"type":"integer","nullable":true}}}},
+    "g":{"x-kubernetes-preserve-unknown-fields":true,"nullable":true}}}
+@PRESERVING
+    | {"type":"object","x-kubernetes-preserve-unknown-fields":true,"properties":{"m":{"type":"object","x-kubernetes-preserve-unknown-fields":true,
+    "properties":{"d":{"type":"object","properties":{"x":{"type":"integer"}}}}},"o":{"x-kubernetes-preserve-unknown-fields":true}}}
 "#;
 
 static LEAVES: &str = r#"
@@ -121,9 +128,10 @@ names with letters of elements
     > ["f:"]
     > ["f:f:a","f:"]
     > ["f:f:a","f:k:{}"]
-an atomic map list item inside of a map, and a set inside of a map list | {"type":"object","properties":{"x":{"type":"object",
-    "additionalProperties":{"type":"array","x-kubernetes-list-type":"map","x-kubernetes-list-map-keys":["k"],"items":{"type":"object",
-    "required":["k"],"properties":{"k":{"type":"integer"},"s":{"type":"array","x-kubernetes-list-type":"set","items":{"type":"boolean"}}}}}}}}
+an atomic map list item inside of a map, and a set inside of a map list
+    | {"type":"object","properties":{"x":{"type":"object","additionalProperties":{"type":"array","x-kubernetes-list-type":"map",
+    "x-kubernetes-list-map-keys":["k"],"items":{"type":"object","required":["k"],"properties":{"k":{"type":"integer"},
+    "s":{"type":"array","x-kubernetes-list-type":"set","items":{"type":"boolean"}}}}}}}}
     | {"x":{"y":[{"k":-1,"s":[true,false]}]}}
     > ["f:x","f:y","k:{\"k\":-1}","f:k"]
     > ["f:x","f:y","k:{\"k\":-1}","f:s","v:true"]

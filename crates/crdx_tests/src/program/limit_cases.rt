@@ -21,7 +21,14 @@ thirty-one items with too little room | crdx sample crd.json v1 --pools pools.js
 thirty-one items with a node too little | crdx sample crd.json v1 --pools pools.json --limit 125 | @THIRTY_ONE | {} | 0
     ! crdx: end
 thirty-one items | crdx sample crd.json v1 --pools pools.json --limit 126 --count 1 | @THIRTY_ONE | {} | 0
-    > {"t":[{"a":false,"b":false,"c":false},{"a":false,"b":false,"c":false},{"a":false,"b":false,"c":false},{"a":false,"b":false,"c":false},{"a":false,"b":false,"c":false},{"a":false,"b":false,"c":false},{"a":false,"b":false,"c":false},{"a":false,"b":false,"c":false},{"a":false,"b":false,"c":false},{"a":false,"b":false,"c":false},{"a":false,"b":false,"c":false},{"a":false,"b":false,"c":false},{"a":false,"b":false,"c":false},{"a":false,"b":false,"c":false},{"a":false,"b":false,"c":false},{"a":false,"b":false,"c":false},{"a":false,"b":false,"c":false},{"a":false,"b":false,"c":false},{"a":false,"b":false,"c":false},{"a":false,"b":false,"c":false},{"a":false,"b":false,"c":false},{"a":false,"b":false,"c":false},{"a":false,"b":false,"c":false},{"a":false,"b":false,"c":false},{"a":false,"b":false,"c":false},{"a":false,"b":false,"c":false},{"a":false,"b":false,"c":false},{"a":false,"b":false,"c":false},{"a":false,"b":false,"c":false},{"a":false,"b":false,"c":false},{"a":false,"b":false,"c":false}]}
+    > {"t":[{"a":false,"b":false,"c":false},{"a":false,"b":false,"c":false},{"a":false,"b":false,"c":false},{"a":false,"b":false,"c":false},␄
+    > {"a":false,"b":false,"c":false},{"a":false,"b":false,"c":false},{"a":false,"b":false,"c":false},{"a":false,"b":false,"c":false},␄
+    > {"a":false,"b":false,"c":false},{"a":false,"b":false,"c":false},{"a":false,"b":false,"c":false},{"a":false,"b":false,"c":false},␄
+    > {"a":false,"b":false,"c":false},{"a":false,"b":false,"c":false},{"a":false,"b":false,"c":false},{"a":false,"b":false,"c":false},␄
+    > {"a":false,"b":false,"c":false},{"a":false,"b":false,"c":false},{"a":false,"b":false,"c":false},{"a":false,"b":false,"c":false},␄
+    > {"a":false,"b":false,"c":false},{"a":false,"b":false,"c":false},{"a":false,"b":false,"c":false},{"a":false,"b":false,"c":false},␄
+    > {"a":false,"b":false,"c":false},{"a":false,"b":false,"c":false},{"a":false,"b":false,"c":false},{"a":false,"b":false,"c":false},␄
+    > {"a":false,"b":false,"c":false},{"a":false,"b":false,"c":false},{"a":false,"b":false,"c":false}]}
     ! crdx: more
 two fields, 64 nodes | crdx sample crd.json v1 --pools pools.json --limit 64 | @SPEC | {"integers":[0,1]} | 0
     > @TEN_LINES

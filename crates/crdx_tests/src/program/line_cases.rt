@@ -44,8 +44,8 @@ objects without what is pruned | crdx prune crd.json v1 object.json --lines | @B
     > {"a":2}
 objects with their defaults | crdx default --lines crd.json v1 | @BOUND_AND_DEFAULT | {"a":1}␊{"a":0}␊{"a":"t"}␊{"a":2,"c":3}␊ | 0
     > @FOUR_COMPLETED
-leaves, and objects that are not stored | crdx leaves crd.json v1 object.json --lines | @BOUND_AND_DEFAULT | {"b":"y","a":1}␊{"a":1}␊{"a":0,"b":"x"}␊{"b":"z"}
-    | 1
+leaves, and objects that are not stored | crdx leaves crd.json v1 object.json --lines | @BOUND_AND_DEFAULT
+    | {"b":"y","a":1}␊{"a":1}␊{"a":0,"b":"x"}␊{"b":"z"} | 1
     > @STORED_LEAVES
 objects that are not stored are not explained | crdx leaves crd.json v1 object.json --lines --why | @BOUND_AND_DEFAULT
     | {"b":"y","a":1}␊{"a":1}␊{"a":0,"b":"x"}␊{"b":"z"} | 1
@@ -95,7 +95,8 @@ two objects on a line | crdx prune crd.json v1 object.json --lines | @BOUND_AND_
 
 static REFUSALS: &str = r#"
 9 rows: name | command | schema | second | status
-a number that is refused, after an object with a fault | crdx validate crd.json v1 object.json --lines | @BOUND_AND_DEFAULT | {"a":0}␊{"a":0.5}␊{"a":0}␊ | 3
+a number that is refused, after an object with a fault | crdx validate crd.json v1 object.json --lines | @BOUND_AND_DEFAULT
+    | {"a":0}␊{"a":0.5}␊{"a":0}␊ | 3
     > 1: F04 "/a"
     > 2: J1
     > 3: F04 "/a"

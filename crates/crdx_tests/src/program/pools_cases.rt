@@ -11,11 +11,13 @@ use std::test::Fail;
 // What the tables name.
 static NAMED: &str = r#"
 // An object with an integer and a text, and one with a truth value.
-@SCHEMA | {"type":"object","properties":{"spec":{"type":"object","properties":{"a":{"type":"integer"},"b":{"type":"string"}}},
+@SCHEMA
+    | {"type":"object","properties":{"spec":{"type":"object","properties":{"a":{"type":"integer"},"b":{"type":"string"}}},
     "status":{"type":"object","properties":{"c":{"type":"boolean"}}}}}
 // A list of objects, and a map of integers.
-@PARTS | {"type":"object","properties":{"l":{"type":"array","items":{"type":"object","properties":{"a":{"type":"integer"}}}},"m":{"type":"object",
-    "additionalProperties":{"type":"integer"}}}}
+@PARTS
+    | {"type":"object","properties":{"l":{"type":"array","items":{"type":"object","properties":{"a":{"type":"integer"}}}},
+    "m":{"type":"object","additionalProperties":{"type":"integer"}}}}
 "#;
 
 // The second document has the objects.
@@ -48,7 +50,8 @@ the values of a map that never occur | crdx pools crd.json v1 --from object.json
 static VARIED: &str = r#"
 9 rows: name | command | schema | second | status
 around an object | crdx pools crd.json v1 --from object.json --vary /spec/a | @SCHEMA | {"spec":{"a":7,"b":"x"}} | 0
-    > {"any":["a",{}],"fixed":{"/spec/b":["x"],"/status":[]},"integers":[0,1],"names":["a","b"],"paths":{"/spec/a":[7,0,1]},"present":["/spec","/spec/b"],"strings":["a"]}
+    > {"any":["a",{}],"fixed":{"/spec/b":["x"],"/status":[]},"integers":[0,1],"names":["a","b"],"paths":{"/spec/a":[7,0,1]},␄
+    > "present":["/spec","/spec/b"],"strings":["a"]}
 around an object, at two paths, one of them absent | crdx pools crd.json v1 --vary /spec/b --from object.json --vary /status | @SCHEMA
     | {"spec":{"a":7}} | 0
     > {"any":["a",{}],"fixed":{"/spec/a":[7]},"integers":[0,1],"names":["a","b"],"present":["/spec","/spec/a"],"strings":["a"]}

@@ -6,21 +6,27 @@ use std::test::Fail;
 // In this table and the next are schemas of a field.
 static FIELDS: &str = r#"
 10 rows: name | field | out
-anyOf, allOf and not beside each other | {"type":"object","properties":{"a":{"type":"boolean"},"b":{"type":"boolean"}},"anyOf":[{"required":["a"]}],
-    "allOf":[{"required":["b"]}],"not":{"required":["a","b"]}} | structural
-nested junctors | {"type":"object","properties":{"a":{"type":"boolean"},"b":{"type":"boolean"}},"allOf":[{"anyOf":[{"required":["a"]},
+anyOf, allOf and not beside each other
+    | {"type":"object","properties":{"a":{"type":"boolean"},"b":{"type":"boolean"}},"anyOf":[{"required":["a"]}],"allOf":[{"required":["b"]}],
+    "not":{"required":["a","b"]}} | structural
+nested junctors
+    | {"type":"object","properties":{"a":{"type":"boolean"},"b":{"type":"boolean"}},"allOf":[{"anyOf":[{"required":["a"]},
     {"not":{"oneOf":[{"required":["b"]},{}]}}]}]} | structural
-four named fields, some of them often | {"type":"object","properties":{"a":{"type":"boolean"},"b":{"type":"boolean"},"c":{"type":"boolean"},
-    "d":{"type":"boolean"},"e":{"type":"boolean"}},"oneOf":[{"required":["a","b"]},{"required":["b","a","a"]},{"not":{"required":["d","c"]}}]}
+four named fields, some of them often
+    | {"type":"object","properties":{"a":{"type":"boolean"},"b":{"type":"boolean"},"c":{"type":"boolean"},"d":{"type":"boolean"},
+    "e":{"type":"boolean"}},"oneOf":[{"required":["a","b"]},{"required":["b","a","a"]},{"not":{"required":["d","c"]}}]}
     | structural
-five fields named in one branch | {"type":"object","properties":{"a":{"type":"boolean"},"b":{"type":"boolean"},"c":{"type":"boolean"},
-    "d":{"type":"boolean"},"e":{"type":"boolean"}},"anyOf":[{"required":["a","b","c","d","e"]}]} | V16 "/properties/x"
-five fields named in branches of any depth | {"type":"object","properties":{"a":{"type":"boolean"},"b":{"type":"boolean"},"c":{"type":"boolean"},
-    "d":{"type":"boolean"},"e":{"type":"boolean"}},"allOf":[{"required":["e"],"anyOf":[{"required":["a","b"]}]}],"oneOf":[{"not":{"required":["c"]}}],
+five fields named in one branch
+    | {"type":"object","properties":{"a":{"type":"boolean"},"b":{"type":"boolean"},"c":{"type":"boolean"},"d":{"type":"boolean"},
+    "e":{"type":"boolean"}},"anyOf":[{"required":["a","b","c","d","e"]}]} | V16 "/properties/x"
+five fields named in branches of any depth
+    | {"type":"object","properties":{"a":{"type":"boolean"},"b":{"type":"boolean"},"c":{"type":"boolean"},"d":{"type":"boolean"},
+    "e":{"type":"boolean"}},"allOf":[{"required":["e"],"anyOf":[{"required":["a","b"]}]}],"oneOf":[{"not":{"required":["c"]}}],
     "not":{"required":["d"]}} | V16 "/properties/x"
 a name that is not declared | {"type":"object","properties":{"a":{"type":"boolean"}},"anyOf":[{"required":["zz"]}]} | V16 "/properties/x/anyOf/0"
-four names that are declared and one that is not | {"type":"object","properties":{"a":{"type":"boolean"},"b":{"type":"boolean"},
-    "c":{"type":"boolean"},"d":{"type":"boolean"}},"anyOf":[{"required":["a","b"]},{"required":["c","d"]},{"not":{"required":["a","zz"]}}]}
+four names that are declared and one that is not
+    | {"type":"object","properties":{"a":{"type":"boolean"},"b":{"type":"boolean"},"c":{"type":"boolean"},"d":{"type":"boolean"}},
+    "anyOf":[{"required":["a","b"]},{"required":["c","d"]},{"not":{"required":["a","zz"]}}]}
     | V16 "/properties/x"
     > V16 "/properties/x/anyOf/2/not"
 a name that is not declared where others are kept
@@ -51,8 +57,9 @@ a branch of a text | {"type":"string","not":{"required":[]}}
 a branch of any value | {"x-kubernetes-preserve-unknown-fields":true,"oneOf":[{"required":[]}]}
     > V16 "/properties/x"
     > V16 "/properties/x/oneOf/0"
-other keywords of branches | {"type":"object","properties":{"a":{"type":"boolean"}},"allOf":[{"minProperties":1},{"maxProperties":1},{"enum":[1]},
-    {"minimum":1},{"maxLength":1},{"title":""},{"x-kubernetes-map-type":"atomic"},{"uniqueItems":false},{"format":""}]}
+other keywords of branches
+    | {"type":"object","properties":{"a":{"type":"boolean"}},"allOf":[{"minProperties":1},{"maxProperties":1},{"enum":[1]},{"minimum":1},
+    {"maxLength":1},{"title":""},{"x-kubernetes-map-type":"atomic"},{"uniqueItems":false},{"format":""}]}
     > V16 "/properties/x/allOf/0"
     > V16 "/properties/x/allOf/1"
     > V16 "/properties/x/allOf/2"
@@ -86,20 +93,26 @@ a junctor at the root | @ONE_OF_TWO_AT_THE_ROOT | structural
 metadata named at the root
     | {"type":"object","properties":{"a":{"type":"boolean"},"metadata":{"type":"object"}},"anyOf":[{"required":["a"]},{"required":["metadata"]}]}
     | V16 "/anyOf/1"
-apiVersion and kind named at the root | {"type":"object","properties":{"apiVersion":{"type":"string"},"kind":{"type":"string"}},
+apiVersion and kind named at the root
+    | {"type":"object","properties":{"apiVersion":{"type":"string"},"kind":{"type":"string"}},
     "not":{"anyOf":[{"required":["apiVersion"]},{"required":["kind"]}]}} | V16 "/not/anyOf/0"
     > V16 "/not/anyOf/1"
-five fields named at the root | {"type":"object","properties":{"a":{"type":"boolean"},"b":{"type":"boolean"},"c":{"type":"boolean"},
-    "d":{"type":"boolean"},"e":{"type":"boolean"}},"not":{"required":["a","b","c","d","e"]}} | V16 ""
-a default that meets its junctor | {"type":"object","properties":{"x":{"type":"object","default":{"a":true},"properties":{"a":{"type":"boolean"},
-    "b":{"type":"boolean"}},"oneOf":[{"required":["a"]},{"required":["b"]}]}}} | structural
-a default that fails its junctor | {"type":"object","properties":{"x":{"type":"object","default":{"a":true,"b":true},
-    "properties":{"a":{"type":"boolean"},"b":{"type":"boolean"}},"oneOf":[{"required":["a"]},{"required":["b"]}]}}} | V14 "/properties/x"
-a default that fails its junctor by a default below it | {"type":"object","properties":{"x":{"type":"object","default":{"a":true},
-    "properties":{"a":{"type":"boolean"},"b":{"type":"boolean","default":false}},"oneOf":[{"required":["a"]},{"required":["b"]}]}}}
+five fields named at the root
+    | {"type":"object","properties":{"a":{"type":"boolean"},"b":{"type":"boolean"},"c":{"type":"boolean"},"d":{"type":"boolean"},
+    "e":{"type":"boolean"}},"not":{"required":["a","b","c","d","e"]}} | V16 ""
+a default that meets its junctor
+    | {"type":"object","properties":{"x":{"type":"object","default":{"a":true},"properties":{"a":{"type":"boolean"},"b":{"type":"boolean"}},
+    "oneOf":[{"required":["a"]},{"required":["b"]}]}}} | structural
+a default that fails its junctor
+    | {"type":"object","properties":{"x":{"type":"object","default":{"a":true,"b":true},"properties":{"a":{"type":"boolean"},"b":{"type":"boolean"}},
+    "oneOf":[{"required":["a"]},{"required":["b"]}]}}} | V14 "/properties/x"
+a default that fails its junctor by a default below it
+    | {"type":"object","properties":{"x":{"type":"object","default":{"a":true},"properties":{"a":{"type":"boolean"},
+    "b":{"type":"boolean","default":false}},"oneOf":[{"required":["a"]},{"required":["b"]}]}}}
     | V14 "/properties/x"
-a default that meets its junctor by a default below it | {"type":"object","properties":{"x":{"type":"object","default":{},
-    "properties":{"a":{"type":"boolean"},"b":{"type":"boolean","default":false}},"oneOf":[{"required":["a"]},{"required":["b"]}]}}} | structural
+a default that meets its junctor by a default below it
+    | {"type":"object","properties":{"x":{"type":"object","default":{},"properties":{"a":{"type":"boolean"},"b":{"type":"boolean","default":false}},
+    "oneOf":[{"required":["a"]},{"required":["b"]}]}}} | structural
 "#;
 
 static OBJECTS: &str = r#"
@@ -108,22 +121,29 @@ both of two fields | @ONE_OF_TWO | {"o":{"a":true,"b":true}} | F14 "/o"
 neither of two fields | @ONE_OF_TWO | {"o":{}} | F14 "/o"
 one of two fields, and another | @ONE_OF_TWO | {"o":{"b":true,"c":false}} | valid
 no object | @ONE_OF_TWO | {} | valid
-a field that is null | {"type":"object","properties":{"o":{"type":"object","anyOf":[{"required":["a"]}],"properties":{"a":{"type":"boolean",
-    "nullable":true},"b":{"type":"boolean"}}}}} | {"o":{"a":null}} | valid
-a null where junctors are asked | {"type":"object","properties":{"o":{"type":"object","nullable":true,"oneOf":[{"required":["a"]},{"required":["b"]}],
+a field that is null
+    | {"type":"object","properties":{"o":{"type":"object","anyOf":[{"required":["a"]}],
+    "properties":{"a":{"type":"boolean","nullable":true},"b":{"type":"boolean"}}}}} | {"o":{"a":null}} | valid
+a null where junctors are asked
+    | {"type":"object","properties":{"o":{"type":"object","nullable":true,"oneOf":[{"required":["a"]},{"required":["b"]}],
     "properties":{"a":{"type":"boolean"},"b":{"type":"boolean"}}}}} | {"o":null} | valid
-members that are not declared | {"type":"object","properties":{"o":{"type":"object","x-kubernetes-preserve-unknown-fields":true,"maxProperties":2,
-    "oneOf":[{"required":["a"]},{"required":["b"]}],"properties":{"a":{"type":"boolean"},"b":{"type":"boolean"}}}}} | {"o":{"zz":1}} | F14 "/o"
-members that are not declared beside one that is named | {"type":"object","properties":{"o":{"type":"object",
-    "x-kubernetes-preserve-unknown-fields":true,"oneOf":[{"required":["a"]},{"required":["b"]}],"properties":{"a":{"type":"boolean"},
-    "b":{"type":"boolean"}}}}} | {"o":{"a":true,"zz":1}} | valid
-two branches of which one asks for more | {"type":"object","properties":{"o":{"type":"object","oneOf":[{"required":["a"]},{"required":["a","b"]}],
+members that are not declared
+    | {"type":"object","properties":{"o":{"type":"object","x-kubernetes-preserve-unknown-fields":true,"maxProperties":2,
+    "oneOf":[{"required":["a"]},{"required":["b"]}],"properties":{"a":{"type":"boolean"},"b":{"type":"boolean"}}}}}
+    | {"o":{"zz":1}} | F14 "/o"
+members that are not declared beside one that is named
+    | {"type":"object","properties":{"o":{"type":"object","x-kubernetes-preserve-unknown-fields":true,"oneOf":[{"required":["a"]},{"required":["b"]}],
+    "properties":{"a":{"type":"boolean"},"b":{"type":"boolean"}}}}} | {"o":{"a":true,"zz":1}} | valid
+two branches of which one asks for more
+    | {"type":"object","properties":{"o":{"type":"object","oneOf":[{"required":["a"]},{"required":["a","b"]}],
     "properties":{"a":{"type":"boolean"},"b":{"type":"boolean"}}}}} | {"o":{"a":true,"b":true}} | F14 "/o"
-junctors three deep | {"type":"object","properties":{"l":{"type":"array","items":{"type":"object","properties":{"a":{"type":"boolean"},
-    "b":{"type":"boolean"}},"allOf":[{"anyOf":[{"required":["a"]},{"not":{"required":["b"]}}]}]}}}}
+junctors three deep
+    | {"type":"object","properties":{"l":{"type":"array","items":{"type":"object","properties":{"a":{"type":"boolean"},"b":{"type":"boolean"}},
+    "allOf":[{"anyOf":[{"required":["a"]},{"not":{"required":["b"]}}]}]}}}}
     | {"l":[{},{"a":true},{"b":true},{"a":true,"b":true}]} | F14 "/l/2"
-a junctor beside bounds and a required field | {"type":"object","properties":{"o":{"type":"object","required":["b"],"minProperties":1,
-    "not":{"required":[]},"properties":{"a":{"type":"boolean"},"b":{"type":"boolean"}}}}} | {"o":{}} | F10 "/o"
+a junctor beside bounds and a required field
+    | {"type":"object","properties":{"o":{"type":"object","required":["b"],"minProperties":1,"not":{"required":[]},
+    "properties":{"a":{"type":"boolean"},"b":{"type":"boolean"}}}}} | {"o":{}} | F10 "/o"
     > F14 "/o"
     > F12 "/o/b"
 a junctor at the root | @ONE_OF_TWO_AT_THE_ROOT | {"a":true,"b":true} | F14 ""

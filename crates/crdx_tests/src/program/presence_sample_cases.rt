@@ -38,8 +38,9 @@ not both fields | crdx sample crd.json v1 --pools pools.json --limit 4
     > {"o":{"a":false}}
     > {"o":{"a":true}}
     ! crdx: end
-one of two fields at least | crdx sample crd.json v1 --pools pools.json --limit 4 | {"type":"object","properties":{"o":{"type":"object",
-    "anyOf":[{"required":["a"]},{"required":["b"]}],"properties":{"a":{"type":"boolean"},"b":{"type":"boolean"}}}}} | {} | 0
+one of two fields at least | crdx sample crd.json v1 --pools pools.json --limit 4
+    | {"type":"object","properties":{"o":{"type":"object","anyOf":[{"required":["a"]},{"required":["b"]}],
+    "properties":{"a":{"type":"boolean"},"b":{"type":"boolean"}}}}} | {} | 0
     > {}
     > {"o":{"b":false}}
     > {"o":{"b":true}}
@@ -50,16 +51,18 @@ one of two fields at least | crdx sample crd.json v1 --pools pools.json --limit 
     > {"o":{"a":true,"b":false}}
     > {"o":{"a":true,"b":true}}
     ! crdx: end
-all fields | crdx sample crd.json v1 --pools pools.json --limit 4 | {"type":"object","properties":{"o":{"type":"object","allOf":[{"required":["a"]},
-    {"required":["b"]}],"properties":{"a":{"type":"boolean"},"b":{"type":"boolean"}}}}} | {} | 0
+all fields | crdx sample crd.json v1 --pools pools.json --limit 4
+    | {"type":"object","properties":{"o":{"type":"object","allOf":[{"required":["a"]},{"required":["b"]}],
+    "properties":{"a":{"type":"boolean"},"b":{"type":"boolean"}}}}} | {} | 0
     > {}
     > {"o":{"a":false,"b":false}}
     > {"o":{"a":false,"b":true}}
     > {"o":{"a":true,"b":false}}
     > {"o":{"a":true,"b":true}}
     ! crdx: end
-nested junctors | crdx sample crd.json v1 --pools pools.json --limit 4 | {"type":"object","properties":{"o":{"type":"object",
-    "allOf":[{"anyOf":[{"required":["a"]},{"not":{"required":["b"]}}]}],"properties":{"a":{"type":"boolean"},"b":{"type":"boolean"}}}}} | {} | 0
+nested junctors | crdx sample crd.json v1 --pools pools.json --limit 4
+    | {"type":"object","properties":{"o":{"type":"object","allOf":[{"anyOf":[{"required":["a"]},{"not":{"required":["b"]}}]}],
+    "properties":{"a":{"type":"boolean"},"b":{"type":"boolean"}}}}} | {} | 0
     > {}
     > {"o":{}}
     > {"o":{"a":false}}
@@ -80,9 +83,10 @@ a junctor at the root | crdx sample crd.json v1 --pools pools.json --limit 3 | @
     > {"a":true}
     ! crdx: end
 the items of a map list, whose key is named | crdx sample crd.json v1 --pools pools.json --limit 6
-    | {"type":"object","properties":{"m":{"type":"array","x-kubernetes-list-type":"map","x-kubernetes-list-map-keys":["k"],"items":{"type":"object",
-    "required":["k"],"oneOf":[{"required":["k","v"]},{"required":["w"]}],"properties":{"k":{"type":"string"},"v":{"type":"boolean"},
-    "w":{"type":"boolean"}}}}}} | {"strings":["s"]} | 0
+    | {"type":"object","properties":{"m":{"type":"array","x-kubernetes-list-type":"map","x-kubernetes-list-map-keys":["k"],
+    "items":{"type":"object","required":["k"],"oneOf":[{"required":["k","v"]},{"required":["w"]}],
+    "properties":{"k":{"type":"string"},"v":{"type":"boolean"},"w":{"type":"boolean"}}}}}} | {"strings":["s"]}
+    | 0
     > {}
     > {"m":[]}
     > {"m":[{"k":"s","w":false}]}
@@ -90,15 +94,17 @@ the items of a map list, whose key is named | crdx sample crd.json v1 --pools po
     > {"m":[{"k":"s","v":false}]}
     > {"m":[{"k":"s","v":true}]}
     ! crdx: end
-below a default | crdx sample crd.json v1 --pools pools.json --limit 4 | {"type":"object","properties":{"o":{"type":"object","default":{"a":true},
-    "oneOf":[{"required":["a"]},{"required":["b"]}],"properties":{"a":{"type":"boolean"},"b":{"type":"boolean"}}}}} | {} | 0
+below a default | crdx sample crd.json v1 --pools pools.json --limit 4
+    | {"type":"object","properties":{"o":{"type":"object","default":{"a":true},"oneOf":[{"required":["a"]},{"required":["b"]}],
+    "properties":{"a":{"type":"boolean"},"b":{"type":"boolean"}}}}} | {} | 0
     > {"o":{"b":false}}
     > {"o":{"b":true}}
     > {"o":{"a":false}}
     > {"o":{"a":true}}
     ! crdx: end
-a named field with a default | crdx sample crd.json v1 --pools pools.json --limit 4 | {"type":"object","properties":{"o":{"type":"object",
-    "oneOf":[{"required":["a"]},{"required":["b"]}],"properties":{"a":{"type":"boolean","default":true},"b":{"type":"boolean"}}}}} | {} | 0
+a named field with a default | crdx sample crd.json v1 --pools pools.json --limit 4
+    | {"type":"object","properties":{"o":{"type":"object","oneOf":[{"required":["a"]},{"required":["b"]}],
+    "properties":{"a":{"type":"boolean","default":true},"b":{"type":"boolean"}}}}} | {} | 0
     > {}
     > {"o":{"a":false}}
     > {"o":{"a":true}}
@@ -116,8 +122,9 @@ an object that keeps other fields | crdx sample crd.json v1 --pools pools.json -
 
 static BOUNDS_AND_DEPTH: &str = r#"
 6 rows: name | command | schema | second | status
-at least two members | crdx sample crd.json v1 --pools pools.json --limit 4 | {"type":"object","properties":{"o":{"type":"object","minProperties":2,
-    "oneOf":[{"required":["a"]},{"required":["b"]}],"properties":{"a":{"type":"boolean"},"b":{"type":"boolean"},"c":{"type":"boolean"}}}}} | {} | 0
+at least two members | crdx sample crd.json v1 --pools pools.json --limit 4
+    | {"type":"object","properties":{"o":{"type":"object","minProperties":2,"oneOf":[{"required":["a"]},{"required":["b"]}],
+    "properties":{"a":{"type":"boolean"},"b":{"type":"boolean"},"c":{"type":"boolean"}}}}} | {} | 0
     > {}
     > {"o":{"b":false,"c":false}}
     > {"o":{"b":false,"c":true}}
@@ -128,17 +135,19 @@ at least two members | crdx sample crd.json v1 --pools pools.json --limit 4 | {"
     > {"o":{"a":true,"c":false}}
     > {"o":{"a":true,"c":true}}
     ! crdx: end
-at most one member | crdx sample crd.json v1 --pools pools.json --limit 5 | {"type":"object","properties":{"o":{"type":"object","maxProperties":1,
-    "anyOf":[{"required":["a"]},{"required":["b"]}],"properties":{"a":{"type":"boolean"},"b":{"type":"boolean"},"c":{"type":"boolean"}}}}} | {} | 0
+at most one member | crdx sample crd.json v1 --pools pools.json --limit 5
+    | {"type":"object","properties":{"o":{"type":"object","maxProperties":1,"anyOf":[{"required":["a"]},{"required":["b"]}],
+    "properties":{"a":{"type":"boolean"},"b":{"type":"boolean"},"c":{"type":"boolean"}}}}} | {} | 0
     > {}
     > {"o":{"b":false}}
     > {"o":{"b":true}}
     > {"o":{"a":false}}
     > {"o":{"a":true}}
     ! crdx: end
-one of four fields | crdx sample crd.json v1 --pools pools.json --limit 4 | {"type":"object","properties":{"o":{"type":"object",
-    "oneOf":[{"required":["c"]},{"required":["d"]},{"required":["a"]},{"required":["b"]}],"properties":{"a":{"type":"boolean"},"b":{"type":"boolean"},
-    "c":{"type":"boolean"},"d":{"type":"boolean"}}}}} | {} | 0
+one of four fields | crdx sample crd.json v1 --pools pools.json --limit 4
+    | {"type":"object","properties":{"o":{"type":"object","oneOf":[{"required":["c"]},{"required":["d"]},{"required":["a"]},{"required":["b"]}],
+    "properties":{"a":{"type":"boolean"},"b":{"type":"boolean"},"c":{"type":"boolean"},"d":{"type":"boolean"}}}}}
+    | {} | 0
     > {}
     > {"o":{"d":false}}
     > {"o":{"d":true}}
@@ -149,17 +158,18 @@ one of four fields | crdx sample crd.json v1 --pools pools.json --limit 4 | {"ty
     > {"o":{"a":false}}
     > {"o":{"a":true}}
     ! crdx: end
-a junctor that nothing meets | crdx sample crd.json v1 --pools pools.json --limit 4 | {"type":"object","properties":{"o":{"type":"object",
-    "allOf":[{"required":["a"]},{"not":{"required":["a"]}}],"properties":{"a":{"type":"boolean"},"b":{"type":"boolean"}}}}} | {} | 0
+a junctor that nothing meets | crdx sample crd.json v1 --pools pools.json --limit 4
+    | {"type":"object","properties":{"o":{"type":"object","allOf":[{"required":["a"]},{"not":{"required":["a"]}}],
+    "properties":{"a":{"type":"boolean"},"b":{"type":"boolean"}}}}} | {} | 0
     > {}
     ! crdx: end
 a required object whose junctor nothing meets | crdx sample crd.json v1 --pools pools.json --limit 4
     | {"type":"object","properties":{"o":{"type":"object","allOf":[{"required":["a"]},{"not":{"required":["a"]}}],
     "properties":{"a":{"type":"boolean"},"b":{"type":"boolean"}}}},"required":["o"]} | {} | 0
     ! crdx: end
-junctors inside of each other | crdx sample crd.json v1 --pools pools.json --limit 4 | {"type":"object","oneOf":[{"required":["o"]},
-    {"required":["p"]}],"properties":{"o":{"type":"object","not":{"required":["a"]},"properties":{"a":{"type":"boolean"},"b":{"type":"boolean"}}},
-    "p":{"type":"boolean"}}} | {} | 0
+junctors inside of each other | crdx sample crd.json v1 --pools pools.json --limit 4
+    | {"type":"object","oneOf":[{"required":["o"]},{"required":["p"]}],"properties":{"o":{"type":"object","not":{"required":["a"]},
+    "properties":{"a":{"type":"boolean"},"b":{"type":"boolean"}}},"p":{"type":"boolean"}}} | {} | 0
     > {"p":false}
     > {"p":true}
     > {"o":{}}

@@ -10,7 +10,8 @@ use std::test::Fail;
 
 // What the tables name.
 static NAMED: &str = r#"
-@BAD_DEFAULT | {"apiVersion":"apiextensions.k8s.io/v1","kind":"CustomResourceDefinition","spec":{"group":"example.org","names":{"kind":"Widget"},
+@BAD_DEFAULT
+    | {"apiVersion":"apiextensions.k8s.io/v1","kind":"CustomResourceDefinition","spec":{"group":"example.org","names":{"kind":"Widget"},
     "versions":[{"name":"v1","schema":{"openAPIV3Schema":{"type":"object","properties":{"n":{"type":"integer","default":"x"}}}}}]}}
 "#;
 

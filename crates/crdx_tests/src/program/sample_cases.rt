@@ -58,41 +58,48 @@ repeated and negative integers | crdx sample crd.json v1 --pools pools.json --li
     > {"spec":{"a":-1}}
     > {"spec":{"a":5}}
     ! crdx: end
-a property of texts | crdx sample crd.json v1 --pools pools.json --limit 4 | {"apiVersion":"apiextensions.k8s.io/v1",
-    "kind":"CustomResourceDefinition","spec":{"group":"example.org","names":{"kind":"Widget"},"versions":[{"name":"v1",
-    "schema":{"openAPIV3Schema":{"type":"object","properties":{"a":{"type":"string"}}}}}]}} | {"strings":["b","a","b"]} | 0
+a property of texts | crdx sample crd.json v1 --pools pools.json --limit 4
+    | {"apiVersion":"apiextensions.k8s.io/v1","kind":"CustomResourceDefinition","spec":{"group":"example.org","names":{"kind":"Widget"},
+    "versions":[{"name":"v1","schema":{"openAPIV3Schema":{"type":"object","properties":{"a":{"type":"string"}}}}}]}}
+    | {"strings":["b","a","b"]} | 0
     > {}
     > {"a":"a"}
     > {"a":"b"}
     ! crdx: end
-a default | crdx sample crd.json v1 --pools pools.json --limit 4 | {"apiVersion":"apiextensions.k8s.io/v1","kind":"CustomResourceDefinition",
-    "spec":{"group":"example.org","names":{"kind":"Widget"},"versions":[{"name":"v1","schema":{"openAPIV3Schema":{"type":"object",
-    "properties":{"a":{"type":"integer","default":1}}}}}]}} | {"integers":[0,1]} | 0
+a default | crdx sample crd.json v1 --pools pools.json --limit 4
+    | {"apiVersion":"apiextensions.k8s.io/v1","kind":"CustomResourceDefinition","spec":{"group":"example.org","names":{"kind":"Widget"},
+    "versions":[{"name":"v1","schema":{"openAPIV3Schema":{"type":"object","properties":{"a":{"type":"integer","default":1}}}}}]}}
+    | {"integers":[0,1]} | 0
     > {"a":0}
     > {"a":1}
     ! crdx: end
-numbers after a property of texts | crdx sample crd.json v1 --pools pools.json | {"apiVersion":"apiextensions.k8s.io/v1",
-    "kind":"CustomResourceDefinition","spec":{"group":"example.org","names":{"kind":"Widget"},"versions":[{"name":"v1",
-    "schema":{"openAPIV3Schema":{"type":"object","properties":{"a":{"type":"string"},"n":{"type":"number"}}}}}]}} | {"integers":[1.5]} | 1
+numbers after a property of texts | crdx sample crd.json v1 --pools pools.json
+    | {"apiVersion":"apiextensions.k8s.io/v1","kind":"CustomResourceDefinition","spec":{"group":"example.org","names":{"kind":"Widget"},
+    "versions":[{"name":"v1","schema":{"openAPIV3Schema":{"type":"object","properties":{"a":{"type":"string"},"n":{"type":"number"}}}}}]}}
+    | {"integers":[1.5]} | 1
     ! V17 "/properties/n"
 an envelope and keywords without effect | crdx sample crd.json v1 --pools pools.json --limit 4
     | {"apiVersion":"apiextensions.k8s.io/v1","kind":"CustomResourceDefinition","spec":{"group":"example.org","names":{"kind":"Widget"},
-    "versions":[{"name":"v1","schema":{"openAPIV3Schema":{"type":"object","description":"A widget.","properties":{"apiVersion":{"type":"string"},
-    "kind":{"type":"string"},"metadata":{"type":"object"},"spec":{"type":"object","title":"What is wanted","properties":{"a":{"type":"integer",
-    "format":"int64","example":7},"b":{"type":"boolean","uniqueItems":false}}}}}}}]}} | {"integers":[0,1]} | 0
+    "versions":[{"name":"v1","schema":{"openAPIV3Schema":{"type":"object","description":"A widget.",
+    "properties":{"apiVersion":{"type":"string"},"kind":{"type":"string"},"metadata":{"type":"object"},
+    "spec":{"type":"object","title":"What is wanted","properties":{"a":{"type":"integer","format":"int64","example":7},
+    "b":{"type":"boolean","uniqueItems":false}}}}}}}]}} | {"integers":[0,1]} | 0
     > @TEN_LINES
     ! crdx: end
-a required name that is a number | crdx sample crd.json v1 | {"apiVersion":"apiextensions.k8s.io/v1","kind":"CustomResourceDefinition",
-    "spec":{"group":"example.org","names":{"kind":"Widget"},"versions":[{"name":"v1","schema":{"openAPIV3Schema":{"type":"object",
-    "properties":{"a":{"type":"string","required":[1]}}}}}]}} | {"integers":[0,1]} | 3
+a required name that is a number | crdx sample crd.json v1
+    | {"apiVersion":"apiextensions.k8s.io/v1","kind":"CustomResourceDefinition","spec":{"group":"example.org","names":{"kind":"Widget"},
+    "versions":[{"name":"v1","schema":{"openAPIV3Schema":{"type":"object","properties":{"a":{"type":"string","required":[1]}}}}}]}}
+    | {"integers":[0,1]} | 3
     ! crdx: crd: S3 "/properties/a/required/0"
-five keys of a map list | crdx sample crd.json v1 | {"apiVersion":"apiextensions.k8s.io/v1","kind":"CustomResourceDefinition",
-    "spec":{"group":"example.org","names":{"kind":"Widget"},"versions":[{"name":"v1","schema":{"openAPIV3Schema":{"type":"object",
-    "properties":{"a":{"x-kubernetes-list-map-keys":["a","b","c","d","e"]}}}}}]}} | {"integers":[0,1]} | 3
+five keys of a map list | crdx sample crd.json v1
+    | {"apiVersion":"apiextensions.k8s.io/v1","kind":"CustomResourceDefinition","spec":{"group":"example.org","names":{"kind":"Widget"},
+    "versions":[{"name":"v1","schema":{"openAPIV3Schema":{"type":"object","properties":{"a":{"x-kubernetes-list-map-keys":["a","b","c","d",
+    "e"]}}}}}]}} | {"integers":[0,1]} | 3
     ! crdx: crd: S4 "/properties/a/x-kubernetes-list-map-keys"
-a name with a quote and a slash | crdx sample crd.json v1 --pools pools.json | {"apiVersion":"apiextensions.k8s.io/v1",
-    "kind":"CustomResourceDefinition","spec":{"group":"example.org","names":{"kind":"Widget"},"versions":[{"name":"v1",
-    "schema":{"openAPIV3Schema":{"type":"object","properties":{"a\"/~é":{"type":"string"}}}}}]}} | {"strings":["b","a","b"]} | 0
+a name with a quote and a slash | crdx sample crd.json v1 --pools pools.json
+    | {"apiVersion":"apiextensions.k8s.io/v1","kind":"CustomResourceDefinition","spec":{"group":"example.org","names":{"kind":"Widget"},
+    "versions":[{"name":"v1","schema":{"openAPIV3Schema":{"type":"object","properties":{"a\"/~é":{"type":"string"}}}}}]}}
+    | {"strings":["b","a","b"]} | 0
     > {}
     > {"a\"/~é":"a"}
     > {"a\"/~é":"b"}
@@ -108,12 +115,14 @@ a name | crdx sample crd.json v1 --pools pools.json --limit 4 --count 2 --name w
     ! crdx: more
 a named sample to go on from
     | crdx sample crd.json v1 --pools pools.json --limit 4 --count 1 --name w
-    + ␠--after {"apiVersion":"example.org/v1","kind":"Widget","metadata":{"name":"w"},"spec":{}} | @WIDGET | {"integers":[0,1]} | 0
+    ␠--after {"apiVersion":"example.org/v1","kind":"Widget","metadata":{"name":"w"},"spec":{}} | @WIDGET
+    | {"integers":[0,1]} | 0
     > {"apiVersion":"example.org/v1","kind":"Widget","metadata":{"name":"w"},"spec":{"b":false}}
     ! crdx: more
 a sample to go on from with an envelope of another kind
     | crdx sample crd.json v1 --pools pools.json --limit 4 --count 1 --name w
-    + ␠--after {"apiVersion":"example.org/v1","kind":"Other","metadata":{"name":"w"},"spec":{}} | @WIDGET | {"integers":[0,1]} | 0
+    ␠--after {"apiVersion":"example.org/v1","kind":"Other","metadata":{"name":"w"},"spec":{}} | @WIDGET
+    | {"integers":[0,1]} | 0
     > {"apiVersion":"example.org/v1","kind":"Widget","metadata":{"name":"w"},"spec":{"b":false}}
     ! crdx: more
 a sample to go on from | crdx sample crd.json v1 --pools pools.json --limit 4 --after {"spec":{"b":false}} | @WIDGET | {"integers":[0,1]} | 0

@@ -28,7 +28,8 @@ lengths in characters, and a text that is left out
     > F06 "/l/2"
 a longest text | {"type":"object","properties":{"l":{"type":"array","items":{"type":"string","maxLength":2}}}} | {"l":["éé","abc"]}
     > F07 "/l/1"
-exclusive bounds | {"type":"object","properties":{"l":{"type":"array","items":{"type":"integer","minimum":3,"exclusiveMinimum":true,"maximum":5,
+exclusive bounds
+    | {"type":"object","properties":{"l":{"type":"array","items":{"type":"integer","minimum":3,"exclusiveMinimum":true,"maximum":5,
     "exclusiveMaximum":true}}}} | {"l":[3,4,5]}
     > F04 "/l/0"
     > F05 "/l/2"
@@ -49,9 +50,10 @@ junctors three deep
 a branch without keywords | {"type":"object","properties":{"l":{"type":"array","items":{"type":"string","oneOf":[{},{"minLength":2}]}}}}
     | {"l":["","ab"]}
     > F14 "/l/1"
-the int-or-string pattern, and a bound after it | {"type":"object","properties":{"l":{"type":"array","items":{"x-kubernetes-int-or-string":true,
-    "anyOf":[{"type":"integer"},{"type":"string"}]}},"m":{"type":"array","items":{"x-kubernetes-int-or-string":true,
-    "allOf":[{"anyOf":[{"type":"integer"},{"type":"string"}]},{"minimum":1}]}}}} | {"l":[1,"1",true],"m":[0,1,"0"]}
+the int-or-string pattern, and a bound after it
+    | {"type":"object","properties":{"l":{"type":"array","items":{"x-kubernetes-int-or-string":true,"anyOf":[{"type":"integer"},{"type":"string"}]}},
+    "m":{"type":"array","items":{"x-kubernetes-int-or-string":true,"allOf":[{"anyOf":[{"type":"integer"},{"type":"string"}]},{"minimum":1}]}}}}
+    | {"l":[1,"1",true],"m":[0,1,"0"]}
     > F01 "/l/2"
     > F14 "/m/0"
 "#;
@@ -59,20 +61,23 @@ the int-or-string pattern, and a bound after it | {"type":"object","properties":
 // Values of other kinds, and numbers of items and members.
 static KINDS: &str = r#"
 8 rows: name | schema | object | out
-values of other kinds | {"type":"object","properties":{"b":{"type":"boolean"},"i":{"type":"integer"},"l":{"type":"array","minItems":1,
-    "items":{"type":"integer"}},"m":{"type":"object","minProperties":1,"additionalProperties":{"type":"integer"}},"o":{"type":"object",
-    "required":["a"],"properties":{"a":{"type":"integer"}}},"p":{"x-kubernetes-int-or-string":true},"s":{"type":"string","minLength":9}}}
-    | {"b":0,"i":"0","l":{},"m":[],"o":"","p":false,"s":[null]} | F01 "/b"
+values of other kinds
+    | {"type":"object","properties":{"b":{"type":"boolean"},"i":{"type":"integer"},"l":{"type":"array","minItems":1,"items":{"type":"integer"}},
+    "m":{"type":"object","minProperties":1,"additionalProperties":{"type":"integer"}},
+    "o":{"type":"object","required":["a"],"properties":{"a":{"type":"integer"}}},"p":{"x-kubernetes-int-or-string":true},
+    "s":{"type":"string","minLength":9}}} | {"b":0,"i":"0","l":{},"m":[],"o":"","p":false,"s":[null]}
+    | F01 "/b"
     > F01 "/i"
     > F01 "/l"
     > F01 "/m"
     > F01 "/o"
     > F01 "/p"
     > F01 "/s"
-nulls | {"type":"object","properties":{"a":{"type":"integer"},"l":{"type":"array","items":{"type":"string"}},"m":{"type":"object",
-    "additionalProperties":{"type":"string"}},"n":{"type":"object","nullable":true,"required":["a"],"properties":{"a":{"type":"integer"}}},
-    "o":{"type":"object","properties":{"b":{"x-kubernetes-int-or-string":true}}},"x":{"x-kubernetes-preserve-unknown-fields":true},
-    "y":{"x-kubernetes-preserve-unknown-fields":true,"nullable":true}}}
+nulls
+    | {"type":"object","properties":{"a":{"type":"integer"},"l":{"type":"array","items":{"type":"string"}},
+    "m":{"type":"object","additionalProperties":{"type":"string"}},"n":{"type":"object","nullable":true,"required":["a"],
+    "properties":{"a":{"type":"integer"}}},"o":{"type":"object","properties":{"b":{"x-kubernetes-int-or-string":true}}},
+    "x":{"x-kubernetes-preserve-unknown-fields":true},"y":{"x-kubernetes-preserve-unknown-fields":true,"nullable":true}}}
     | {"a":null,"l":[null],"m":{"k":null},"n":null,"o":{"b":null},"x":null,"y":null,"z":null} | F02 "/a"
     > F02 "/l/0"
     > F02 "/m/k"
@@ -97,13 +102,16 @@ sets | {"type":"object","properties":{"l":{"type":"array","items":{"type":"array
     | {"l":[[1,2],[1,1],[],[2,1,2,2]]} | F13 "/l/1/1"
     > F13 "/l/3/2"
     > F13 "/l/3/3"
-an atomic list, and a set of an integer and a text | {"type":"object","properties":{"a":{"type":"array","items":{"type":"integer"}},
-    "s":{"type":"array","x-kubernetes-list-type":"set","items":{"x-kubernetes-int-or-string":true}}}} | {"a":[1,1],"s":[1,"1"]} | valid
-two keys of a map list | {"type":"object","properties":{"l":{"type":"array","items":{"type":"array","x-kubernetes-list-type":"map",
-    "x-kubernetes-list-map-keys":["host","port"],"items":{"type":"object","required":["host","port"],"properties":{"host":{"type":"string"},
-    "port":{"type":"integer"}}}}}}} | {"l":[[{"host":"x","port":0},{"host":"x","port":1}],[{"host":"x","port":0},{"host":"x","port":0}]]}
-    | F13 "/l/1/1"
-items of a map list | {"type":"object","properties":{"m":{"type":"array","x-kubernetes-list-type":"map","x-kubernetes-list-map-keys":["k"],
+an atomic list, and a set of an integer and a text
+    | {"type":"object","properties":{"a":{"type":"array","items":{"type":"integer"}},"s":{"type":"array","x-kubernetes-list-type":"set",
+    "items":{"x-kubernetes-int-or-string":true}}}} | {"a":[1,1],"s":[1,"1"]} | valid
+two keys of a map list
+    | {"type":"object","properties":{"l":{"type":"array","items":{"type":"array","x-kubernetes-list-type":"map",
+    "x-kubernetes-list-map-keys":["host","port"],"items":{"type":"object","required":["host","port"],
+    "properties":{"host":{"type":"string"},"port":{"type":"integer"}}}}}}}
+    | {"l":[[{"host":"x","port":0},{"host":"x","port":1}],[{"host":"x","port":0},{"host":"x","port":0}]]} | F13 "/l/1/1"
+items of a map list
+    | {"type":"object","properties":{"m":{"type":"array","x-kubernetes-list-type":"map","x-kubernetes-list-map-keys":["k"],
     "items":{"type":"object","required":["k"],"properties":{"k":{"type":"string"},"v":{"type":"integer"}}}}}}
     | {"m":[{"k":"a"},{"k":"a","v":"q"},{"v":1}]} | F13 "/m/1"
     > F01 "/m/1/v"
@@ -112,8 +120,10 @@ members that are not declared | @MAP_OF_OBJECTS | {"m":{"p":{"a":1,"z":null}},"z
 an absent member that has a default | {"type":"object","required":["f"],"properties":{"f":{"type":"integer","default":7}}} | {} | F12 "/f"
 the envelope alone | {"type":"object","required":["apiVersion","kind","metadata","spec"],"properties":{"spec":{"type":"object"}}}
     | {"apiVersion":"v1","kind":"Widget","metadata":{"name":"w"}} | F12 "/spec"
-an envelope of other values, without its kind | {"type":"object","required":["kind"],"properties":{"apiVersion":{"type":"string","minLength":9},
-    "kind":{"type":"string"},"metadata":{"type":"object","properties":{"name":{"type":"string"}}}}} | {"apiVersion":null,"metadata":7} | valid
+an envelope of other values, without its kind
+    | {"type":"object","required":["kind"],"properties":{"apiVersion":{"type":"string","minLength":9},"kind":{"type":"string"},
+    "metadata":{"type":"object","properties":{"name":{"type":"string"}}}}} | {"apiVersion":null,"metadata":7}
+    | valid
 paths in order, and names with a slash, a quote and a tilde
     | {"type":"object","properties":{"a":{"type":"object","properties":{"b":{"type":"integer"}}},"a-b":{"type":"integer"},"x/\"~":{"type":"integer"}}}
     | {"a":{"b":""},"a-b":"","x/\"~":""} | F01 "/a/b"
@@ -135,8 +145,9 @@ a member that is not declared below a map, and one of the body | @MAP_OF_OBJECTS
 the envelope | {"type":"object","properties":{"spec":{"type":"object","properties":{"apiVersion":{"type":"string"}}}}}
     | {"apiVersion":"v1","kind":"Widget","metadata":{"name":"w"},"spec":{"kind":""}}
     > F15 "/spec/kind"
-an absent default and members that are kept | {"type":"object","properties":{"f":{"type":"integer","default":7},"o":{"type":"object",
-    "x-kubernetes-preserve-unknown-fields":true,"properties":{"a":{"type":"integer"}}}}} | {"kind":7,"o":{"b":1}}
+an absent default and members that are kept
+    | {"type":"object","properties":{"f":{"type":"integer","default":7},"o":{"type":"object","x-kubernetes-preserve-unknown-fields":true,
+    "properties":{"a":{"type":"integer"}}}}} | {"kind":7,"o":{"b":1}}
     > valid
 "#;
 

@@ -22,7 +22,8 @@ rules with reasons and without, and a rule with two
     > V01 "/properties/b"
     > V05 "/properties/c"
     >     "id": NotSupported
-a key with three faults | {"type":"object","properties":{"x":{"type":"array","x-kubernetes-list-type":"map","x-kubernetes-list-map-keys":["k"],
+a key with three faults
+    | {"type":"object","properties":{"x":{"type":"array","x-kubernetes-list-type":"map","x-kubernetes-list-map-keys":["k"],
     "items":{"type":"object","properties":{"k":{"type":"object","nullable":true}}}}}}
     > V11 "/properties/x"
     >     "x-kubernetes-list-map-keys": KeyNotScalar

@@ -8,9 +8,10 @@ use std::test::Fail;
 
 // What the tables name.
 static NAMED: &str = r#"
-@THIRTY_ONE_PROPERTIES | {"properties":{"q":{"properties":{"p0":{},"p1":{},"p2":{},"p3":{},"p4":{},"p5":{},"p6":{},"p7":{},"p8":{},"p9":{},"p10":{},
-    "p11":{},"p12":{},"p13":{},"p14":{},"p15":{},"p16":{},"p17":{},"p18":{},"p19":{},"p20":{},"p21":{},"p22":{},"p23":{},"p24":{},"p25":{},"p26":{},
-    "p27":{},"p28":{},"p29":{},"p30":{},
+@THIRTY_ONE_PROPERTIES
+    | {"properties":{"q":{"properties":{"p0":{},"p1":{},"p2":{},"p3":{},"p4":{},"p5":{},"p6":{},"p7":{},"p8":{},"p9":{},"p10":{},"p11":{},"p12":{},
+    "p13":{},"p14":{},"p15":{},"p16":{},"p17":{},"p18":{},"p19":{},"p20":{},"p21":{},"p22":{},"p23":{},"p24":{},"p25":{},"p26":{},"p27":{},"p28":{},
+    "p29":{},"p30":{},
 "#;
 
 // Forms are judged before limits, and the first limit in path order is named.
@@ -50,7 +51,8 @@ static DEPTHS: &str = r#"
 2 rows: name | depth | wanted
 24 steps | 24 | read
 60 steps | 60
-    | S4 /items/items/items/items/items/items/items/items/items/items/items/items/items/items/items/items/items/items/items/items/items/items/items/items/items
+    | S4 /items/items/items/items/items/items/items/items/items/items/items/items/items/items/items/items/items/items/items/items/items/items
+    /items/items/items
 "#;
 
 /// How deep a schema is, and what is said of it.

@@ -32,21 +32,29 @@ keys of an object | {"type":"object","x-kubernetes-list-map-keys":["k"]} | V11 "
 
 static MAP_LISTS: &str = r#"
 8 rows: name | field | out
-a map list | {"type":"array","x-kubernetes-list-map-keys":["k"],"x-kubernetes-list-type":"map","items":{"type":"object",
-    "properties":{"k":{"type":"string"}},"required":["k"]}} | structural
+a map list
+    | {"type":"array","x-kubernetes-list-map-keys":["k"],"x-kubernetes-list-type":"map",
+    "items":{"type":"object","properties":{"k":{"type":"string"}},"required":["k"]}} | structural
 a map list without keys
     | {"type":"array","x-kubernetes-list-type":"map","items":{"type":"object","properties":{"k":{"type":"string"}},"required":["k"]}}
     | V11 "/properties/x"
-a map list of no keys | {"type":"array","x-kubernetes-list-map-keys":[],"x-kubernetes-list-type":"map","items":{"type":"object",
-    "properties":{"k":{"type":"string"}},"required":["k"]}} | V11 "/properties/x"
-a key that occurs twice | {"type":"array","x-kubernetes-list-map-keys":["k","k"],"x-kubernetes-list-type":"map","items":{"type":"object",
-    "properties":{"k":{"type":"string"}},"required":["k"]}} | V11 "/properties/x"
-two keys | {"type":"array","x-kubernetes-list-map-keys":["l","k"],"x-kubernetes-list-type":"map","items":{"type":"object",
-    "properties":{"k":{"type":"string"},"l":{"type":"integer"}},"required":["k","l"]}} | structural
-two keys, the last not required | {"type":"array","x-kubernetes-list-map-keys":["l","k"],"x-kubernetes-list-type":"map","items":{"type":"object",
-    "properties":{"k":{"type":"string"},"l":{"type":"integer"}},"required":["l"]}} | V11 "/properties/x"
-two keys, the last no property | {"type":"array","x-kubernetes-list-map-keys":["l","k"],"x-kubernetes-list-type":"map","items":{"type":"object",
-    "properties":{"l":{"type":"integer"}},"required":["l"]}} | V11 "/properties/x"
+a map list of no keys
+    | {"type":"array","x-kubernetes-list-map-keys":[],"x-kubernetes-list-type":"map","items":{"type":"object","properties":{"k":{"type":"string"}},
+    "required":["k"]}} | V11 "/properties/x"
+a key that occurs twice
+    | {"type":"array","x-kubernetes-list-map-keys":["k","k"],"x-kubernetes-list-type":"map",
+    "items":{"type":"object","properties":{"k":{"type":"string"}},"required":["k"]}} | V11 "/properties/x"
+two keys
+    | {"type":"array","x-kubernetes-list-map-keys":["l","k"],"x-kubernetes-list-type":"map",
+    "items":{"type":"object","properties":{"k":{"type":"string"},"l":{"type":"integer"}},"required":["k","l"]}}
+    | structural
+two keys, the last not required
+    | {"type":"array","x-kubernetes-list-map-keys":["l","k"],"x-kubernetes-list-type":"map",
+    "items":{"type":"object","properties":{"k":{"type":"string"},"l":{"type":"integer"}},"required":["l"]}}
+    | V11 "/properties/x"
+two keys, the last no property
+    | {"type":"array","x-kubernetes-list-map-keys":["l","k"],"x-kubernetes-list-type":"map",
+    "items":{"type":"object","properties":{"l":{"type":"integer"}},"required":["l"]}} | V11 "/properties/x"
 a map list without items | {"type":"array","x-kubernetes-list-map-keys":["k"],"x-kubernetes-list-type":"map"} | V11 "/properties/x"
     > V17 "/properties/x"
 "#;
@@ -59,45 +67,69 @@ a map list of texts | {"type":"array","x-kubernetes-list-map-keys":["k"],"x-kube
 a map list of any values
     | {"type":"array","x-kubernetes-list-map-keys":["k"],"x-kubernetes-list-type":"map","items":{"x-kubernetes-preserve-unknown-fields":true}}
     | V11 "/properties/x"
-a map list of items without a type | {"type":"array","x-kubernetes-list-map-keys":["k"],"x-kubernetes-list-type":"map",
-    "items":{"properties":{"k":{"type":"string"}},"required":["k"]}} | V11 "/properties/x"
+a map list of items without a type
+    | {"type":"array","x-kubernetes-list-map-keys":["k"],"x-kubernetes-list-type":"map","items":{"properties":{"k":{"type":"string"}},"required":["k"]}}
+    | V11 "/properties/x"
     > V01 "/properties/x/items"
-a map list of maps | {"type":"array","x-kubernetes-list-map-keys":["k"],"x-kubernetes-list-type":"map","items":{"type":"object",
-    "additionalProperties":{"type":"string"}}} | V11 "/properties/x"
-a map list of maps with properties | {"type":"array","x-kubernetes-list-map-keys":["k"],"x-kubernetes-list-type":"map","items":{"type":"object",
-    "additionalProperties":{"type":"string"},"properties":{"k":{"type":"string"}},"required":["k"]}} | V08 "/properties/x/items"
-a map list of objects or null | {"type":"array","x-kubernetes-list-map-keys":["k"],"x-kubernetes-list-type":"map","items":{"type":"object",
-    "nullable":true,"properties":{"k":{"type":"string"}},"required":["k"]}} | V11 "/properties/x"
-a map list of objects and no null | {"type":"array","x-kubernetes-list-map-keys":["k"],"x-kubernetes-list-type":"map","items":{"type":"object",
-    "nullable":false,"properties":{"k":{"type":"string"}},"required":["k"]}} | structural
-a map list of objects with other fields | {"type":"array","x-kubernetes-list-map-keys":["k"],"x-kubernetes-list-type":"map","items":{"type":"object",
-    "x-kubernetes-preserve-unknown-fields":true,"properties":{"k":{"type":"string"}},"required":["k"]}} | structural
+a map list of maps
+    | {"type":"array","x-kubernetes-list-map-keys":["k"],"x-kubernetes-list-type":"map",
+    "items":{"type":"object","additionalProperties":{"type":"string"}}} | V11 "/properties/x"
+a map list of maps with properties
+    | {"type":"array","x-kubernetes-list-map-keys":["k"],"x-kubernetes-list-type":"map",
+    "items":{"type":"object","additionalProperties":{"type":"string"},"properties":{"k":{"type":"string"}},"required":["k"]}}
+    | V08 "/properties/x/items"
+a map list of objects or null
+    | {"type":"array","x-kubernetes-list-map-keys":["k"],"x-kubernetes-list-type":"map",
+    "items":{"type":"object","nullable":true,"properties":{"k":{"type":"string"}},"required":["k"]}}
+    | V11 "/properties/x"
+a map list of objects and no null
+    | {"type":"array","x-kubernetes-list-map-keys":["k"],"x-kubernetes-list-type":"map",
+    "items":{"type":"object","nullable":false,"properties":{"k":{"type":"string"}},"required":["k"]}}
+    | structural
+a map list of objects with other fields
+    | {"type":"array","x-kubernetes-list-map-keys":["k"],"x-kubernetes-list-type":"map",
+    "items":{"type":"object","x-kubernetes-preserve-unknown-fields":true,"properties":{"k":{"type":"string"}},"required":["k"]}}
+    | structural
 "#;
 
 // Keys of map lists.
 static KEYS: &str = r#"
 10 rows: name | field | out
-a key that is no property | {"type":"array","x-kubernetes-list-map-keys":["k"],"x-kubernetes-list-type":"map","items":{"type":"object",
-    "properties":{"l":{"type":"string"}},"required":["l"]}} | V11 "/properties/x"
+a key that is no property
+    | {"type":"array","x-kubernetes-list-map-keys":["k"],"x-kubernetes-list-type":"map",
+    "items":{"type":"object","properties":{"l":{"type":"string"}},"required":["l"]}} | V11 "/properties/x"
 a key of items without properties | {"type":"array","x-kubernetes-list-map-keys":["k"],"x-kubernetes-list-type":"map","items":{"type":"object"}}
     | V11 "/properties/x"
-a key of objects | {"type":"array","x-kubernetes-list-map-keys":["k"],"x-kubernetes-list-type":"map","items":{"type":"object",
-    "properties":{"k":{"type":"object"}},"required":["k"]}} | V11 "/properties/x"
-a key of lists | {"type":"array","x-kubernetes-list-map-keys":["k"],"x-kubernetes-list-type":"map","items":{"type":"object",
-    "properties":{"k":{"type":"array","items":{"type":"string"}}},"required":["k"]}} | V11 "/properties/x"
-a key of any values | {"type":"array","x-kubernetes-list-map-keys":["k"],"x-kubernetes-list-type":"map","items":{"type":"object",
-    "properties":{"k":{"x-kubernetes-preserve-unknown-fields":true}},"required":["k"]}} | V11 "/properties/x"
-a key without a type | {"type":"array","x-kubernetes-list-map-keys":["k"],"x-kubernetes-list-type":"map","items":{"type":"object",
-    "properties":{"k":{}},"required":["k"]}} | V11 "/properties/x"
+a key of objects
+    | {"type":"array","x-kubernetes-list-map-keys":["k"],"x-kubernetes-list-type":"map",
+    "items":{"type":"object","properties":{"k":{"type":"object"}},"required":["k"]}} | V11 "/properties/x"
+a key of lists
+    | {"type":"array","x-kubernetes-list-map-keys":["k"],"x-kubernetes-list-type":"map",
+    "items":{"type":"object","properties":{"k":{"type":"array","items":{"type":"string"}}},"required":["k"]}}
+    | V11 "/properties/x"
+a key of any values
+    | {"type":"array","x-kubernetes-list-map-keys":["k"],"x-kubernetes-list-type":"map",
+    "items":{"type":"object","properties":{"k":{"x-kubernetes-preserve-unknown-fields":true}},"required":["k"]}}
+    | V11 "/properties/x"
+a key without a type
+    | {"type":"array","x-kubernetes-list-map-keys":["k"],"x-kubernetes-list-type":"map","items":{"type":"object","properties":{"k":{}},"required":["k"]}}
+    | V11 "/properties/x"
     > V01 "/properties/x/items/properties/k"
-a key of integers and texts | {"type":"array","x-kubernetes-list-map-keys":["k"],"x-kubernetes-list-type":"map","items":{"type":"object",
-    "properties":{"k":{"x-kubernetes-int-or-string":true}},"required":["k"]}} | structural
-a key of truth values | {"type":"array","x-kubernetes-list-map-keys":["k"],"x-kubernetes-list-type":"map","items":{"type":"object",
-    "properties":{"k":{"type":"boolean","nullable":false}},"required":["k"]}} | structural
-a key of texts or null | {"type":"array","x-kubernetes-list-map-keys":["k"],"x-kubernetes-list-type":"map","items":{"type":"object",
-    "properties":{"k":{"type":"string","nullable":true}},"required":["k"]}} | V11 "/properties/x"
-a key that is not required | {"type":"array","x-kubernetes-list-map-keys":["k"],"x-kubernetes-list-type":"map","items":{"type":"object",
-    "properties":{"k":{"type":"string"}}}} | V11 "/properties/x"
+a key of integers and texts
+    | {"type":"array","x-kubernetes-list-map-keys":["k"],"x-kubernetes-list-type":"map",
+    "items":{"type":"object","properties":{"k":{"x-kubernetes-int-or-string":true}},"required":["k"]}}
+    | structural
+a key of truth values
+    | {"type":"array","x-kubernetes-list-map-keys":["k"],"x-kubernetes-list-type":"map",
+    "items":{"type":"object","properties":{"k":{"type":"boolean","nullable":false}},"required":["k"]}}
+    | structural
+a key of texts or null
+    | {"type":"array","x-kubernetes-list-map-keys":["k"],"x-kubernetes-list-type":"map",
+    "items":{"type":"object","properties":{"k":{"type":"string","nullable":true}},"required":["k"]}}
+    | V11 "/properties/x"
+a key that is not required
+    | {"type":"array","x-kubernetes-list-map-keys":["k"],"x-kubernetes-list-type":"map","items":{"type":"object","properties":{"k":{"type":"string"}}}}
+    | V11 "/properties/x"
 "#;
 
 static SETS: &str = r#"
@@ -121,7 +153,8 @@ an atomic list of texts or null | {"type":"array","x-kubernetes-list-type":"atom
 // Whole schemas, in place of those of a field.
 static MAP_TYPES: &str = r#"
 8 rows: name | schema | out
-map types | {"type":"object","x-kubernetes-map-type":"granular","properties":{"m":{"type":"object","additionalProperties":{"type":"string"},
+map types
+    | {"type":"object","x-kubernetes-map-type":"granular","properties":{"m":{"type":"object","additionalProperties":{"type":"string"},
     "x-kubernetes-map-type":"atomic"}}} | structural
 a map type of a list | {"type":"object","properties":{"x":{"type":"array","items":{"type":"string"},"x-kubernetes-map-type":"atomic"}}}
     | V13 "/properties/x"
@@ -133,7 +166,8 @@ a map type without a type | {"type":"object","properties":{"x":{"x-kubernetes-ma
 another map type | {"type":"object","properties":{"x":{"type":"object","x-kubernetes-map-type":"set"}}} | V13 "/properties/x"
 an empty map type of a map
     | {"type":"object","properties":{"x":{"type":"object","additionalProperties":{"type":"string"},"x-kubernetes-map-type":""}}} | V13 "/properties/x"
-markers in a branch | {"type":"object","properties":{"x":{"type":"string","not":{"x-kubernetes-list-type":"list","x-kubernetes-list-map-keys":["k"],
+markers in a branch
+    | {"type":"object","properties":{"x":{"type":"string","not":{"x-kubernetes-list-type":"list","x-kubernetes-list-map-keys":["k"],
     "x-kubernetes-map-type":"set"}}}} | V16 "/properties/x/not"
 "#;
 

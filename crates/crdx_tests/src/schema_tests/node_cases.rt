@@ -45,8 +45,10 @@ an object with its markers
 a map | {"type":"object","additionalProperties":{"type":"string"},"x-kubernetes-map-type":"granular","maxProperties":3} | map of=string most=3
 a map of lists | {"type":"object","additionalProperties":{"type":"array","items":{"type":"integer"}},"x-kubernetes-map-type":"atomic"}
     | map of=list atomic
-a map list | {"type":"array","items":{"type":"object","properties":{"k":{"type":"string"},"l":{"type":"integer"}},"required":["k","l"]},
-    "x-kubernetes-list-type":"map","x-kubernetes-list-map-keys":["l","k"],"minItems":0,"maxItems":3} | list of=object map key=l key=k least=0 most=3
+a map list
+    | {"type":"array","items":{"type":"object","properties":{"k":{"type":"string"},"l":{"type":"integer"}},"required":["k","l"]},
+    "x-kubernetes-list-type":"map","x-kubernetes-list-map-keys":["l","k"],"minItems":0,"maxItems":3}
+    | list of=object map key=l key=k least=0 most=3
 a set | {"type":"array","items":{"type":"string"},"x-kubernetes-list-type":"set"} | list of=string set
 an atomic list | {"type":"array","items":{"x-kubernetes-preserve-unknown-fields":true},"x-kubernetes-list-type":"atomic"} | list of=open
 any value | {"x-kubernetes-preserve-unknown-fields":true,"nullable":true} | open nullable
@@ -57,8 +59,9 @@ no type | {} | violations
 
 static ROOTS: &str = r#"
 6 rows: name | schema | wanted
-an envelope | {"type":"object","required":["kind","spec"],"properties":{"apiVersion":{"type":"string"},"kind":{"type":"string"},
-    "metadata":{"type":"object"},"spec":{"type":"object"},"status":{"type":"boolean"}}} | object spec=object required status=boolean
+an envelope
+    | {"type":"object","required":["kind","spec"],"properties":{"apiVersion":{"type":"string"},"kind":{"type":"string"},"metadata":{"type":"object"},
+    "spec":{"type":"object"},"status":{"type":"boolean"}}} | object spec=object required status=boolean
 a required envelope, and a field of the same name below
     | {"type":"object","required":["metadata"],"properties":{"spec":{"type":"object","properties":{"kind":{"type":"string"}}}}} | object spec=object
 a description and markers | {"type":"object","description":"a widget","x-kubernetes-map-type":"atomic","x-kubernetes-preserve-unknown-fields":true}

@@ -9,30 +9,42 @@ use std::test::Fail;
 // What is wanted: the group, the kind, the version and the schema that are read, or the fault.
 static DEFINITIONS: &str = r#"
 13 rows: name | document | wanted
-the second of two versions | {"apiVersion":"apiextensions.k8s.io/v1","kind":"CustomResourceDefinition","spec":{"group":"example.com",
-    "names":{"kind":"Widget"},"versions":[{"name":"v0"},{"name":"v1","schema":{"openAPIV3Schema":{"type":"object"}}}]}}
+the second of two versions
+    | {"apiVersion":"apiextensions.k8s.io/v1","kind":"CustomResourceDefinition","spec":{"group":"example.com","names":{"kind":"Widget"},
+    "versions":[{"name":"v0"},{"name":"v1","schema":{"openAPIV3Schema":{"type":"object"}}}]}}
     | example.com Widget v1 {"type":"object"}
-another apiVersion | {"apiVersion":"apiextensions.k8s.io/v1beta1","kind":"CustomResourceDefinition","spec":{"group":"example.com",
-    "names":{"kind":"Widget"},"versions":[{"name":"v1","schema":{"openAPIV3Schema":{}}}]}} | S1
-another kind | {"apiVersion":"apiextensions.k8s.io/v1","kind":"CustomResource","spec":{"group":"example.com","names":{"kind":"Widget"},
+another apiVersion
+    | {"apiVersion":"apiextensions.k8s.io/v1beta1","kind":"CustomResourceDefinition","spec":{"group":"example.com","names":{"kind":"Widget"},
     "versions":[{"name":"v1","schema":{"openAPIV3Schema":{}}}]}} | S1
-a name that occurs twice | {"apiVersion":"apiextensions.k8s.io/v1","kind":"CustomResourceDefinition","spec":{"group":"example.com",
-    "names":{"kind":"Widget"},"versions":[{"name":"v1","schema":{"openAPIV3Schema":{}}},{"name":"v0"},{"name":"v1"}]}} | S1
-a version without a name | {"apiVersion":"apiextensions.k8s.io/v1","kind":"CustomResourceDefinition","spec":{"group":"example.com",
-    "names":{"kind":"Widget"},"versions":[{"name":"v1","schema":{"openAPIV3Schema":{}}},{"title":"v2"}]}} | S1
-no group | {"apiVersion":"apiextensions.k8s.io/v1","kind":"CustomResourceDefinition","spec":{"names":{"kind":"Widget"},"versions":[{"name":"v1",
-    "schema":{"openAPIV3Schema":{}}}]}} | S1
-an empty group | {"apiVersion":"apiextensions.k8s.io/v1","kind":"CustomResourceDefinition","spec":{"group":"","names":{"kind":"Widget"},
+another kind
+    | {"apiVersion":"apiextensions.k8s.io/v1","kind":"CustomResource","spec":{"group":"example.com","names":{"kind":"Widget"},
     "versions":[{"name":"v1","schema":{"openAPIV3Schema":{}}}]}} | S1
-an empty kind | {"apiVersion":"apiextensions.k8s.io/v1","kind":"CustomResourceDefinition","spec":{"group":"example.com","names":{"kind":""},
+a name that occurs twice
+    | {"apiVersion":"apiextensions.k8s.io/v1","kind":"CustomResourceDefinition","spec":{"group":"example.com","names":{"kind":"Widget"},
+    "versions":[{"name":"v1","schema":{"openAPIV3Schema":{}}},{"name":"v0"},{"name":"v1"}]}} | S1
+a version without a name
+    | {"apiVersion":"apiextensions.k8s.io/v1","kind":"CustomResourceDefinition","spec":{"group":"example.com","names":{"kind":"Widget"},
+    "versions":[{"name":"v1","schema":{"openAPIV3Schema":{}}},{"title":"v2"}]}} | S1
+no group
+    | {"apiVersion":"apiextensions.k8s.io/v1","kind":"CustomResourceDefinition","spec":{"names":{"kind":"Widget"},
     "versions":[{"name":"v1","schema":{"openAPIV3Schema":{}}}]}} | S1
-no such version | {"apiVersion":"apiextensions.k8s.io/v1","kind":"CustomResourceDefinition","spec":{"group":"example.com","names":{"kind":"Widget"},
+an empty group
+    | {"apiVersion":"apiextensions.k8s.io/v1","kind":"CustomResourceDefinition","spec":{"group":"","names":{"kind":"Widget"},
+    "versions":[{"name":"v1","schema":{"openAPIV3Schema":{}}}]}} | S1
+an empty kind
+    | {"apiVersion":"apiextensions.k8s.io/v1","kind":"CustomResourceDefinition","spec":{"group":"example.com","names":{"kind":""},
+    "versions":[{"name":"v1","schema":{"openAPIV3Schema":{}}}]}} | S1
+no such version
+    | {"apiVersion":"apiextensions.k8s.io/v1","kind":"CustomResourceDefinition","spec":{"group":"example.com","names":{"kind":"Widget"},
     "versions":[{"name":"v2","schema":{"openAPIV3Schema":{}}}]}} | S2
-no such version, and a name that occurs twice | {"apiVersion":"apiextensions.k8s.io/v1","kind":"CustomResourceDefinition",
-    "spec":{"group":"example.com","names":{"kind":"Widget"},"versions":[{"name":"v2"},{"name":"v2"}]}} | S1
-a schema that is a list | {"apiVersion":"apiextensions.k8s.io/v1","kind":"CustomResourceDefinition","spec":{"group":"example.com",
-    "names":{"kind":"Widget"},"versions":[{"name":"v1","schema":{"openAPIV3Schema":[]}}]}} | S1
-no schema | {"apiVersion":"apiextensions.k8s.io/v1","kind":"CustomResourceDefinition","spec":{"group":"example.com","names":{"kind":"Widget"},
+no such version, and a name that occurs twice
+    | {"apiVersion":"apiextensions.k8s.io/v1","kind":"CustomResourceDefinition","spec":{"group":"example.com","names":{"kind":"Widget"},
+    "versions":[{"name":"v2"},{"name":"v2"}]}} | S1
+a schema that is a list
+    | {"apiVersion":"apiextensions.k8s.io/v1","kind":"CustomResourceDefinition","spec":{"group":"example.com","names":{"kind":"Widget"},
+    "versions":[{"name":"v1","schema":{"openAPIV3Schema":[]}}]}} | S1
+no schema
+    | {"apiVersion":"apiextensions.k8s.io/v1","kind":"CustomResourceDefinition","spec":{"group":"example.com","names":{"kind":"Widget"},
     "versions":[{"name":"v1"}]}} | S1
 a list | [] | S1
 "#;
@@ -75,7 +87,8 @@ fn definitions(rt: HostRuntime) -> Result<(), Fail> {
 static FORMS: &str = r#"
 6 rows: name | schema | wanted
 texts | {"type":"x","description":"x","title":"x","format":"x","x-kubernetes-list-type":"x","x-kubernetes-map-type":"x"} | read
-truth values | {"nullable":true,"uniqueItems":false,"exclusiveMinimum":true,"exclusiveMaximum":true,"x-kubernetes-int-or-string":true,
+truth values
+    | {"nullable":true,"uniqueItems":false,"exclusiveMinimum":true,"exclusiveMaximum":true,"x-kubernetes-int-or-string":true,
     "x-kubernetes-preserve-unknown-fields":true} | read
 schemas | {"properties":{},"additionalProperties":true,"items":{},"not":{},"allOf":[{}],"anyOf":[{}],"oneOf":[{}]} | read
 lists and numbers | {"required":[],"x-kubernetes-list-map-keys":["a"],"enum":[],"minimum":-1,"maximum":-1} | read

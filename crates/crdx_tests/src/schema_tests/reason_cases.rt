@@ -62,15 +62,21 @@ a map list without keys | {"type":"object","properties":{"x":{"type":"array","x-
 a map list without items | {"type":"object","properties":{"x":{"type":"array","x-kubernetes-list-type":"map","x-kubernetes-list-map-keys":["k"]}}}
     | V11 "/properties/x" x-kubernetes-list-type NoItems
     > V17 "/properties/x" type NoItems
-a map list of texts | {"type":"object","properties":{"x":{"type":"array","x-kubernetes-list-type":"map","x-kubernetes-list-map-keys":["k"],
-    "items":{"type":"string"}}}} | V11 "/properties/x" items ItemsNotObjects
+a map list of texts
+    | {"type":"object","properties":{"x":{"type":"array","x-kubernetes-list-type":"map","x-kubernetes-list-map-keys":["k"],"items":{"type":"string"}}}}
+    | V11 "/properties/x" items ItemsNotObjects
     > V11 "/properties/x" x-kubernetes-list-map-keys UndeclaredKey
-a map list of objects and null | {"type":"object","properties":{"x":{"type":"array","x-kubernetes-list-type":"map","x-kubernetes-list-map-keys":["k"],
-    "items":{"type":"object","nullable":true,"required":["k"],"properties":{"k":{"type":"string"}}}}}} | V11 "/properties/x" items NullableItems
-a key that is listed twice | {"type":"object","properties":{"x":{"type":"array","x-kubernetes-list-type":"map","x-kubernetes-list-map-keys":["k","k"],
-    "items":{"type":"object","required":["k"],"properties":{"k":{"type":"string"}}}}}} | V11 "/properties/x" x-kubernetes-list-map-keys RepeatedKey
-a key with every fault of its field | {"type":"object","properties":{"x":{"type":"array","x-kubernetes-list-type":"map",
-    "x-kubernetes-list-map-keys":["k"],"items":{"type":"object","properties":{"k":{"type":"object","nullable":true}}}}}}
+a map list of objects and null
+    | {"type":"object","properties":{"x":{"type":"array","x-kubernetes-list-type":"map","x-kubernetes-list-map-keys":["k"],
+    "items":{"type":"object","nullable":true,"required":["k"],"properties":{"k":{"type":"string"}}}}}}
+    | V11 "/properties/x" items NullableItems
+a key that is listed twice
+    | {"type":"object","properties":{"x":{"type":"array","x-kubernetes-list-type":"map","x-kubernetes-list-map-keys":["k","k"],
+    "items":{"type":"object","required":["k"],"properties":{"k":{"type":"string"}}}}}}
+    | V11 "/properties/x" x-kubernetes-list-map-keys RepeatedKey
+a key with every fault of its field
+    | {"type":"object","properties":{"x":{"type":"array","x-kubernetes-list-type":"map","x-kubernetes-list-map-keys":["k"],
+    "items":{"type":"object","properties":{"k":{"type":"object","nullable":true}}}}}}
     | V11 "/properties/x" x-kubernetes-list-map-keys KeyNotScalar
     > V11 "/properties/x" x-kubernetes-list-map-keys NullableKey
     > V11 "/properties/x" x-kubernetes-list-map-keys OptionalKey
@@ -93,8 +99,9 @@ a branch of a scalar that asks for a field | {"type":"object","properties":{"x":
 a branch of an object with a bound
     | {"type":"object","properties":{"x":{"type":"object","properties":{"a":{"type":"string"}},"not":{"required":["a"],"minimum":1}}}}
     | V16 "/properties/x/not" minimum NotInPresenceBranches
-five named fields | {"type":"object","properties":{"x":{"type":"object","properties":{"a":{"type":"boolean"},"b":{"type":"boolean"},
-    "c":{"type":"boolean"},"d":{"type":"boolean"},"e":{"type":"boolean"}},"anyOf":[{"required":["a","b","c","d","e"]}]}}}
+five named fields
+    | {"type":"object","properties":{"x":{"type":"object","properties":{"a":{"type":"boolean"},"b":{"type":"boolean"},"c":{"type":"boolean"},
+    "d":{"type":"boolean"},"e":{"type":"boolean"}},"anyOf":[{"required":["a","b","c","d","e"]}]}}}
     | V16 "/properties/x" anyOf TooManyNames
 an empty enum in a branch | {"type":"object","properties":{"x":{"type":"integer","not":{"enum":[]}}}} | V16 "/properties/x/not" enum EmptyEnum
 null in the enum of a branch | {"type":"object","properties":{"x":{"type":"integer","not":{"enum":[null]}}}}

@@ -35,18 +35,19 @@ a default above another | @TWO_DEFAULTS | structural
 a default with a member that is not declared
     | {"type":"object","properties":{"spec":{"type":"object","default":{"z":1},"properties":{"f":{"type":"integer","default":7}}}}}
     | V14 "/properties/spec"
-members that are not declared, and are kept, above one that is pruned | {"type":"object","properties":{"o":{"type":"object",
-    "x-kubernetes-preserve-unknown-fields":true,"default":{"z":null}},"p":{"type":"object","x-kubernetes-preserve-unknown-fields":true,
-    "default":{"a":{"z":1}},"properties":{"a":{"type":"object"}}}}} | V14 "/properties/p"
+members that are not declared, and are kept, above one that is pruned
+    | {"type":"object","properties":{"o":{"type":"object","x-kubernetes-preserve-unknown-fields":true,"default":{"z":null}},
+    "p":{"type":"object","x-kubernetes-preserve-unknown-fields":true,"default":{"a":{"z":1}},"properties":{"a":{"type":"object"}}}}}
+    | V14 "/properties/p"
 a default that is valid once it is completed
     | {"type":"object","properties":{"spec":{"type":"object","default":{},"required":["f"],"properties":{"f":{"type":"integer","default":7}}}}}
     | structural
 a default that is valid until it is completed
     | {"type":"object","properties":{"spec":{"type":"object","default":{},"maxProperties":0,"properties":{"f":{"type":"integer","default":7}}}}}
     | V14 "/properties/spec"
-items that repeat one another once they are completed | {"type":"object","properties":{"m":{"type":"array","x-kubernetes-list-type":"map",
-    "x-kubernetes-list-map-keys":["k"],"default":[{},{"k":"x"}],"items":{"type":"object","properties":{"k":{"type":"string","default":"x"}}}}}}
-    | V14 "/properties/m"
+items that repeat one another once they are completed
+    | {"type":"object","properties":{"m":{"type":"array","x-kubernetes-list-type":"map","x-kubernetes-list-map-keys":["k"],"default":[{},{"k":"x"}],
+    "items":{"type":"object","properties":{"k":{"type":"string","default":"x"}}}}}} | V14 "/properties/m"
 a default that is completed by a bad one
     | {"type":"object","properties":{"spec":{"type":"object","default":{},"properties":{"f":{"type":"integer","maximum":6,"default":7}}}}}
     | V14 "/properties/spec"
@@ -54,16 +55,19 @@ a default that is completed by a bad one
 a default that leaves no place for a bad one
     | {"type":"object","properties":{"spec":{"type":"object","default":{"f":1},"properties":{"f":{"type":"integer","maximum":6,"default":7}}}}}
     | V14 "/properties/spec/properties/f"
-below the values of a map, and below items | {"type":"object","properties":{"l":{"type":"array","items":{"type":"object",
-    "properties":{"kind":{"type":"string","default":"x"},"name":{"type":"string","default":1}}}},"m":{"type":"object",
-    "additionalProperties":{"type":"object","properties":{"b":{"type":"boolean","default":"true"}}}}}} | V14 "/properties/l/items/properties/name"
+below the values of a map, and below items
+    | {"type":"object","properties":{"l":{"type":"array","items":{"type":"object","properties":{"kind":{"type":"string","default":"x"},
+    "name":{"type":"string","default":1}}}},"m":{"type":"object","additionalProperties":{"type":"object",
+    "properties":{"b":{"type":"boolean","default":"true"}}}}}} | V14 "/properties/l/items/properties/name"
     > V14 "/properties/m/additionalProperties/properties/b"
-places in path order | {"type":"object","properties":{"spec-b":{"type":"string","default":1},"spec":{"type":"object",
-    "properties":{"z":{"type":"string","default":1}}}}} | V14 "/properties/spec/properties/z"
+places in path order
+    | {"type":"object","properties":{"spec-b":{"type":"string","default":1},"spec":{"type":"object","properties":{"z":{"type":"string","default":1}}}}}
+    | V14 "/properties/spec/properties/z"
     > V14 "/properties/spec-b"
-a bad default of a key of a map list | {"type":"object","properties":{"m":{"type":"array","x-kubernetes-list-type":"map",
-    "x-kubernetes-list-map-keys":["k","l"],"items":{"type":"object","properties":{"k":{"type":"string","default":"x"},"l":{"type":"integer",
-    "default":"x"}}}}}} | V14 "/properties/m/items/properties/l"
+a bad default of a key of a map list
+    | {"type":"object","properties":{"m":{"type":"array","x-kubernetes-list-type":"map","x-kubernetes-list-map-keys":["k","l"],
+    "items":{"type":"object","properties":{"k":{"type":"string","default":"x"},"l":{"type":"integer","default":"x"}}}}}}
+    | V14 "/properties/m/items/properties/l"
 a bad default beside a keyword outside the profile | {"type":"object","properties":{"n":{"type":"integer","pattern":"x","default":"x"}}}
     | V17 "/properties/n"
 "#;

@@ -14,21 +14,26 @@ static OBJECTS: &str = r#"
 a default below an object without one
     | {"type":"object","properties":{"spec":{"type":"object","properties":{"f":{"type":"integer","default":7}}},"a":{"type":"integer","default":1}}}
     | {} | {} | {"a":1} | -
-a null that the values of a map accept | {"type":"object","properties":{"m":{"type":"object","additionalProperties":{"type":"object","nullable":true,
-    "properties":{"f":{"type":"integer","default":7}}}}}} | {"m":{"a":null,"b":{"z":1}}} | {"m":{"a":null,"b":{}}} | {"m":{"a":null,"b":{"f":7}}} | -
-objects in a list of lists | {"type":"object","properties":{"l":{"type":"array","items":{"type":"array","items":{"type":"object",
-    "properties":{"a":{"type":"integer","default":0}}}}}}} | {"l":[[{"a":1,"z":1},{"z":1}],[],[7]]} | {"l":[[{"a":1},{}],[],[7]]}
-    | {"l":[[{"a":1},{"a":0}],[],[7]]} | 1 /l/2/0
+a null that the values of a map accept
+    | {"type":"object","properties":{"m":{"type":"object","additionalProperties":{"type":"object","nullable":true,
+    "properties":{"f":{"type":"integer","default":7}}}}}} | {"m":{"a":null,"b":{"z":1}}}
+    | {"m":{"a":null,"b":{}}} | {"m":{"a":null,"b":{"f":7}}} | -
+objects in a list of lists
+    | {"type":"object","properties":{"l":{"type":"array","items":{"type":"array","items":{"type":"object",
+    "properties":{"a":{"type":"integer","default":0}}}}}}} | {"l":[[{"a":1,"z":1},{"z":1}],[],[7]]}
+    | {"l":[[{"a":1},{}],[],[7]]} | {"l":[[{"a":1},{"a":0}],[],[7]]} | 1 /l/2/0
 any value | {"type":"object","properties":{"x":{"x-kubernetes-preserve-unknown-fields":true}}} | {"x":{"a":[null,{"b":null}]},"y":1}
     | {"x":{"a":[null,{"b":null}]}} | {"x":{"a":[null,{"b":null}]}} | -
-names between, before and after the fields | {"type":"object","properties":{"spec":{"type":"object","x-kubernetes-preserve-unknown-fields":true,
+names between, before and after the fields
+    | {"type":"object","properties":{"spec":{"type":"object","x-kubernetes-preserve-unknown-fields":true,
     "properties":{"b":{"type":"integer","default":2},"d":{"type":"integer","default":4},"f":{"type":"integer"}}}}}
     | {"spec":{"a":0,"c":0,"d":null,"e":0,"f":null,"g":0}} | {"spec":{"a":0,"c":0,"d":null,"e":0,"f":null,"g":0}}
     | {"spec":{"a":0,"b":2,"c":0,"d":4,"e":0,"g":0}} | 2 /spec/d
     > 2 /spec/f
-all that is asked of a text, and of an integer | {"type":"object","properties":{"i":{"type":"integer","enum":[5],"minimum":2,"maximum":0,"not":{}},
-    "s":{"type":"string","enum":["x"],"minLength":3,"maxLength":1,"anyOf":[{"minLength":3}]}}} | {"i":1,"s":"ab"} | {"i":1,"s":"ab"}
-    | {"i":1,"s":"ab"} | 3 /i
+all that is asked of a text, and of an integer
+    | {"type":"object","properties":{"i":{"type":"integer","enum":[5],"minimum":2,"maximum":0,"not":{}},
+    "s":{"type":"string","enum":["x"],"minLength":3,"maxLength":1,"anyOf":[{"minLength":3}]}}}
+    | {"i":1,"s":"ab"} | {"i":1,"s":"ab"} | {"i":1,"s":"ab"} | 3 /i
     > 4 /i
     > 5 /i
     > 14 /i
@@ -40,9 +45,10 @@ all that is asked of a text, and of an integer | {"type":"object","properties":{
 
 static ITEMS_AND_NAMES: &str = r#"
 6 rows: name | schema | object | pruned | completed
-items of a set that are of no kind that it takes, and that repeat others | {"type":"object","properties":{"s":{"type":"array",
-    "x-kubernetes-list-type":"set","minItems":9,"maxItems":1,"items":{"type":"integer","maximum":5,"not":{"minimum":7}}}}}
-    | {"s":[8,null,8,null,"x",8]} | {"s":[8,null,8,null,"x",8]} | {"s":[8,null,8,null,"x",8]}
+items of a set that are of no kind that it takes, and that repeat others
+    | {"type":"object","properties":{"s":{"type":"array","x-kubernetes-list-type":"set","minItems":9,"maxItems":1,
+    "items":{"type":"integer","maximum":5,"not":{"minimum":7}}}}} | {"s":[8,null,8,null,"x",8]}
+    | {"s":[8,null,8,null,"x",8]} | {"s":[8,null,8,null,"x",8]}
     > 8 /s
     > 9 /s
     > 5 /s/0
@@ -57,19 +63,25 @@ items of a set that are of no kind that it takes, and that repeat others | {"typ
     > 5 /s/5
     > 13 /s/5
     > 14 /s/5
-items that ascend, and items in any order | {"type":"object","properties":{"ascending":{"type":"array","x-kubernetes-list-type":"map",
-    "x-kubernetes-list-map-keys":["k","l"],"items":{"type":"object","required":["k","l"],"properties":{"k":{"type":"string"},
-    "l":{"type":"integer"}}}},"descending":{"type":"array","x-kubernetes-list-type":"set","items":{"type":"integer"}},"far":{"type":"array",
-    "x-kubernetes-list-type":"set","items":{"type":"integer"}},"keyless":{"type":"array","x-kubernetes-list-type":"map",
-    "x-kubernetes-list-map-keys":["k","l"],"items":{"type":"object","required":["k","l"],"properties":{"k":{"type":"string"},
-    "l":{"type":"integer"}}}},"near":{"type":"array","x-kubernetes-list-type":"set","items":{"type":"integer"}},"pairs":{"type":"array",
-    "x-kubernetes-list-type":"map","x-kubernetes-list-map-keys":["k","l"],"items":{"type":"object","required":["k","l"],
-    "properties":{"k":{"type":"string"},"l":{"type":"integer"}}}}}} | {"ascending":[{"k":"a","l":1},{"k":"a","l":2},{"k":"b","l":1}],"descending":[3,
-    2,1],"far":[2,1,2,3,1,2],"keyless":[{"k":"a","l":1},1,1,null,{"k":"b","l":1},{"k":"a","l":1}],"near":[1,2,2,3],"pairs":[{"k":"b","l":1},{"k":"a",
-    "l":2},{"k":"a","l":1},{"k":"a","l":2}]} | {"ascending":[{"k":"a","l":1},{"k":"a","l":2},{"k":"b","l":1}],"descending":[3,2,1],"far":[2,1,2,3,1,
-    2],"keyless":[{"k":"a","l":1},1,1,null,{"k":"b","l":1},{"k":"a","l":1}],"near":[1,2,2,3],"pairs":[{"k":"b","l":1},{"k":"a","l":2},{"k":"a","l":1},
-    {"k":"a","l":2}]} | {"ascending":[{"k":"a","l":1},{"k":"a","l":2},{"k":"b","l":1}],"descending":[3,2,1],"far":[2,1,2,3,1,2],"keyless":[{"k":"a",
-    "l":1},1,1,null,{"k":"b","l":1},{"k":"a","l":1}],"near":[1,2,2,3],"pairs":[{"k":"b","l":1},{"k":"a","l":2},{"k":"a","l":1},{"k":"a","l":2}]}
+items that ascend, and items in any order
+    | {"type":"object","properties":{"ascending":{"type":"array","x-kubernetes-list-type":"map","x-kubernetes-list-map-keys":["k","l"],
+    "items":{"type":"object","required":["k","l"],"properties":{"k":{"type":"string"},"l":{"type":"integer"}}}},
+    "descending":{"type":"array","x-kubernetes-list-type":"set","items":{"type":"integer"}},
+    "far":{"type":"array","x-kubernetes-list-type":"set","items":{"type":"integer"}},
+    "keyless":{"type":"array","x-kubernetes-list-type":"map","x-kubernetes-list-map-keys":["k","l"],
+    "items":{"type":"object","required":["k","l"],"properties":{"k":{"type":"string"},"l":{"type":"integer"}}}},
+    "near":{"type":"array","x-kubernetes-list-type":"set","items":{"type":"integer"}},
+    "pairs":{"type":"array","x-kubernetes-list-type":"map","x-kubernetes-list-map-keys":["k","l"],
+    "items":{"type":"object","required":["k","l"],"properties":{"k":{"type":"string"},"l":{"type":"integer"}}}}}}
+    | {"ascending":[{"k":"a","l":1},{"k":"a","l":2},{"k":"b","l":1}],"descending":[3,2,1],"far":[2,1,2,3,1,2],
+    "keyless":[{"k":"a","l":1},1,1,null,{"k":"b","l":1},{"k":"a","l":1}],"near":[1,2,2,3],
+    "pairs":[{"k":"b","l":1},{"k":"a","l":2},{"k":"a","l":1},{"k":"a","l":2}]}
+    | {"ascending":[{"k":"a","l":1},{"k":"a","l":2},{"k":"b","l":1}],"descending":[3,2,1],"far":[2,1,2,3,1,2],
+    "keyless":[{"k":"a","l":1},1,1,null,{"k":"b","l":1},{"k":"a","l":1}],"near":[1,2,2,3],
+    "pairs":[{"k":"b","l":1},{"k":"a","l":2},{"k":"a","l":1},{"k":"a","l":2}]}
+    | {"ascending":[{"k":"a","l":1},{"k":"a","l":2},{"k":"b","l":1}],"descending":[3,2,1],"far":[2,1,2,3,1,2],
+    "keyless":[{"k":"a","l":1},1,1,null,{"k":"b","l":1},{"k":"a","l":1}],"near":[1,2,2,3],
+    "pairs":[{"k":"b","l":1},{"k":"a","l":2},{"k":"a","l":1},{"k":"a","l":2}]}
     > 13 /far/2
     > 13 /far/4
     > 13 /far/5
@@ -79,16 +91,18 @@ items that ascend, and items in any order | {"type":"object","properties":{"asce
     > 13 /keyless/5
     > 13 /near/2
     > 13 /pairs/3
-names between fields, and names with a slash and a tilde | {"type":"object","required":["b","d"],"properties":{"a":{"type":"integer"},
-    "b":{"type":"integer"},"c":{"type":"object","required":["x/y"],"properties":{"x/y":{"type":"integer"},"~":{"type":"integer"}}},
-    "d":{"type":"integer"}}} | {"a":"","aa":null,"c":{"~":""},"e":0} | {"a":"","c":{"~":""}} | {"a":"","c":{"~":""}}
+names between fields, and names with a slash and a tilde
+    | {"type":"object","required":["b","d"],"properties":{"a":{"type":"integer"},"b":{"type":"integer"},
+    "c":{"type":"object","required":["x/y"],"properties":{"x/y":{"type":"integer"},"~":{"type":"integer"}}},"d":{"type":"integer"}}}
+    | {"a":"","aa":null,"c":{"~":""},"e":0} | {"a":"","c":{"~":""}} | {"a":"","c":{"~":""}}
     > 1 /a
     > 12 /b
     > 12 /c/x~1y
     > 1 /c/~0
     > 12 /d
-the values of a map, and what is free | {"type":"object","properties":{"m":{"type":"object","maxProperties":1,"additionalProperties":{"type":"object",
-    "required":["a"],"properties":{"a":{"type":"integer"}}}},"x":{"x-kubernetes-preserve-unknown-fields":true}}}
+the values of a map, and what is free
+    | {"type":"object","properties":{"m":{"type":"object","maxProperties":1,"additionalProperties":{"type":"object","required":["a"],
+    "properties":{"a":{"type":"integer"}}}},"x":{"x-kubernetes-preserve-unknown-fields":true}}}
     | {"m":{"p":{"a":"","z":null},"q":{}},"x":{"a":null},"y":null} | {"m":{"p":{"a":""},"q":{}},"x":{"a":null}}
     | {"m":{"p":{"a":""},"q":{}},"x":{"a":null}}
     > 11 /m
@@ -99,7 +113,7 @@ more than ten items | {"type":"object","properties":{"l":{"type":"array","items"
     > 2 /l/2
     > 2 /l/10
 null | {"type":"object","properties":{"m":{"type":"array","items":{"type":"string"}}}} | null | null | null
-    > 2 
+    > 2␠
 "#;
 
 // What is wanted: all that is broken, a rule and a pointer a line.
@@ -108,7 +122,8 @@ static DEFAULTS: &str = r#"
 a default of another kind | {"type":"object","properties":{"n":{"type":"integer","default":"x"}}} | V14 /properties/n
 a default of another kind beside a field without a type | {"type":"object","properties":{"n":{"type":"integer","default":"x"},"z":{}}}
     | V01 /properties/z
-a default with a bad one below | {"type":"object","properties":{"spec":{"type":"object","default":{},"required":["f"],
+a default with a bad one below
+    | {"type":"object","properties":{"spec":{"type":"object","default":{},"required":["f"],
     "properties":{"f":{"type":"integer","maximum":6,"default":7}}}}} | V14 /properties/spec
     > V14 /properties/spec/properties/f
 no default | {"type":"object","properties":{"default":{"type":"integer"}}} | -
@@ -181,13 +196,15 @@ names before, between and after the fields | {"type":"object","required":["d"],"
     > 15 /c
     > 12 /d
     > 15 /e
-below a list and a map | {"type":"object","properties":{"l":{"type":"array","items":{"type":"object","nullable":true,
-    "properties":{"a":{"type":"integer"}}}},"m":{"type":"object","additionalProperties":{"type":"object","properties":{"a":{"type":"integer"}}}}}}
+below a list and a map
+    | {"type":"object","properties":{"l":{"type":"array","items":{"type":"object","nullable":true,"properties":{"a":{"type":"integer"}}}},
+    "m":{"type":"object","additionalProperties":{"type":"object","properties":{"a":{"type":"integer"}}}}}}
     | {"l":[null,{"a":1,"z":null}],"m":{"p":{"y":1},"q":{"a":1}}}
     > 15 /l/1/z
     > 15 /m/p/y
-a member that is kept, and one below a field beside it | {"type":"object","properties":{"spec":{"type":"object",
-    "x-kubernetes-preserve-unknown-fields":true,"properties":{"a":{"type":"object","properties":{}}}}}} | {"spec":{"a":{"y":1},"z":{"w":2}}}
+a member that is kept, and one below a field beside it
+    | {"type":"object","properties":{"spec":{"type":"object","x-kubernetes-preserve-unknown-fields":true,
+    "properties":{"a":{"type":"object","properties":{}}}}}} | {"spec":{"a":{"y":1},"z":{"w":2}}}
     > 15 /spec/a/y
 below a place of any value | {"type":"object","properties":{"x":{"x-kubernetes-preserve-unknown-fields":true}}} | {"x":{"a":[null,{"b":null}]},"y":1}
     > 15 /y
@@ -199,8 +216,10 @@ below a value of another kind
 names in the order of their bytes, with a tilde and a slash | {"type":"object","properties":{"B":{"type":"integer"}}} | {"A~":1,"B":1,"a/b":1}
     > 15 /A~0
     > 15 /a~1b
-an item that repeats another | {"type":"object","properties":{"m":{"type":"array","x-kubernetes-list-type":"map","x-kubernetes-list-map-keys":["k"],
-    "items":{"type":"object","required":["k"],"properties":{"k":{"type":"string"}}}}}} | {"m":[{"k":"a"},{"j":1,"k":"a"}]}
+an item that repeats another
+    | {"type":"object","properties":{"m":{"type":"array","x-kubernetes-list-type":"map","x-kubernetes-list-map-keys":["k"],
+    "items":{"type":"object","required":["k"],"properties":{"k":{"type":"string"}}}}}}
+    | {"m":[{"k":"a"},{"j":1,"k":"a"}]}
     > 13 /m/1
     > 15 /m/1/j
 a member too many | {"type":"object","properties":{"o":{"type":"object","maxProperties":1,"properties":{"a":{"type":"integer"}}}}}

@@ -29,14 +29,16 @@ a set | {"type":"array","items":{"type":"integer"},"x-kubernetes-list-type":"set
     | [[1,1],[1,2,2],[2,1,2],["1"],[null],{},null]
 a set of integers and texts | {"type":"array","items":{"x-kubernetes-int-or-string":true},"x-kubernetes-list-type":"set"} | [[1,"1"]] | [["1",1,"1"]]
 an atomic list with bounds | {"type":"array","items":{"type":"integer"},"minItems":1,"maxItems":2} | [[1],[1,1]] | [[],[1,2,3]]
-a map list | {"type":"array","x-kubernetes-list-type":"map","x-kubernetes-list-map-keys":["host","port"],"items":{"type":"object","required":["host",
-    "port"],"properties":{"host":{"type":"string"},"port":{"type":"integer"}}}}
+a map list
+    | {"type":"array","x-kubernetes-list-type":"map","x-kubernetes-list-map-keys":["host","port"],
+    "items":{"type":"object","required":["host","port"],"properties":{"host":{"type":"string"},"port":{"type":"integer"}}}}
     | [[{"host":"x","port":0},{"host":"x","port":1}],[{"host":"y","port":0},{"host":"x","port":0}],[]]
-    | [[{"host":"x","port":0},{"host":"x","port":0}],[{"host":"y","port":0},{"host":"x","port":0},{"host":"y","port":0}],[{"host":"x"}],[{"host":"x",
-    "port":0},{"host":"y"},1]]
-keys that are absent on both sides | {"type":"array","x-kubernetes-list-type":"map","x-kubernetes-list-map-keys":["k"],"items":{"type":"object",
-    "properties":{"k":{"type":"string","default":""},"v":{"type":"integer"}}}} | [[{"v":1},{"k":""}]]
-    | [[{"v":1},{"v":2}],[{"k":"a"},{"k":"b"},{"k":"a","v":1}]]
+    | [[{"host":"x","port":0},{"host":"x","port":0}],[{"host":"y","port":0},{"host":"x","port":0},{"host":"y","port":0}],[{"host":"x"}],
+    [{"host":"x","port":0},{"host":"y"},1]]
+keys that are absent on both sides
+    | {"type":"array","x-kubernetes-list-type":"map","x-kubernetes-list-map-keys":["k"],
+    "items":{"type":"object","properties":{"k":{"type":"string","default":""},"v":{"type":"integer"}}}}
+    | [[{"v":1},{"k":""}]] | [[{"v":1},{"v":2}],[{"k":"a"},{"k":"b"},{"k":"a","v":1}]]
 a map with bounds | {"type":"object","additionalProperties":{"type":"integer","nullable":true},"minProperties":1,"maxProperties":2}
     | [{"a":1},{"a":null,"b":2}] | [{},{"a":1,"b":2,"c":3},{"a":"x"},[]]
 any value | {"x-kubernetes-preserve-unknown-fields":true} | [0,"",[null],{"a":{"b":null}}] | [null]

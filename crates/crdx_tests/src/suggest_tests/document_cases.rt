@@ -42,13 +42,15 @@ two fields | {"type":"object","properties":{"a":{"type":"integer","minimum":6},"
     | {"any":["a",{}],"integers":[0,1,4,5,6,7],"names":["a","b"],"strings":["a"]}
 choices, and how many items there are | {"type":"array","minItems":4,"maxItems":5,"items":{"type":"integer","enum":[40,50]}}
     | {"any":["a",{}],"integers":[0,1],"names":["a","b"],"strings":["a"]}
-66 integers around bounds, and 0 and 1 | {"type":"object","properties":{"f001":{"type":"integer","maximum":10},"f002":{"type":"integer","maximum":20},
-    "f003":{"type":"integer","maximum":30},"f004":{"type":"integer","maximum":40},"f005":{"type":"integer","maximum":50},"f006":{"type":"integer",
-    "maximum":60},"f007":{"type":"integer","maximum":70},"f008":{"type":"integer","maximum":80},"f009":{"type":"integer","maximum":90},
-    "f010":{"type":"integer","maximum":100},"f011":{"type":"integer","maximum":110},"f012":{"type":"integer","maximum":120},"f013":{"type":"integer",
-    "maximum":130},"f014":{"type":"integer","maximum":140},"f015":{"type":"integer","maximum":150},"f016":{"type":"integer","maximum":160},
-    "f017":{"type":"integer","maximum":170},"f018":{"type":"integer","maximum":180},"f019":{"type":"integer","maximum":190},"f020":{"type":"integer",
-    "maximum":200},"f021":{"type":"integer","maximum":210},"f022":{"type":"integer","maximum":220}}}
+66 integers around bounds, and 0 and 1
+    | {"type":"object","properties":{"f001":{"type":"integer","maximum":10},"f002":{"type":"integer","maximum":20},
+    "f003":{"type":"integer","maximum":30},"f004":{"type":"integer","maximum":40},"f005":{"type":"integer","maximum":50},
+    "f006":{"type":"integer","maximum":60},"f007":{"type":"integer","maximum":70},"f008":{"type":"integer","maximum":80},
+    "f009":{"type":"integer","maximum":90},"f010":{"type":"integer","maximum":100},"f011":{"type":"integer","maximum":110},
+    "f012":{"type":"integer","maximum":120},"f013":{"type":"integer","maximum":130},"f014":{"type":"integer","maximum":140},
+    "f015":{"type":"integer","maximum":150},"f016":{"type":"integer","maximum":160},"f017":{"type":"integer","maximum":170},
+    "f018":{"type":"integer","maximum":180},"f019":{"type":"integer","maximum":190},"f020":{"type":"integer","maximum":200},
+    "f021":{"type":"integer","maximum":210},"f022":{"type":"integer","maximum":220}}}
     | {"any":["a",{}],"integers":[0,1,9,10,11,19,20,21,29,30,31,39,40,41,49,50,51,59,60,61,69,70,71,79,80,81,89,90,91,99,100,101,109,110,111,119,120,
     121,129,130,131,139,140,141,149,150,151,159,160,161,169,170,171,179,180,181,189,190,191,199,200,201,209,210],"names":["a","b"],"strings":["a"]}
 "#;

@@ -25,23 +25,20 @@ static NAMED: &str = r#"
 
 static VARIED: &str = r#"
 9 rows: name | objects | varied | without | fixed | present | paths
-siblings that are there and one that is not | @OBJECT | /spec/a | -
-    | {"/list":[[{"k":"p"}]],"/spec/b":[{"c":"x"}],"/spec/e":["y"],"/status":[]} | ["/list","/spec","/spec/b","/spec/e"] | {"/spec/a":[5,0,1]}
-all below a path | @OBJECT | /spec/b | -
-    | {"/list":[[{"k":"p"}]],"/spec/a":[5],"/spec/e":["y"],"/status":[]} | ["/list","/spec","/spec/a","/spec/e"]
+siblings that are there and one that is not | @OBJECT | /spec/a | - | {"/list":[[{"k":"p"}]],"/spec/b":[{"c":"x"}],"/spec/e":["y"],"/status":[]}
+    | ["/list","/spec","/spec/b","/spec/e"] | {"/spec/a":[5,0,1]}
+all below a path | @OBJECT | /spec/b | - | {"/list":[[{"k":"p"}]],"/spec/a":[5],"/spec/e":["y"],"/status":[]} | ["/list","/spec","/spec/a","/spec/e"]
     | {"/spec/b/c":["x","1970-01-01","2030-12-31"]}
-two levels down, where nothing stands | @OBJECT | /spec/b/d | -
-    | {"/list":[[{"k":"p"}]],"/spec/a":[5],"/spec/b/c":["x"],"/spec/e":["y"],"/status":[]}
+two levels down, where nothing stands | @OBJECT | /spec/b/d | - | {"/list":[[{"k":"p"}]],"/spec/a":[5],"/spec/b/c":["x"],"/spec/e":["y"],"/status":[]}
     | ["/list","/spec","/spec/a","/spec/b","/spec/b/c","/spec/e"] | -
-two paths | @OBJECT | /status /spec/a | -
-    | {"/list":[[{"k":"p"}]],"/spec/b":[{"c":"x"}],"/spec/e":["y"]} | ["/list","/spec","/spec/b","/spec/e"] | {"/spec/a":[5,0,1]}
-a path that is left out besides | @OBJECT | /spec/a | /spec/e
-    | {"/list":[[{"k":"p"}]],"/spec/b":[{"c":"x"}],"/spec/e":[],"/status":[]} | ["/list","/spec","/spec/b"] | {"/spec/a":[5,0,1]}
+two paths | @OBJECT | /status /spec/a | - | {"/list":[[{"k":"p"}]],"/spec/b":[{"c":"x"}],"/spec/e":["y"]} | ["/list","/spec","/spec/b","/spec/e"]
+    | {"/spec/a":[5,0,1]}
+a path that is left out besides | @OBJECT | /spec/a | /spec/e | {"/list":[[{"k":"p"}]],"/spec/b":[{"c":"x"}],"/spec/e":[],"/status":[]}
+    | ["/list","/spec","/spec/b"] | {"/spec/a":[5,0,1]}
 a part of a value beside a varied path is left out | @OBJECT | /spec/a | /spec/b/c
     | {"/list":[[{"k":"p"}]],"/spec/b":[{}],"/spec/b/c":[],"/spec/e":["y"],"/status":[]} | ["/list","/spec","/spec/b","/spec/e"] | {"/spec/a":[5,0,1]}
 an object with nothing in it | [{}] | /spec | - | {"/list":[],"/status":[]} | - | {"/spec/b/c":["1970-01-01","2030-12-31"]}
-no varied path | @OBJECT | - | /status /list/[]/k | {"/list/[]/k":[],"/status":[]} | -
-    | {"/spec/a":[5],"/spec/b/c":["x"],"/spec/e":["y"]}
+no varied path | @OBJECT | - | /status /list/[]/k | {"/list/[]/k":[],"/status":[]} | - | {"/spec/a":[5],"/spec/b/c":["x"],"/spec/e":["y"]}
 no object | [] | - | /status | {"/status":[]} | - | {"/spec/b/c":["1970-01-01","2030-12-31"]}
 "#;
 

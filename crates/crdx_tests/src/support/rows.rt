@@ -6,15 +6,17 @@
 //! 2 rows: name | schema | out
 //! @LIST | {"type":"array","items":{"type":"boolean"}}
 //! a list | @LIST | V17 ""
-//! two types | {"type":"object","properties":{
-//!     "a":{},"b":{}}} | V01 "/properties/a"
+//! two properties
+//!     | {"type":"object","properties":{"a":{},
+//!     "b":{}}} | V01 "/properties/a"
 //!     > V01 "/properties/b"
 //! ```
 //!
-//! A line that begins with four spaces belongs to the row above it: after `> ` it is a line of standard output, after `! ` one of
-//! standard error, after `| ` it has more cells; any other goes on with the last cell, and may have more. What a cell under `out` has
-//! is the first line of standard output. A cell, or such a line, is the text of the row above or of the document that it names by
-//! `@NAME`; `-` is an empty text; ␊, ␍, ␉, ␠ and ␡ are characters that are not seen. A line that begins with `// ` says something.
+//! A line that begins with four spaces belongs to the row above it: after `| ` it has more cells, after `> ` it is a line of standard
+//! output, and after `! ` one of standard error; any other goes on with the last cell. What a cell under `out` or `lines` has is the
+//! first of the lines that others have after `> `. A cell, or such a line, that is `@NAME` has the text of that row, or of that
+//! document (`documents.rt`). `-` is an empty text, and `none` is what the code makes of it. ␊, ␍, ␉, ␠ and ␡ stand for the characters
+//! that one does not see, and ␄ at the end of a line says that it has no end. A line that begins with `// ` is a comment.
 use crate::support::documents::document;
 use crate::support::report::Report;
 use std::alloc::{AllocError, Global};
@@ -277,22 +279,21 @@ impl Tables {
         }
     }
 
-    /// Goes on with the last cell, after this.
-    fn push_more(&mut self, between: &str, text: &str) -> Result<(), Fail> {
-        let Some(cell) = self.last()?.cells.last_mut() else {
-            return Err(Fail::from("a line that goes on with no cell"));
-        };
-        cell.push_str(between)?;
-        Ok(push_meant(cell, text)?)
+    /// Goes on with the last cell.
+    fn push_more(&mut self, text: &str) -> Result<(), Fail> {
+        match self.last()?.cells.last_mut() {
+            Some(cell) => Ok(push_meant(cell, text)?),
+            None => Err(Fail::from("a line that goes on with no cell")),
+        }
     }
 
-    fn go_on(&mut self, between: &str, text: &str) -> Result<(), Fail> {
+    fn go_on(&mut self, text: &str) -> Result<(), Fail> {
         match text.split_once(" | ") {
             Some((text, cells)) => {
-                self.push_more(between, text)?;
+                self.push_more(text)?;
                 self.push_cells(cells)
             }
-            None => self.push_more(between, text),
+            None => self.push_more(text),
         }
     }
 
@@ -309,10 +310,7 @@ impl Tables {
             let lines = self.lines_of(line)?;
             return Ok(self.last()?.err.push_str(lines.as_str())?);
         }
-        if let Some(text) = text.strip_prefix("+ ") {
-            return self.go_on("", text);
-        }
-        self.go_on("\n", text)
+        self.go_on(text)
     }
 
     fn push_head(&mut self, rows: &str, cells: &str) -> Result<(), Fail> {

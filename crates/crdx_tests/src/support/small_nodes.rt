@@ -19,13 +19,16 @@ pub static HOLDERS_OF_SCALARS: &str = r#"
 a set | {"type":"object","properties":{"x":{"type":"array","x-kubernetes-list-type":"set","items": | }}} | /x/[]
 a set of at least two | {"type":"object","required":["x"],"properties":{"x":{"type":"array","minItems":2,"x-kubernetes-list-type":"set","items": | }}}
     | /x/[]
-a map list | {"type":"object","properties":{"x":{"type":"array","x-kubernetes-list-type":"map","x-kubernetes-list-map-keys":["k"],
+a map list
+    | {"type":"object","properties":{"x":{"type":"array","x-kubernetes-list-type":"map","x-kubernetes-list-map-keys":["k"],
     "items":{"type":"object","required":["k"],"properties":{"v":{"type":"boolean"},"k": | }}}}} | /x/[]/k
-a map list by two keys | {"type":"object","properties":{"x":{"type":"array","maxItems":3,"x-kubernetes-list-type":"map",
-    "x-kubernetes-list-map-keys":["l","k"],"items":{"type":"object","required":["k","l"],"properties":{"l":{"type":"boolean"},"v":{"type":"object"},
-    "k": | }}}}} | /x/[]/k
-a map list whose key a junctor names | {"type":"object","properties":{"x":{"type":"array","x-kubernetes-list-type":"map",
-    "x-kubernetes-list-map-keys":["k"],"items":{"type":"object","required":["k"],"oneOf":[{"required":["k","v"]},{"required":["w"]}],
+a map list by two keys
+    | {"type":"object","properties":{"x":{"type":"array","maxItems":3,"x-kubernetes-list-type":"map","x-kubernetes-list-map-keys":["l","k"],
+    "items":{"type":"object","required":["k","l"],"properties":{"l":{"type":"boolean"},"v":{"type":"object"},"k":
+    | }}}}} | /x/[]/k
+a map list whose key a junctor names
+    | {"type":"object","properties":{"x":{"type":"array","x-kubernetes-list-type":"map","x-kubernetes-list-map-keys":["k"],
+    "items":{"type":"object","required":["k"],"oneOf":[{"required":["k","v"]},{"required":["w"]}],
     "properties":{"v":{"type":"boolean"},"w":{"type":"object"},"k": | }}}}} | /x/[]/k
 "#;
 
@@ -74,10 +77,12 @@ lists of truth values | {"type":"array","items":{"type":"boolean"}}
 lists of integers and null | {"type":"array","nullable":true,"maxItems":2,"items":{"type":"integer","nullable":true}}
 lists of lists | {"type":"array","minItems":1,"items":{"type":"array","items":{"type":"string"}}}
 sets of integers and texts | {"type":"array","x-kubernetes-list-type":"set","items":{"x-kubernetes-int-or-string":true}}
-map lists | {"type":"array","x-kubernetes-list-type":"map","x-kubernetes-list-map-keys":["k"],"items":{"type":"object","required":["k"],
-    "properties":{"k":{"type":"string"},"v":{"type":"integer"}}}}
-map lists whose key has a default | {"type":"array","x-kubernetes-list-type":"map","x-kubernetes-list-map-keys":["k","l"],"items":{"type":"object",
-    "required":["l"],"properties":{"k":{"type":"string","default":"a"},"l":{"type":"boolean"}}}}
+map lists
+    | {"type":"array","x-kubernetes-list-type":"map","x-kubernetes-list-map-keys":["k"],
+    "items":{"type":"object","required":["k"],"properties":{"k":{"type":"string"},"v":{"type":"integer"}}}}
+map lists whose key has a default
+    | {"type":"array","x-kubernetes-list-type":"map","x-kubernetes-list-map-keys":["k","l"],
+    "items":{"type":"object","required":["l"],"properties":{"k":{"type":"string","default":"a"},"l":{"type":"boolean"}}}}
 lists of objects with at least one field
     | {"type":"array","items":{"type":"object","minProperties":1,"properties":{"a":{"type":"boolean"},"b":{"type":"string"}}}}
 "#;
@@ -86,27 +91,36 @@ lists of objects with at least one field
 pub static PRESENCE: &str = r#"
 13 rows: name | schema
 one of two fields | {"type":"object","oneOf":[{"required":["a"]},{"required":["b"]}],"properties":{"a":{"type":"boolean"},"b":{"type":"string"}}}
-two fields of which one may be null | {"type":"object","nullable":true,"anyOf":[{"required":["a"]},{"required":["b"]}],
+two fields of which one may be null
+    | {"type":"object","nullable":true,"anyOf":[{"required":["a"]},{"required":["b"]}],
     "properties":{"a":{"type":"boolean","nullable":true},"b":{"type":"object"},"c":{"type":"boolean"}}}
 fields that are not both there | {"type":"object","not":{"required":["b","a"]},"properties":{"a":{"type":"boolean"},"b":{"type":"integer"}}}
-fields that are all there | {"type":"object","allOf":[{"required":["a"]},{"required":["c"]}],"properties":{"a":{"type":"boolean"},
-    "b":{"type":"boolean"},"c":{"type":"object"}}}
-four named fields | {"type":"object","oneOf":[{"required":["d","a"]},{"required":["b"]},{"required":["c"]}],"properties":{"a":{"type":"object"},
-    "b":{"type":"object"},"c":{"type":"object"},"d":{"type":"object"},"e":{"type":"object"}}}
-nested junctors | {"type":"object","allOf":[{"anyOf":[{"required":["a"]},{"not":{"required":["b"]}}]},{"oneOf":[{"required":["c"]},{}]}],
+fields that are all there
+    | {"type":"object","allOf":[{"required":["a"]},{"required":["c"]}],"properties":{"a":{"type":"boolean"},"b":{"type":"boolean"},"c":{"type":"object"}}}
+four named fields
+    | {"type":"object","oneOf":[{"required":["d","a"]},{"required":["b"]},{"required":["c"]}],
+    "properties":{"a":{"type":"object"},"b":{"type":"object"},"c":{"type":"object"},"d":{"type":"object"},"e":{"type":"object"}}}
+nested junctors
+    | {"type":"object","allOf":[{"anyOf":[{"required":["a"]},{"not":{"required":["b"]}}]},{"oneOf":[{"required":["c"]},{}]}],
     "properties":{"a":{"type":"object"},"b":{"type":"boolean"},"c":{"type":"object"}}}
-a named field with a default | {"type":"object","oneOf":[{"required":["a"]},{"required":["b"]}],"properties":{"a":{"type":"boolean","default":true},
-    "b":{"type":"boolean"},"c":{"type":"object"}}}
-junctors beside bounds | {"type":"object","minProperties":1,"maxProperties":2,"not":{"anyOf":[{"required":["a","c"]},{"required":["b"]}]},
+a named field with a default
+    | {"type":"object","oneOf":[{"required":["a"]},{"required":["b"]}],"properties":{"a":{"type":"boolean","default":true},"b":{"type":"boolean"},
+    "c":{"type":"object"}}}
+junctors beside bounds
+    | {"type":"object","minProperties":1,"maxProperties":2,"not":{"anyOf":[{"required":["a","c"]},{"required":["b"]}]},
     "properties":{"a":{"type":"object"},"b":{"type":"object"},"c":{"type":"boolean"},"d":{"type":"object"}}}
-a required field that is named | {"type":"object","required":["b"],"anyOf":[{"required":["a"]},{"not":{"required":["b"]}}],
+a required field that is named
+    | {"type":"object","required":["b"],"anyOf":[{"required":["a"]},{"not":{"required":["b"]}}],
     "properties":{"a":{"type":"boolean"},"b":{"type":"integer"}}}
-objects that keep other fields | {"type":"object","x-kubernetes-preserve-unknown-fields":true,"oneOf":[{"required":["a"]},{"required":["b"]}],
+objects that keep other fields
+    | {"type":"object","x-kubernetes-preserve-unknown-fields":true,"oneOf":[{"required":["a"]},{"required":["b"]}],
     "properties":{"a":{"type":"boolean"},"b":{"type":"boolean"}}}
-objects below a named field | {"type":"object","oneOf":[{"required":["a"]},{"required":["b"]}],"properties":{"a":{"type":"object",
-    "not":{"required":["c"]},"properties":{"c":{"type":"object"},"d":{"type":"boolean"}}},"b":{"type":"object","default":{},
-    "anyOf":[{"required":["c"]},{"required":[]}],"properties":{"c":{"type":"boolean"}}}}}
-lists and maps that are named | {"type":"object","anyOf":[{"required":["l","m"]},{"not":{"required":["l"]}}],"properties":{"l":{"type":"array",
-    "items":{"type":"boolean"}},"m":{"type":"object","additionalProperties":{"type":"boolean"}}}}
+objects below a named field
+    | {"type":"object","oneOf":[{"required":["a"]},{"required":["b"]}],"properties":{"a":{"type":"object","not":{"required":["c"]},
+    "properties":{"c":{"type":"object"},"d":{"type":"boolean"}}},"b":{"type":"object","default":{},"anyOf":[{"required":["c"]},{"required":[]}],
+    "properties":{"c":{"type":"boolean"}}}}}
+lists and maps that are named
+    | {"type":"object","anyOf":[{"required":["l","m"]},{"not":{"required":["l"]}}],"properties":{"l":{"type":"array","items":{"type":"boolean"}},
+    "m":{"type":"object","additionalProperties":{"type":"boolean"}}}}
 junctors that nothing meets | {"type":"object","allOf":[{"required":["a"]},{"not":{"required":["a"]}}],"properties":{"a":{"type":"boolean"}}}
 "#;
