@@ -68,6 +68,7 @@ fn try_page(
     is_page(report, alloc, &plan, wanted, &mut meter)
 }
 
+/// What a plan is made of, and a page of it.
 struct PageRow;
 
 impl Kind for PageRow {

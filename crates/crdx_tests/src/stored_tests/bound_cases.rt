@@ -42,6 +42,7 @@ fn bound_of(bound: Option<&str>) -> Result<Option<u64>, Fail> {
     }
 }
 
+/// Bounds, counts within them, and counts that are not.
 struct CountRow;
 
 impl Kind for CountRow {
@@ -109,6 +110,7 @@ fn are_met(report: &mut Report, row: &Row, root: &Node) -> Result<(), Fail> {
     Ok(())
 }
 
+/// A field, and whether its junctors are met.
 struct JunctorRow;
 
 impl Kind for JunctorRow {

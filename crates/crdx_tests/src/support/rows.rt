@@ -207,22 +207,25 @@ impl Tables {
         }
     }
 
-    /// The text of this name.
-    fn named(&self, name: &str) -> Option<&str> {
+    /// The text that is named so, where it is a name.
+    fn named(&self, name: &str) -> Result<Option<&str>, Fail> {
         if !name.starts_with('@') {
-            return None;
+            return Ok(None);
         }
         for row in &self.named {
             if row.name.as_str() == name {
-                return Some(row.meaning());
+                return Ok(Some(row.meaning()));
             }
         }
-        document(name)
+        match document(name) {
+            Some(document) => Ok(Some(document)),
+            None => Err(Fail::from("no text has this name")),
+        }
     }
 
-    fn cell_of(&self, cell: &str) -> Result<String, AllocError> {
+    fn cell_of(&self, cell: &str) -> Result<String, Fail> {
         let mut text = String::new(self.alloc);
-        match self.named(cell) {
+        match self.named(cell)? {
             Some(named) => text.push_str(named)?,
             None if cell == "-" => {}
             None => push_meant(&mut text, cell)?,
@@ -231,9 +234,9 @@ impl Tables {
     }
 
     /// The lines that a name stands for, or a line.
-    fn lines_of(&self, line: &str) -> Result<String, AllocError> {
+    fn lines_of(&self, line: &str) -> Result<String, Fail> {
         let mut lines = String::new(self.alloc);
-        match self.named(line) {
+        match self.named(line)? {
             Some(named) => lines.push_str(named)?,
             None => push_line(&mut lines, line)?,
         }
