@@ -8,7 +8,7 @@ use crate::support::harness::{is_said, pools_of, schema_of};
 use crate::support::plans::{node_at, place_of, slot_of};
 use crate::support::report::Report;
 use crate::support::rows::{Kind, Row, try_tables};
-use plan::{Distinct, Meter, PFault, Plan, PlanNode, Sort};
+use plan::{Meter, PFault, Plan, PlanNode, Sort};
 use std::alloc::{AllocError, Global};
 use std::test::Fail;
 

@@ -4,7 +4,7 @@ use crate::support::nodes::first_field;
 use crate::support::report::Report;
 use crate::support::rows::{Kind, Row, try_tables};
 use schema::{Bounds, Constraints, Node, Sort, Validations};
-use std::alloc::{AllocError, Global};
+use std::alloc::Global;
 use std::test::Fail;
 use stored::is_within;
 use stored::junctors::{BranchTest, meets_junctors};
