@@ -5,7 +5,6 @@ use crate::support::harness::is_same;
 use crate::support::pages::{WalkInput, walked};
 use crate::support::report::Report;
 use crate::support::rows::{Kind, Row, try_tables};
-use crdx::walk::Walked;
 use enumerate::{EFault, Live, page};
 use jtree::Tree;
 use plan::{Meter, Plan};
