@@ -84,7 +84,7 @@ spaces around objects | crdx prune crd.json v1 object.json --lines | @BOUND_AND_
 an empty line | crdx validate crd.json v1 object.json --lines | @BOUND_AND_DEFAULT | {}␊{}␊␊{"a":0}␊ | 3
     > 3: J3
     > 4: F04 "/a"
-an object over two lines | crdx prune crd.json v1 object.json --lines | @BOUND_AND_DEFAULT | {} | 3
+an object over two lines | crdx prune crd.json v1 object.json --lines | @BOUND_AND_DEFAULT | {␊}␊ | 3
     ! crdx: object: 1: J3
     ! crdx: object: 2: J3
 two objects on a line | crdx prune crd.json v1 object.json --lines | @BOUND_AND_DEFAULT | {}␊{} {}␊{"a":1}␊ | 3

@@ -33,7 +33,7 @@ the values of an object | crdx pools crd.json v1 --from object.json | @SCHEMA | 
 of two objects on lines, one of them with an envelope | crdx pools crd.json v1 --from object.json | @SCHEMA
     | {"spec":{"a":7}}␊{"kind":"K","metadata":{},"spec":{"a":8,"b":"y"}}␊ | 0
     > {"any":["a",{}],"integers":[0,1],"names":["a","b"],"paths":{"/spec/a":[7,8],"/spec/b":["y"]},"strings":["a"]}
-of an object over several lines | crdx pools crd.json v1 --from object.json | @SCHEMA | {"spec":{"a":7}} | 0
+of an object over several lines | crdx pools crd.json v1 --from object.json | @SCHEMA | {␊  "spec": {␊    "a": 7␊  }␊}␊ | 0
     > {"any":["a",{}],"integers":[0,1],"names":["a","b"],"paths":{"/spec/a":[7]},"strings":["a"]}
 of two inputs | crdx pools crd.json v1 --from - --from object.json | @SCHEMA | {"spec":{"a":7}} | 0
     > {"any":["a",{}],"integers":[0,1],"names":["a","b"],"paths":{"/spec/a":[7]},"strings":["a"]}
@@ -76,7 +76,7 @@ static REFUSALS: &str = r#"
 5 rows: name | command | schema | second | status
 a line that is no document | crdx pools crd.json v1 --from object.json | @SCHEMA | {}␊{"a":1.5}␊{ | 3
     ! crdx: object: 2: J1
-no document over several lines | crdx pools crd.json v1 --from object.json | @SCHEMA | {"a":1.5} | 3
+no document over several lines | crdx pools crd.json v1 --from object.json | @SCHEMA | {␊"a":1.5}␊ | 3
     ! crdx: object: J1
 an empty input | crdx pools crd.json v1 --from - | @SCHEMA | - | 3
     ! crdx: object: J3

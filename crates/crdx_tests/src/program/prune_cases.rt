@@ -50,7 +50,7 @@ values that are not valid
     | {"n":"x","o":[{"z":null}]}
 a list in place of the object | {"type":"object","properties":{"a":{"type":"integer","default":1}}} | [{"kind":"K","z":null}]
     | [{"kind":"K","z":null}] | [{"kind":"K","z":null}]
-a null in place of the object | {"type":"object","properties":{"a":{"type":"integer","default":1}}} | null | null␊ | null␊
+a null in place of the object | {"type":"object","properties":{"a":{"type":"integer","default":1}}} | null | null | null
 white space, names out of order, and texts with escapes | {"type":"object","properties":{"a":{"type":"string"},"b":{"type":"integer"}}}
     | ␠{ "b" : 2 , "a" : "\/\u00e9\u001f\n" }␠ | {"a":"/é\u001f\n","b":2} | {"a":"/é\u001f\n","b":2}
 "#;
