@@ -74,14 +74,23 @@ abbrev pub and_then : (Text → Reading) → Reading → Reading
 and_then more None = None
 and_then more (Some (written, t)) = then_more written (more t)
 
--- The members up to the bracket that closes the class; one in the first place is a character. The number bounds how many members are read:
--- the length of the text is enough.
+-- a bracket in the first place is a member
+abbrev pub closes : ℕ → Bool → Bool
+closes c first = c ∈ "]" && not first
+
+-- The members up to the bracket that closes the class. The number bounds how many are read: the length of the text is enough.
 abbrev pub members : ℕ → Bool → Text → Reading
 members zero first t = None
 members (suc n) first [] = None
-members (suc n) first (c ∷ t) = if c ∈ "]" && not first then Some (codes "]", t) else and_then (members n false) (member c t)
+members (suc n) first (c ∷ t) = if closes c first then Some (codes "]", t) else and_then (members n false) (member c t)
+
+abbrev pub class_opening : Text → Text × Text
+class_opening [] = (codes "[", [])
+class_opening (c ∷ t) = if c ∈ "^" then (codes "[^", t) else (codes "[", c ∷ t)
+
+abbrev pub class_of : Text × Text → Reading
+class_of x = then_more x.0 (members (length x.1) true x.1)
 
 -- after the opening bracket
 abbrev pub class : Text → Reading
-class [] = None
-class (c ∷ t) = if c ∈ "^" then then_more (codes "[^") (members (length t) true t) else then_more (codes "[") (members (length (c ∷ t)) true (c ∷ t))
+class t = class_of (class_opening t)

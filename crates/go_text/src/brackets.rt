@@ -7,7 +7,7 @@ ghost use Rattle.go_text.specs.Internal.Written.{Writes};
 use crate::escapes::{character_escape, perl_class};
 use crate::piece::{Found, Piece, copied, fixed, literal};
 use crate::properties::property;
-use crate::texts::{cut, spells};
+use crate::texts::{cut, next, spells};
 use std::alloc::AllocError;
 
 /// What is written for a member of a class, and the text after it.
@@ -27,16 +27,20 @@ pub(crate) fn class<'t>(
     ensures value { IfOk result (λ rest. Writes out.old out.new rest (spec.class text.now)) }
     ensures shorter { IfOk result (λ rest. IfSome rest (λ r. length r.now ≤ length text.now)) }
 {
+    let (opening, rest) = class_opening(text);
+    opening.write(out)?;
+    let found = members(out, rest)?;
+    Ok(found)
+}
+
+/// The opening bracket with the caret that negates, and the text after it.
+fn class_opening<'t>(text: &'t [char]) -> (Piece<'t>, &'t [char])
+    ensures value { (piece_text result.0, result.1.now) ≡ spec.class_opening text.now }
+    ensures shorter { length result.1.now ≤ length text.now }
+{
     match text {
-        [] => Ok(None),
-        ['^', rest @ ..] => {
-            fixed("[^").write(out)?;
-            members(out, rest)
-        }
-        _ => {
-            fixed("[").write(out)?;
-            members(out, text)
-        }
+        ['^', rest @ ..] => (fixed("[^"), rest),
+        _ => (fixed("["), text),
     }
 }
 
@@ -47,12 +51,12 @@ fn members<'t>(out: &mut String, text: &'t [char]) -> Result<Option<&'t [char]>,
 {
     let mut first = true;
     let mut rest = text;
-    while let [c, after @ ..] = rest {
-        if *c == ']' && !first {
+    while let Some((c, after)) = next(rest) {
+        if closes(c, first) {
             fixed("]").write(out)?;
             return Ok(Some(after));
         }
-        let Some(member) = member_at(*c, after) else {
+        let Some(member) = member_at(c, after) else {
             return Ok(None);
         };
         write_member(out, &member)?;
@@ -60,6 +64,13 @@ fn members<'t>(out: &mut String, text: &'t [char]) -> Result<Option<&'t [char]>,
         rest = member.rest;
     }
     Ok(None)
+}
+
+/// A bracket in the first place is a member.
+fn closes(c: char, first: bool) -> bool
+    ensures { result ≡ spec.closes c first }
+{
+    c == ']' && !first
 }
 
 fn write_member(out: &mut String, member: &Member<'_>) -> Result<(), AllocError>

@@ -12,7 +12,7 @@ use crate::groups::group;
 use crate::piece::{Found, Piece, copied, fixed, literal};
 use crate::properties::property;
 use crate::repetitions::{is_count, is_small_count};
-use crate::texts::cut;
+use crate::texts::{cut, next};
 use std::alloc::{AllocError, Global};
 
 /// What is written for a construct, and where the reading goes on.
@@ -40,11 +40,11 @@ pub fn in_kit_syntax(alloc: Global, text: &str) -> Result<Option<String>, AllocE
         after_repetition: false,
         rest: characters.as_slice(),
     };
-    while let [c, rest @ ..] = place.rest {
-        let Some(next) = construct(&mut out, place.after_repetition, *c, rest)? else {
+    while let Some((c, rest)) = next(place.rest) {
+        let Some(after) = construct(&mut out, place.after_repetition, c, rest)? else {
             return Ok(None);
         };
-        place = next;
+        place = after;
     }
     Ok(Some(out))
 }

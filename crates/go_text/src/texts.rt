@@ -1,10 +1,18 @@
 //! Parts of a text.
-ghost use Rattle.std.specs.Prelude.{◌≡◌, ◌≤◌, length, option_map, nat_eq, IfSome};
+ghost use Rattle.std.specs.Prelude.{◌≡◌, ◌≤◌, length, option_map, ◌∷◌, [], nat_eq, IfSome, MatchOption};
 ghost use lib.Pointwise.{pointwise};
 ghost use Rattle.std.specs.List.{list_all};
 ghost use Rattle.std.specs.Char.{is_ascii_hexdigit};
 ghost use Rattle.go_text.specs.Texts.{cut as cut_of};
 ghost use Rattle.go_text.specs.Internal.View.{parts_of};
+
+/// The first character of a text, and the text after it.
+pub(crate) fn next<'t>(text: &'t [char]) -> Option<(char, &'t [char])>
+    ensures { MatchOption result (text.now ≡ []) (λ x. text.now ≡ x.0 ∷ x.1.now) }
+{
+    let (first, rest) = text.split_first()?;
+    Some((*first, rest))
+}
 
 /// What stands before the first place of a mark, and what stands after it.
 pub(crate) fn cut<'t>(text: &'t [char], mark: &[char]) -> Option<(&'t [char], &'t [char])>
