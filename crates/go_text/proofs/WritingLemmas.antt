@@ -11,7 +11,7 @@ use Rattle.go_text.specs.Internal.View.{text_of}
 pub one_more : (old new : String Global) (c : ℕ) → IsScalar c → string_bytes new ≡ string_bytes old ++ encode_utf8 c → text_of new ≡ text_of old ++ c ∷ []
 one_more old new c scalar e =
     let one : chars (encode_utf8 c) ≡ c ∷ [] =
-      chars_past_char (encode_utf8 c) [] c (IsUtf8-encode c scalar) (sym (append-nil (encode_utf8 c))) ∙ ap (λ t. c ∷ t) chars-nil in
+    chars_past_char (encode_utf8 c) [] c (IsUtf8-encode c scalar) (sym (append-nil (encode_utf8 c))) ∙ ap (λ t. c ∷ t) chars-nil in
     ap chars e ∙ (chars-append (string_bytes old) (encode_utf8 c) (IsUtf8-string_bytes old) ∙ ap (λ t. text_of old ++ t) one)
 
 both : (a b : Bool) → (a && b) ≡ true → (a ≡ true) × (b ≡ true)

@@ -32,10 +32,10 @@ are_of_names t = list_all is_of_names t
 abbrev pub is_name : Text → Bool
 is_name t = nat_lt 0 (length t) && are_of_names t
 
--- A name may begin with a digit, and in the kit's syntax not: so each gets a `_` before it, and names that differ still do.
+-- Names say nothing of what is matched, and Go takes one twice: they are left out.
 abbrev pub named_group : Option (Text × Text) → Reading
 named_group None = None
-named_group (Some (name, t)) = if is_name name then Some (codes "(?P<_" ++ name ++ codes ">", t) else None
+named_group (Some (name, t)) = if is_name name then Some (codes "(", t) else None
 
 abbrev pub after_angle : Text → Reading
 after_angle [] = None

@@ -56,7 +56,7 @@ fn named_group<'t>(text: &'t [char]) -> Option<Found<'t>>
         return None;
     }
     Some(Found {
-        piece: copied("(?P<_", name, ">"),
+        piece: fixed("("),
         rest,
     })
 }

@@ -23,6 +23,6 @@ loop-c-preserved c =
     let here : c.loop-c.place.rest.now ≡ c.in-Some.c ∷ c.in-Some.rest.now = search rules in
     let p = c.in-Some-2.after in
     let read : option_map (construct_behind (text_of c.loop-c.out)) (spec.construct c.loop-c.place.after_repetition c.in-Some.c c.in-Some.rest.now)
-        ≡ Some (text_of c.construct.new.out, p.after_repetition, p.rest.now) = search rules in
+    ≡ Some (text_of c.construct.new.out, p.after_repetition, p.rest.now) = search rules in
     let less : length p.rest.now ≤ length c.in-Some.rest.now = search rules in
     ahead_more _ (text_of c.loop-c.out) c.loop-c.place.after_repetition c.in-Some.c c.in-Some.rest.now _ _ _ read less (rw here at c.loop-c.invariant)
