@@ -1,0 +1,3 @@
+-- What private contracts say.
+pub mod View
+pub mod Written

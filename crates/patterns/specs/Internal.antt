@@ -1,0 +1,2 @@
+-- What private contracts and models say.
+pub mod Compiled

@@ -1,0 +1,3 @@
+-- What a pattern means.
+pub mod Meaning
+pub mod Internal
