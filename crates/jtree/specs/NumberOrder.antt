@@ -14,6 +14,6 @@ number_value s = if slice_index s 0 == minus then nearest binary64 true (scan (d
 abbrev pub value_cmp : List ℕ → List ℕ → Ordering
 value_cmp s t = nan_last_cmp (number_value s) (number_value t)
 
--- and then by text, so that only a number written alike ties
+-- and then by text, so that a number ties with itself alone
 abbrev pub number_cmp : List ℕ → List ℕ → Ordering
 number_cmp s t = ordering_then (value_cmp s t) (slice_cmp nat_cmp s t)

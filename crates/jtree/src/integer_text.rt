@@ -32,7 +32,7 @@ pub(crate) fn number_from_text(alloc: Global, text: &str) -> Result<Tree, JFault
     }
 }
 
-/// A number that is not an integer. `NotJson` where the text is not a number by the grammar of JSON, which a reader has seen to before.
+/// A number that is not an integer. `NotJson` where the text is not a number by the grammar of JSON; that of a document always is.
 fn other_number(alloc: Global, text: &str) -> Result<Number, JFault>
     requires { option_map (integer_of text.now) (number_of text.now) ≡ Some None }
     ensures ok { IfOk result (λ n. n ≡ text.now) }

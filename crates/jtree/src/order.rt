@@ -65,7 +65,7 @@ impl PartialEq for Number {
 
     ghost laws = { partial_equiv_from_equiv nat_list_eq_equiv };
 
-    /// Whether the numbers are written alike.
+    /// Whether the numbers have the same text.
     fn eq(&self, other: &Number) -> bool {
         self.as_str() == other.as_str()
     }
@@ -95,7 +95,7 @@ impl Ord for Number {
 
     ghost matches_eq = { number_tied };
 
-    /// The order by value, and then by how they are written.
+    /// The order by value, which is the nearest float, and then by the bytes of the text.
     fn cmp(&self, other: &Number) -> Ordering {
         let values = OrderedFloat(self.value()).cmp(&OrderedFloat(other.value()));
         values.then(self.as_str().cmp(other.as_str()))
@@ -145,8 +145,9 @@ impl Ord for Tree {
     ghost matches_eq = { λ u v. refl };
 
     /// The tree order: by the count of nodes, then by kind (null, boolean, integer, other number, string, list, object), and then
-    /// within the kind. Other numbers are ordered by value and then by their text, strings by their bytes. Lists are decided at the first index where they differ, and one that ends there comes first. Objects are
-    /// decided at the least name, by bytes, where they differ, and one without that name comes first.
+    /// within the kind. Other numbers are decided by value, and then by the bytes of their texts; strings by their bytes. Lists are
+    /// decided at the first index where they differ, and one that ends there comes first. Objects are decided at the least name, by
+    /// bytes, where they differ, and one without that name comes first.
     fn cmp(&self, other: &Tree) -> Ordering {
         match (self, other) {
             (Tree::Bool(a), Tree::Bool(b)) => a.cmp(b),

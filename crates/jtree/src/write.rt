@@ -14,10 +14,12 @@ use json::Writer;
 use std::alloc::{AllocError, Global};
 
 impl Tree {
-    /// The compact JSON text (RFC 8259): no white space, members by the bytes of their names, integers in decimal, and
-    /// in strings the escapes `\"`, `\\`, `\b`, `\t`, `\n`, `\f` and `\r`, `\u00` with two lower-case digits for the other
-    /// control characters, and all else as it is. It reads back to the same tree where the tree nests at most `MOST_DEPTH` deep
-    /// and the text has at most `MOST_BYTES` bytes. `NoMemory` where an allocation fails.
+    /// The compact JSON text (RFC 8259): no white space, members by the bytes of their names, integers in decimal, other numbers as
+    /// they were written, and in strings the escapes `\"`, `\\`, `\b`, `\t`, `\n`, `\f` and `\r`, `\u00` with two lower-case digits for
+    /// the other control characters, and all else as it is.
+    ///
+    /// Where the tree nests at most `MOST_DEPTH` deep and the text has at most `MOST_BYTES` bytes, it reads back to the same tree: with
+    /// `Numbers::All` always, and by default where all numbers are integers. `NoMemory` where an allocation fails.
     pub fn to_text(&self, alloc: Global) -> Result<String, JFault>
         ensures ok { IfOk result (λ s. string_bytes s ≡ compact (data_of self.now)) }
         ensures reads_back { IfOk result (λ s. ReadsBack (data_of self.now) (string_bytes s)) }

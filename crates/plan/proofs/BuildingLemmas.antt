@@ -1,6 +1,6 @@
 -- What is added to a plan, node by node.
 use Rattle.std.specs.Prelude.{◌≡◌, ℕ, ◌+◌, ◌^◌, ◌≤◌, ◌<◌, List, map, take, Bool, false, Option, Some, None, option_map, ◌||◌, is_some}
-use Rattle.std.proofs.Common.{Result, Ok, Err, IfOk, refl, ap, sym, ◌∙◌, arith, [], ◌∷◌, ◌++◌, length, get_or}
+use Rattle.std.proofs.Common.{Result, Ok, Err, IfOk, refl, ap, sym, subst, ◌∙◌, arith, [], ◌∷◌, ◌++◌, length, get_or}
 use Rattle.std.proofs.lemmas.List.{get_or_append_left, get_or_push, get_or-append-add, append-nil, append_assoc, length_push, length-append, take_more}
 use Rattle.jtree.specs.View.{data_of}
 use Rattle.schema.specs.Document.Texts.{is_among}
@@ -25,7 +25,7 @@ use Rattle.schema.specs.declared.node.Bounds.{Bounds}
 use Rattle.plan.specs.Internal.Values.{AreValues}
 use Rattle.plan.specs.Internal.Arena.{IsSlot, AreSlots, IsKept, IsRight, AreRightBelow, AreRight, AreSitesFrom}
 use Rattle.plan.specs.Samples.Sites.{site_at}
-use Rattle.plan.specs.Internal.Building.{IsSound, IsSortSound, AreFieldsSound, IsBuilt, AreBuilt, IsFieldSlot}
+use Rattle.plan.specs.Internal.Building.{IsSound, IsSortSound, AreFieldsSound, IsBuilt, Builds, BuildsLeaf, BuildsSort, AreBuilt, IsFieldSlot}
 use Rattle.plan.specs.declared.values.Values.{Values}
 use Rattle.plan.specs.declared.arena.SlotName.TheVariants.{Pool}
 use Rattle.plan.specs.declared.arena.PlanNode.{PlanNode}
@@ -151,8 +151,21 @@ node_built holds limit P v old new fixed path nullable description sort keys n n
 
 -- what three clauses say of a value, if there is one
 -- what is kept twice
-pub kept_on : {Z : Type 0} {a b c : Arena Z} → IsKept a b → IsKept b c → IsKept a c
-kept_on h k = (k.0 ∙ h.0, k.1 ∙ h.1)
+pub kept_on : {Z : Type 0} (a b c : Arena Z) → IsKept a b → IsKept b c → IsKept a c
+kept_on a b c h k = (k.0 ∙ h.0, k.1 ∙ h.1)
+
+-- what is built of a node is what is built of a leaf, or of its sort where its values are not fixed
+pub leaf_answered : {Z E : Type 0} (holds : Z → ℕ → Type 0) (old new : Arena Z) (P : Pools) (fixed : Option (List Data)) (path : List ℕ) (N : Node) (keys : List (List ℕ)) (nullable : Bool) (r : Result ℕ E)
+    → nullable ≡ takes_null P path N → IfOk r (BuildsLeaf holds old new P fixed path N nullable) → IfOk r (Builds holds old new P fixed path N keys)
+leaf_answered holds old new P fixed path N keys nullable (Ok n) takes h = h keys (sym takes)
+leaf_answered holds old new P fixed path N keys nullable (Err e) takes h = tt
+
+pub sort_answered : {Z E X : Type 0} (holds : Z → ℕ → Type 0) (old new : Arena Z) (P : Pools) (trees : X → List Data) (fixed : Option X) (path : List ℕ) (m : Bool) (d : Option (List ℕ)) (s sort : Sort) (keys : List (List ℕ)) (nullable : Bool) (r : Result ℕ E)
+    → false ≡ is_some fixed → s ≡ sort → nullable ≡ takes_null P path (node m d s) → IfOk r (BuildsSort holds old new P path sort keys nullable) → IfOk r (Builds holds old new P (option_map trees fixed) path (node m d s) keys)
+sort_answered holds old new P trees None path m d s sort keys nullable (Ok n) free is takes h =
+    subst (λ x. Builds holds old new P None path (node m d x) keys n) (sym is) (h m d (subst (λ x. takes_null P path (node m d x) ≡ nullable) is (sym takes)))
+sort_answered holds old new P trees None path m d s sort keys nullable (Err e) free is takes h = tt
+sort_answered holds old new P trees (Some x) path m d s sort keys nullable r free is takes h = absurd (cc)
 
 pub three_ok : {X E : Type 0} (r : Result X E) (A B C D : X → Type 0) → IfOk r A → IfOk r B → IfOk r C → ((x : X) → A x → B x → C x → D x) → IfOk r D
 three_ok (Ok x) A B C D a b c d = d x a b c

@@ -63,7 +63,7 @@ ties_by a b true is =
     ap (λ c. is_eq (number_cmp a c)) (sym same) ∙ ap is_eq (tied_itself number_total a)
 ties_by a b false is = not_tied (nan_last_cmp (number_value a) (number_value b)) (text_cmp a b) (is_eq-slice_cmp a b ∙ is)
 
--- numbers tie exactly where they are written alike
+-- numbers tie exactly where they have the same text
 pub number_ties : (a b : List ℕ) → is_eq (number_cmp a b) ≡ bytes_eq a b
 number_ties a b = ties_by a b (bytes_eq a b) refl
 

@@ -41,8 +41,9 @@ pub record IsBuilt {Z : Type 0} (holds : Z → ℕ → Type 0) (limit : ℕ) (P 
       → AreRight holds limit P v sites old → AreRight holds limit P v sites new
 
 -- so it is of what is added to an arena, of which nothing else changes
-abbrev pub Builds : {Z : Type 0} → (Z → ℕ → Type 0) → Arena Z → Arena Z → Pools → Option (List Data) → List ℕ → Node → List (List ℕ) → ℕ → Type 0
-Builds holds old new P fixed path N keys n = IsKept old new × IsBuilt holds old.limit P old.values old.entries.items new.entries.items fixed path N keys n
+pub record Builds {Z : Type 0} (holds : Z → ℕ → Type 0) (old new : Arena Z) (P : Pools) (fixed : Option (List Data)) (path : List ℕ) (N : Node) (keys : List (List ℕ)) (n : ℕ) : Type 0 where
+  pub kept : IsKept old new
+  pub built : IsBuilt holds old.limit P old.values old.entries.items new.entries.items fixed path N keys n
 
 -- of a leaf, which takes null or does not
 abbrev pub BuildsLeaf : {Z : Type 0} → (Z → ℕ → Type 0) → Arena Z → Arena Z → Pools → Option (List Data) → List ℕ → Node → Bool → ℕ → Type 0
@@ -61,10 +62,10 @@ pub record IsFieldSlot (P : Pools) (path : List ℕ) (keys named : List (List �
   pub bit : s.bit ≡ bit_of name named
   pub closed : IsClosed (2 ^ length named) s.bit
 
--- a field, and all below it
-abbrev pub BuildsField : {Z : Type 0} → (Z → ℕ → Type 0) → Arena Z → Arena Z → Pools → List ℕ → List (List ℕ) → List (List ℕ) → List ℕ → Node → Bool → Option Data → SlotEntry → Type 0
-BuildsField holds old new P path keys named name N required default s =
-    Builds holds old new P (fixed_at (below path (step.field name)) P) (below path (step.field name)) N [] s.node × IsFieldSlot P path keys named name required default s
+-- a field: its node and all below it, and its slot
+pub record BuildsField {Z : Type 0} (holds : Z → ℕ → Type 0) (old new : Arena Z) (P : Pools) (path : List ℕ) (keys named : List (List ℕ)) (name : List ℕ) (N : Node) (required : Bool) (default : Option Data) (s : SlotEntry) : Type 0 where
+  pub below_is : Builds holds old new P (fixed_at (below path (step.field name)) P) (below path (step.field name)) N [] s.node
+  pub slot : IsFieldSlot P path keys named name required default s
 
 -- fields and all below them
 pub record AreBuilt {Z : Type 0} (holds : Z → ℕ → Type 0) (limit : ℕ) (P : Pools) (v : Values) (old new : List (Entry Z)) (path : List ℕ) (fs : Fields) (keys named : List (List ℕ)) (slots : List SlotEntry) : Type 0 where
@@ -75,5 +76,7 @@ pub record AreBuilt {Z : Type 0} (holds : Z → ℕ → Type 0) (limit : ℕ) (P
       → AreRight holds limit P v sites old → AreRight holds limit P v sites new
   pub slots_are : (names : List (List ℕ)) (sites : List Site) (i : ℕ) → AreSitesFrom sites (length old) (sites_of_fields P path fs) → length new ≤ i → AreSlots names sites i slots (field_slots P path keys named fs)
 
-abbrev pub BuildsFields : {Z : Type 0} → (Z → ℕ → Type 0) → Arena Z → Arena Z → Pools → List ℕ → Fields → List (List ℕ) → List (List ℕ) → List SlotEntry → Type 0
-BuildsFields holds old new P path fs keys named slots = IsKept old new × AreBuilt holds old.limit P old.values old.entries.items new.entries.items path fs keys named slots
+-- so it is of what is added to an arena
+pub record BuildsFields {Z : Type 0} (holds : Z → ℕ → Type 0) (old new : Arena Z) (P : Pools) (path : List ℕ) (fs : Fields) (keys named : List (List ℕ)) (slots : List SlotEntry) : Type 0 where
+  pub kept : IsKept old new
+  pub built : AreBuilt holds old.limit P old.values old.entries.items new.entries.items path fs keys named slots
