@@ -51,7 +51,7 @@
 //! | `program/hostile_cases` | documents that are cut, deep or long, and places that are no samples |
 //! | `program/envelope_cases` | the envelope of a resource, taken off and put back |
 //! | `examples` | the examples at the heads of the crates |
-//! | `support` | documents, fakes, reports of rows, phrases, the plain reference, and what several files use |
+//! | `support` | tables and what tries their rows, reports of rows, documents, fakes, phrases, the plain reference, and what several files use |
 #![tactic(auto)]
 
 #[cfg(test)]

@@ -13,6 +13,7 @@ pub mod plans;
 pub mod pools;
 pub mod reference;
 pub mod report;
+pub mod rows;
 pub mod small_nodes;
 pub mod suggestions;
 pub mod texts;

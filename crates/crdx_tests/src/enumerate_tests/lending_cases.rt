@@ -8,6 +8,7 @@ use crate::support::given::{TWO_FIELDS, made};
 use crate::support::harness::is_said;
 use crate::support::pages::place_of;
 use crate::support::report::Report;
+use crate::support::rows::{Kind, Row, try_tables};
 use enumerate::{Change, EFault, Live, Taker};
 use jtree::Tree;
 use plan::{Meter, Plan};
@@ -79,81 +80,16 @@ fn copied(alloc: Global, tree: &Tree) -> Result<Tree, AllocError>
     }
 }
 
-/// The place to go on from, how much room the taker has, the sizes of two pages, what it has taken of both, what the second answers,
-/// and where the enumeration is then.
-struct LentRow {
-    name: &'static str,
-    place: Option<&'static str>,
-    room: usize,
-    first: u32,
-    second: u32,
-    taken: &'static str,
-    answer: Result<bool, EFault>,
-    at: &'static str,
-}
-
-static LENT: [LentRow; 6] = [
-    LentRow {
-        name: "two pages",
-        place: None,
-        room: 100,
-        first: 2,
-        second: 3,
-        taken: r#"{} {"spec":{}} {"spec":{"b":false}} {"spec":{"b":true}} {"spec":{"a":0}} "#,
-        answer: Ok(false),
-        at: r#"{"spec":{"a":1}}"#,
-    },
-    LentRow {
-        name: "past a sample",
-        place: Some(r#"{"spec":{"a":0}}"#),
-        room: 100,
-        first: 1,
-        second: 1,
-        taken: r#"{"spec":{"a":1}} {"spec":{"a":0,"b":false}} "#,
-        answer: Ok(false),
-        at: r#"{"spec":{"a":0,"b":true}}"#,
-    },
-    LentRow {
-        name: "exactly to the end",
-        place: Some(r#"{"spec":{"a":0,"b":false}}"#),
-        room: 100,
-        first: 1,
-        second: 2,
-        taken: r#"{"spec":{"a":0,"b":true}} {"spec":{"a":1,"b":false}} {"spec":{"a":1,"b":true}} "#,
-        answer: Ok(true),
-        at: "ended",
-    },
-    LentRow {
-        name: "more room than samples",
-        place: Some(r#"{"spec":{"a":0,"b":true}}"#),
-        room: 100,
-        first: 1,
-        second: 10000,
-        taken: r#"{"spec":{"a":1,"b":false}} {"spec":{"a":1,"b":true}} "#,
-        answer: Ok(true),
-        at: "ended",
-    },
-    LentRow {
-        name: "a page of none",
-        place: None,
-        room: 100,
-        first: 1,
-        second: 0,
-        taken: "{} ",
-        answer: Ok(false),
-        at: r#"{"spec":{}}"#,
-    },
-    LentRow {
-        name: "a taker that fails",
-        place: None,
-        room: 3,
-        first: 2,
-        second: 3,
-        taken: r#"{} {"spec":{}} {"spec":{"b":false}} "#,
-        answer: Err(EFault::NoMemory),
-        at: "ended",
-    },
-];
+static LENT: &str = r#"
+6 rows: name | place | room | first | second | taken | answer | at
+two pages | none | 100 | 2 | 3 | {} {"spec":{}} {"spec":{"b":false}} {"spec":{"b":true}} {"spec":{"a":0}}␠ | Ok(false) | {"spec":{"a":1}}
+past a sample | {"spec":{"a":0}} | 100 | 1 | 1 | {"spec":{"a":1}} {"spec":{"a":0,"b":false}}␠ | Ok(false) | {"spec":{"a":0,"b":true}}
+exactly to the end | {"spec":{"a":0,"b":false}} | 100 | 1 | 2 | {"spec":{"a":0,"b":true}} {"spec":{"a":1,"b":false}} {"spec":{"a":1,"b":true}}␠
+    | Ok(true) | ended
+more room than samples | {"spec":{"a":0,"b":true}} | 100 | 1 | 10000 | {"spec":{"a":1,"b":false}} {"spec":{"a":1,"b":true}}␠ | Ok(true) | ended
+a page of none | none | 100 | 1 | 0 | {}␠ | Ok(false) | {"spec":{}}
+a taker that fails | none | 3 | 2 | 3 | {} {"spec":{}} {"spec":{"b":false}}␠ | Err(NoMemory) | ended
+"#;
 
 /// The texts of the trees, each with a space after it.
 fn texts(alloc: Global, trees: &[Tree]) -> Result<String, Fail> {
@@ -175,66 +111,73 @@ fn said_of_tree(alloc: Global, tree: Option<&Tree>) -> Result<String, Fail> {
 fn lends_pages(
     report: &mut Report,
     live: &mut Live<'_, u64>,
-    row: &LentRow,
+    row: &Row,
     copies: &mut Copies,
     meter: &mut Meter,
-) {
-    let first = live.lend_page(row.first, copies, meter);
+) -> Result<(), AllocError> {
+    let first = live.lend_page(row.small("first"), copies, meter);
     report.is_value("the first answer", &first, &Ok(false));
-    let second = live.lend_page(row.second, copies, meter);
-    report.is_value("the second answer", &second, &row.answer);
+    let second = live.lend_page(row.small("second"), copies, meter);
+    report.is_shown("the second answer", &second, row.text("answer"))?;
     if live.tree().is_none() {
         for count in [0, 1] {
             let again = live.lend_page(count, copies, meter);
             report.is_value("an answer after the end", &again, &Err(EFault::Ended));
         }
     }
+    Ok(())
 }
 
 fn lends(
     report: &mut Report,
     alloc: Global,
     live: &mut Live<'_, u64>,
-    row: &LentRow,
+    row: &Row,
     meter: &mut Meter,
 ) -> Result<(), Fail> {
     let mut copies = Copies {
         alloc,
-        room: row.room,
+        room: row.count("room"),
         trees: Vec::new(alloc),
     };
-    lends_pages(report, live, row, &mut copies, meter);
-    is_said(report, "taken", texts(alloc, &copies.trees), row.taken)?;
+    lends_pages(report, live, row, &mut copies, meter)?;
+    is_said(
+        report,
+        "taken",
+        texts(alloc, &copies.trees),
+        row.text("taken"),
+    )?;
     let place = said_of_tree(alloc, live.tree());
-    is_said(report, "the place", place, row.at)
+    is_said(report, "the place", place, row.text("at"))
 }
 
 fn lends_past(
     report: &mut Report,
     alloc: Global,
     plan: &Plan<u64>,
-    row: &LentRow,
+    row: &Row,
     meter: &mut Meter,
 ) -> Result<(), Fail> {
-    let place = place_of(alloc, row.place)?;
+    let place = place_of(alloc, row.optional("place"))?;
     match Live::past(alloc, plan, place.as_ref(), meter)? {
         Some(mut live) => lends(report, alloc, &mut live, row, meter),
         None => Err(Fail::from("no sample")),
     }
 }
 
-fn try_lent(report: &mut Report, alloc: Global, row: &LentRow) -> Result<(), Fail> {
-    let mut plan = made(alloc, TWO_FIELDS)?;
-    let mut meter = plan.meter();
-    lends_past(report, alloc, &plan, row, &mut meter)
+/// The place to go on from, how much room the taker has, the sizes of two pages, what it has taken of both, what the second answers,
+/// and where the enumeration is then.
+struct LentRow;
+
+impl Kind for LentRow {
+    fn attempt(&self, report: &mut Report, alloc: Global, row: &Row) -> Result<(), Fail> {
+        let mut plan = made(alloc, TWO_FIELDS)?;
+        let mut meter = plan.meter();
+        lends_past(report, alloc, &plan, row, &mut meter)
+    }
 }
 
 #[test]
 fn lent(rt: HostRuntime) -> Result<(), Fail> {
-    let mut report = Report::new(rt.alloc());
-    for row in &LENT {
-        let ended = try_lent(&mut report, rt.alloc(), row);
-        report.row(row.name, ended);
-    }
-    report.end(&rt)
+    try_tables(&rt, rt.alloc(), &LentRow, &[LENT])
 }

@@ -1,244 +1,107 @@
 //! The plain reference, and walks, against lists of samples that were made by hand.
 use crate::support::comparison::compare_plan;
-use crate::support::documents::{
-    LABELS, LONG_MAP_LIST, OPEN, OPEN_NULLABLE, REQUIRED_LONG_MAP_LIST, SIX_SETS, SPEC, TEN_LINES,
-    TWO_TEXTS, ZERO_AND_ONE,
-};
+use crate::support::documents::{LONG_MAP_LIST, REQUIRED_LONG_MAP_LIST, TWO_TEXTS};
 use crate::support::fakes::FailingSink;
-use crate::support::given::{
-    DEFAULTS, Given, LABELLED, MAP_LISTS, NULLABLE_OBJECTS, SETS, TWO_FIELDS, TWO_KEYED_LISTS,
-    TWO_OF_THREE,
-};
+use crate::support::given::{Given, TWO_KEYED_LISTS, given_of};
 use crate::support::harness::{is_said, is_tree};
 use crate::support::pages::{WalkInput, listed, plain_lines, walked};
 use crate::support::report::Report;
+use crate::support::rows::{Kind, Row, rows_of, try_tables};
 use jtree::Tree;
 use std::alloc::Global;
 use std::test::Fail;
 
-const TWO_KEYS: &str =
-    r#"{"type":"object","properties":{"m":{"type":"array","x-kubernetes-list-type":"map",
-        "x-kubernetes-list-map-keys":["host","port"],"items":{"type":"object",
-        "properties":{"host":{"type":"string"},"port":{"type":"integer"}},"required":["host","port"]}}}}"#;
-
-const ONE_OF: &str =
-    r#"{"type":"object","required":["n"],"properties":{"n":{"type":"integer","oneOf":[{"minimum":1},{"maximum":3}]}}}"#;
-
-const INT_OR_STRING: &str =
-    r#"{"type":"object","properties":{"p":{"x-kubernetes-int-or-string":true}}}"#;
-
-const LISTS_OF_LISTS: &str =
-    r#"{"type":"object","properties":{"l":{"type":"array","items":{"type":"array","items":{"type":"integer"}}}}}"#;
-
-const ALL_POOLS: &str =
-    r#"{"any":[{"q":1},"z"],"integers":[0,1],"names":["k"],"strings":["a","b"]}"#;
-
-/// All samples of a plan.
-struct SamplesRow {
-    name: &'static str,
-    given: Given<'static>,
-    lines: &'static str,
-}
-
-static SAMPLES: [SamplesRow; 16] = [
-    SamplesRow {
-        name: "two fields",
-        given: TWO_FIELDS,
-        lines: TEN_LINES,
-    },
-    SamplesRow {
-        name: "one node",
-        given: Given {
-            schema: SPEC,
-            pools: ZERO_AND_ONE,
-            limit: 1,
-        },
-        lines: "{}\n",
-    },
-    SamplesRow {
-        name: "an object that may be null",
-        given: NULLABLE_OBJECTS,
-        lines: r#"{}
-{"n":null}
-{"n":{}}
-"#,
-    },
-    SamplesRow {
-        name: "a set",
-        given: SETS,
-        lines: SIX_SETS,
-    },
-    SamplesRow {
-        name: "a map list",
-        given: MAP_LISTS,
-        lines: r#"{}
-{"m":[]}
-{"m":[{"k":"a"}]}
-{"m":[{"k":"b"}]}
-{"m":[{"k":"a","v":0}]}
-{"m":[{"k":"b","v":0}]}
-{"m":[{"k":"a"},{"k":"b"}]}
-{"m":[{"k":"b"},{"k":"a"}]}
-{"m":[{"k":"a"},{"k":"b","v":0}]}
-{"m":[{"k":"b"},{"k":"a","v":0}]}
-{"m":[{"k":"a","v":0},{"k":"b"}]}
-{"m":[{"k":"b","v":0},{"k":"a"}]}
-{"m":[{"k":"a","v":0},{"k":"b","v":0}]}
-{"m":[{"k":"b","v":0},{"k":"a","v":0}]}
-"#,
-    },
-    SamplesRow {
-        name: "a map list by two keys",
-        given: Given {
-            schema: TWO_KEYS,
-            pools: r#"{"strings":["x"],"integers":[0,1]}"#,
-            limit: 8,
-        },
-        lines: r#"{}
-{"m":[]}
-{"m":[{"host":"x","port":0}]}
-{"m":[{"host":"x","port":1}]}
-{"m":[{"host":"x","port":0},{"host":"x","port":1}]}
-{"m":[{"host":"x","port":1},{"host":"x","port":0}]}
-"#,
-    },
-    SamplesRow {
-        name: "at least two of three truth values",
-        given: TWO_OF_THREE,
-        lines: r#"{}
-{"o":{"b":false,"c":false}}
-{"o":{"b":false,"c":true}}
-{"o":{"b":true,"c":false}}
-{"o":{"b":true,"c":true}}
-{"o":{"a":false,"c":false}}
-{"o":{"a":false,"c":true}}
-{"o":{"a":false,"b":false}}
-{"o":{"a":false,"b":true}}
-{"o":{"a":true,"c":false}}
-{"o":{"a":true,"c":true}}
-{"o":{"a":true,"b":false}}
-{"o":{"a":true,"b":true}}
-"#,
-    },
-    SamplesRow {
-        name: "a map over two names",
-        given: Given {
-            schema: LABELS,
-            pools: r#"{"names":["k","j"],"strings":["x"]}"#,
-            limit: 4,
-        },
-        lines: r#"{}
-{"labels":{}}
-{"labels":{"k":"x"}}
-{"labels":{"j":"x"}}
-{"labels":{"j":"x","k":"x"}}
-"#,
-    },
-    SamplesRow {
-        name: "a map over names with a repeat",
-        given: LABELLED,
-        lines: r#"{}
-{"labels":{}}
-{"labels":{"k":"x"}}
-{"labels":{"j":"x"}}
-{"labels":{"j":"x","k":"x"}}
-"#,
-    },
-    SamplesRow {
-        name: "one of two branches",
-        given: Given {
-            schema: ONE_OF,
-            pools: r#"{"integers":[0,1,2,3,4]}"#,
-            limit: 2,
-        },
-        lines: r#"{"n":0}
-{"n":4}
-"#,
-    },
-    SamplesRow {
-        name: "a default",
-        given: DEFAULTS,
-        lines: r#"{}
-{"spec":{"f":0}}
-{"spec":{"f":7}}
-"#,
-    },
-    SamplesRow {
-        name: "int-or-string",
-        given: Given {
-            schema: INT_OR_STRING,
-            pools: r#"{"integers":[1],"strings":["1"]}"#,
-            limit: 2,
-        },
-        lines: r#"{}
-{"p":1}
-{"p":"1"}
-"#,
-    },
-    SamplesRow {
-        name: "any value",
-        given: Given {
-            schema: OPEN,
-            pools: ALL_POOLS,
-            limit: 3,
-        },
-        lines: r#"{}
-{"x":"z"}
-{"x":{"q":1}}
-"#,
-    },
-    SamplesRow {
-        name: "lists of lists",
-        given: Given {
-            schema: LISTS_OF_LISTS,
-            pools: r#"{"integers":[0]}"#,
-            limit: 4,
-        },
-        lines: r#"{}
-{"l":[]}
-{"l":[[]]}
-{"l":[[],[]]}
-{"l":[[0]]}
-"#,
-    },
-    SamplesRow {
-        name: "no null",
-        given: Given {
-            schema: OPEN,
-            pools: r#"{"any":[null]}"#,
-            limit: 2,
-        },
-        lines: "{}\n",
-    },
-    SamplesRow {
-        name: "null",
-        given: Given {
-            schema: OPEN_NULLABLE,
-            pools: r#"{"any":[null]}"#,
-            limit: 2,
-        },
-        lines: r#"{}
-{"x":null}
-"#,
-    },
-];
-
-/// The schema of a map list of more items than keys.
-struct LongList {
-    name: &'static str,
-    schema: &'static str,
-}
-
-static LONG_LISTS: [LongList; 2] = [
-    LongList {
-        name: "a list that cannot be",
-        schema: LONG_MAP_LIST,
-    },
-    LongList {
-        name: "a required list that cannot be",
-        schema: REQUIRED_LONG_MAP_LIST,
-    },
-];
+static SAMPLES: &str = r#"
+16 rows: name | schema | pools | limit
+two fields | @SPEC | {"integers":[0,1]} | 4
+    > @TEN_LINES
+one node | @SPEC | {"integers":[0,1]} | 1
+    > {}
+an object that may be null | @NULLABLE | {} | 2
+    > {}
+    > {"n":null}
+    > {"n":{}}
+a set | @SET | {"integers":[2,1,2]} | 4
+    > @SIX_SETS
+a map list | @MAP_LIST | {"strings":["a","b"],"integers":[0]} | 8
+    > {}
+    > {"m":[]}
+    > {"m":[{"k":"a"}]}
+    > {"m":[{"k":"b"}]}
+    > {"m":[{"k":"a","v":0}]}
+    > {"m":[{"k":"b","v":0}]}
+    > {"m":[{"k":"a"},{"k":"b"}]}
+    > {"m":[{"k":"b"},{"k":"a"}]}
+    > {"m":[{"k":"a"},{"k":"b","v":0}]}
+    > {"m":[{"k":"b"},{"k":"a","v":0}]}
+    > {"m":[{"k":"a","v":0},{"k":"b"}]}
+    > {"m":[{"k":"b","v":0},{"k":"a"}]}
+    > {"m":[{"k":"a","v":0},{"k":"b","v":0}]}
+    > {"m":[{"k":"b","v":0},{"k":"a","v":0}]}
+a map list by two keys
+    | {"type":"object","properties":{"m":{"type":"array","x-kubernetes-list-type":"map","x-kubernetes-list-map-keys":["host","port"],
+    "items":{"type":"object","properties":{"host":{"type":"string"},"port":{"type":"integer"}},"required":["host","port"]}}}}
+    | {"strings":["x"],"integers":[0,1]} | 8
+    > {}
+    > {"m":[]}
+    > {"m":[{"host":"x","port":0}]}
+    > {"m":[{"host":"x","port":1}]}
+    > {"m":[{"host":"x","port":0},{"host":"x","port":1}]}
+    > {"m":[{"host":"x","port":1},{"host":"x","port":0}]}
+at least two of three truth values | @TRUTHS | {} | 4
+    > {}
+    > {"o":{"b":false,"c":false}}
+    > {"o":{"b":false,"c":true}}
+    > {"o":{"b":true,"c":false}}
+    > {"o":{"b":true,"c":true}}
+    > {"o":{"a":false,"c":false}}
+    > {"o":{"a":false,"c":true}}
+    > {"o":{"a":false,"b":false}}
+    > {"o":{"a":false,"b":true}}
+    > {"o":{"a":true,"c":false}}
+    > {"o":{"a":true,"c":true}}
+    > {"o":{"a":true,"b":false}}
+    > {"o":{"a":true,"b":true}}
+a map over two names | @LABELS | {"names":["k","j"],"strings":["x"]} | 4
+    > {}
+    > {"labels":{}}
+    > {"labels":{"k":"x"}}
+    > {"labels":{"j":"x"}}
+    > {"labels":{"j":"x","k":"x"}}
+a map over names with a repeat | @LABELS | {"names":["k","j","k"],"strings":["x"]} | 4
+    > {}
+    > {"labels":{}}
+    > {"labels":{"k":"x"}}
+    > {"labels":{"j":"x"}}
+    > {"labels":{"j":"x","k":"x"}}
+one of two branches | {"type":"object","required":["n"],"properties":{"n":{"type":"integer","oneOf":[{"minimum":1},{"maximum":3}]}}}
+    | {"integers":[0,1,2,3,4]} | 2
+    > {"n":0}
+    > {"n":4}
+a default | @DEFAULTED | {"integers":[0,7]} | 3
+    > {}
+    > {"spec":{"f":0}}
+    > {"spec":{"f":7}}
+int-or-string | {"type":"object","properties":{"p":{"x-kubernetes-int-or-string":true}}} | {"integers":[1],"strings":["1"]} | 2
+    > {}
+    > {"p":1}
+    > {"p":"1"}
+any value | @OPEN | {"any":[{"q":1},"z"],"integers":[0,1],"names":["k"],"strings":["a","b"]} | 3
+    > {}
+    > {"x":"z"}
+    > {"x":{"q":1}}
+lists of lists | {"type":"object","properties":{"l":{"type":"array","items":{"type":"array","items":{"type":"integer"}}}}} | {"integers":[0]} | 4
+    > {}
+    > {"l":[]}
+    > {"l":[[]]}
+    > {"l":[[],[]]}
+    > {"l":[[0]]}
+no null | @OPEN | {"any":[null]} | 2
+    > {}
+null | @OPEN_NULLABLE | {"any":[null]} | 2
+    > {}
+    > {"x":null}
+"#;
 
 /// What a walk writes by pages of three.
 fn walked_lines(alloc: Global, given: Given<'_>) -> Result<String, Fail> {
@@ -256,22 +119,31 @@ fn walked_lines(alloc: Global, given: Given<'_>) -> Result<String, Fail> {
     Ok(String::from_str(alloc, sink.text())?)
 }
 
-fn try_samples(report: &mut Report, alloc: Global, row: &SamplesRow) -> Result<(), Fail> {
-    is_said(report, "samples", plain_lines(alloc, row.given), row.lines)?;
-    is_said(report, "lines", walked_lines(alloc, row.given), row.lines)
+/// All samples of a plan.
+struct SamplesRow;
+
+impl Kind for SamplesRow {
+    fn attempt(&self, report: &mut Report, alloc: Global, row: &Row) -> Result<(), Fail> {
+        is_said(
+            report,
+            "samples",
+            plain_lines(alloc, given_of(row)),
+            row.out(),
+        )?;
+        is_said(
+            report,
+            "lines",
+            walked_lines(alloc, given_of(row)),
+            row.out(),
+        )
+    }
 }
 
 #[test]
 fn samples(rt: HostRuntime) -> Result<(), Fail> {
-    let mut report = Report::new(rt.alloc());
-    for row in &SAMPLES {
-        let ended = try_samples(&mut report, rt.alloc(), row);
-        report.row(row.name, ended);
-    }
-    report.end(&rt)
+    try_tables(&rt, rt.alloc(), &SamplesRow, &[SAMPLES])
 }
 
-/// The plans of at most 1 to 8 nodes are as the plain reference has them.
 fn are_plain(report: &mut Report, alloc: Global, schema: &str, pools: &str, name: &str) {
     for limit in 1..9 {
         let given = Given {
@@ -286,9 +158,9 @@ fn are_plain(report: &mut Report, alloc: Global, schema: &str, pools: &str, name
 #[test]
 fn plans_at_each_limit(rt: HostRuntime) -> Result<(), Fail> {
     let mut report = Report::new(rt.alloc());
-    for row in &SAMPLES {
-        let Given { schema, pools, .. } = row.given;
-        are_plain(&mut report, rt.alloc(), schema, pools, row.name);
+    for row in &rows_of(rt.alloc(), &[SAMPLES])? {
+        let Given { schema, pools, .. } = given_of(row);
+        are_plain(&mut report, rt.alloc(), schema, pools, row.name());
     }
     report.end(&rt)
 }
@@ -296,8 +168,11 @@ fn plans_at_each_limit(rt: HostRuntime) -> Result<(), Fail> {
 #[test]
 fn plans_of_long_lists(rt: HostRuntime) -> Result<(), Fail> {
     let mut report = Report::new(rt.alloc());
-    for row in &LONG_LISTS {
-        are_plain(&mut report, rt.alloc(), row.schema, TWO_TEXTS, row.name);
+    for (name, schema) in [
+        ("a list that cannot be", LONG_MAP_LIST),
+        ("a required list that cannot be", REQUIRED_LONG_MAP_LIST),
+    ] {
+        are_plain(&mut report, rt.alloc(), schema, TWO_TEXTS, name);
     }
     report.end(&rt)
 }

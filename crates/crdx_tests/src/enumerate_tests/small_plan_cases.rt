@@ -2,9 +2,8 @@
 use crate::support::comparison::compare_plan;
 use crate::support::given::Given;
 use crate::support::report::Report;
-use crate::support::small_nodes::{
-    HOLDERS, HOLDERS_OF_SCALARS, Held, Holder, LEAVES, NODES, PRESENCE, SCALARS,
-};
+use crate::support::rows::{Row, rows_of};
+use crate::support::small_nodes::{HOLDERS, HOLDERS_OF_SCALARS, LEAVES, NODES, PRESENCE, SCALARS};
 use std::alloc::{AllocError, Global};
 use std::test::Fail;
 
@@ -22,47 +21,55 @@ struct Over<'a> {
     name: &'a str,
 }
 
+fn one_node(
+    report: &mut Report,
+    alloc: Global,
+    holder: &Row,
+    node: &Row,
+    over: Over<'_>,
+) -> Result<(), AllocError> {
+    let name = format!(in alloc; "{} of {}{}", holder.name(), node.name(), over.name)?;
+    let (head, schema, tail) = (
+        holder.text("head"),
+        node.text("schema"),
+        holder.text("tail"),
+    );
+    let schema = format!(in alloc; "{head}{schema}{tail}")?;
+    let given = Given {
+        schema: schema.as_str(),
+        pools: over.pools,
+        limit: over.limit,
+    };
+    compare_plan(report, alloc, given, name.as_str());
+    Ok(())
+}
+
+/// Each node of a table in each way to hold it.
 fn all_nodes(
     report: &mut Report,
     alloc: Global,
-    holder: &Holder,
-    nodes: &[Held],
+    holders: &str,
+    nodes: &[&str],
     over: Over<'_>,
-) -> Result<(), AllocError> {
-    for node in nodes {
-        let name = format!(in alloc; "{} of {}{}", holder.name, node.name, over.name)?;
-        let schema = format!(in alloc; "{}{}{}", holder.head, node.schema, holder.tail)?;
-        let given = Given {
-            schema: schema.as_str(),
-            pools: over.pools,
-            limit: over.limit,
-        };
-        compare_plan(report, alloc, given, name.as_str());
+) -> Result<(), Fail> {
+    let nodes = rows_of(alloc, nodes)?;
+    for holder in &rows_of(alloc, &[holders])? {
+        for node in &nodes {
+            one_node(report, alloc, holder, node, over)?;
+        }
     }
     Ok(())
 }
 
-fn all_plans(
-    report: &mut Report,
-    alloc: Global,
-    pools: &str,
-    limit: u32,
-) -> Result<(), AllocError> {
+fn all_plans(report: &mut Report, alloc: Global, pools: &str, limit: u32) -> Result<(), Fail> {
     let over = Over {
         pools,
         limit,
         name: "",
     };
-    for holder in &HOLDERS {
-        all_nodes(report, alloc, holder, &SCALARS, over)?;
-        all_nodes(report, alloc, holder, &LEAVES, over)?;
-        all_nodes(report, alloc, holder, &NODES, over)?;
-        all_nodes(report, alloc, holder, &PRESENCE, over)?;
-    }
-    for holder in &HOLDERS_OF_SCALARS {
-        all_nodes(report, alloc, holder, &SCALARS, over)?;
-    }
-    Ok(())
+    let nodes = &[SCALARS, LEAVES, NODES, PRESENCE];
+    all_nodes(report, alloc, HOLDERS, nodes, over)?;
+    all_nodes(report, alloc, HOLDERS_OF_SCALARS, &[SCALARS], over)
 }
 
 #[test]
@@ -86,212 +93,118 @@ fn plans_without_pools(rt: HostRuntime) -> Result<(), Fail> {
     report.end(&rt)
 }
 
-/// A list of values for the path of the node that is held.
-struct Listed {
-    name: &'static str,
-    list: &'static str,
-}
-
 /// With values of another kind and a repeat, and without values.
-static LISTS: [Listed; 3] = [
-    Listed {
-        name: "a list of scalars",
-        list: r#"[3,1,"bb",null,true,3]"#,
-    },
-    Listed {
-        name: "a list of other values",
-        list: r#"[{"q":[1]},"a",[]]"#,
-    },
-    Listed {
-        name: "an empty list",
-        list: "[]",
-    },
-];
+static LISTS: &str = r#"
+3 rows: name | list
+a list of scalars | [3,1,"bb",null,true,3]
+a list of other values | [{"q":[1]},"a",[]]
+an empty list | []
+"#;
+
+/// Fixed values: of each kind with a repeat, and none.
+static FIXED: &str = r#"
+3 rows: name | list
+fixed integers and lists | [3,{"a":true,"b":1},["bb"],3,[{"k":"z"}]]
+fixed nulls, texts and objects | [null,"bb",{},[true,false],{"p":"a"}]
+no fixed value | []
+"#;
+
+/// A list for the path of a holder, over other pools.
+#[derive(Clone, Copy)]
+struct Listed<'a> {
+    /// The pools before the members of the last one.
+    front: &'a str,
+    row: &'a Row,
+}
 
 fn listed_nodes(
     report: &mut Report,
     alloc: Global,
-    holder: &Holder,
-    nodes: &[Held],
-    row: &Listed,
+    holder: &Row,
+    nodes: &[Row],
+    listed: Listed<'_>,
 ) -> Result<(), AllocError> {
-    let pools = format!(in alloc;
-        r#"{{"any":["z"],"integers":[0,5],"names":["p"],"strings":["bb","c"],"paths":{{"{}":{}}}}}"#,
-        holder.path, row.list
-    )?;
-    let name = format!(in alloc; ", {}", row.name)?;
+    let Listed { front, row } = listed;
+    let (path, list) = (holder.text("path"), row.text("list"));
+    let pools = format!(in alloc; r#"{front}{{"{path}":{list}}}}}"#)?;
+    let name = format!(in alloc; ", {}", row.name())?;
     let over = Over {
         pools: pools.as_str(),
         limit: 6,
         name: name.as_str(),
     };
-    all_nodes(report, alloc, holder, nodes, over)
+    for node in nodes {
+        one_node(report, alloc, holder, node, over)?;
+    }
+    Ok(())
 }
 
-fn listed_plans(report: &mut Report, alloc: Global, row: &Listed) -> Result<(), AllocError> {
-    for holder in &HOLDERS {
-        listed_nodes(report, alloc, holder, &SCALARS, row)?;
-        listed_nodes(report, alloc, holder, &LEAVES, row)?;
-    }
-    for holder in &HOLDERS_OF_SCALARS {
-        listed_nodes(report, alloc, holder, &SCALARS, row)?;
+/// Each node of a table in each way to hold it.
+fn listed_plans(
+    report: &mut Report,
+    alloc: Global,
+    holders: &str,
+    nodes: &[&str],
+    listed: Listed<'_>,
+) -> Result<(), Fail> {
+    let nodes = rows_of(alloc, nodes)?;
+    for holder in &rows_of(alloc, &[holders])? {
+        listed_nodes(report, alloc, holder, &nodes, listed)?;
     }
     Ok(())
 }
 
 #[test]
 fn plans_with_lists_for_paths(rt: HostRuntime) -> Result<(), Fail> {
-    let mut report = Report::new(rt.alloc());
-    for row in &LISTS {
-        listed_plans(&mut report, rt.alloc(), row)?;
+    let alloc = rt.alloc();
+    let mut report = Report::new(alloc);
+    let front = r#"{"any":["z"],"integers":[0,5],"names":["p"],"strings":["bb","c"],"paths":"#;
+    for row in &rows_of(alloc, &[LISTS])? {
+        let listed = Listed { front, row };
+        listed_plans(&mut report, alloc, HOLDERS, &[SCALARS, LEAVES], listed)?;
+        listed_plans(&mut report, alloc, HOLDERS_OF_SCALARS, &[SCALARS], listed)?;
     }
     report.end(&rt)
-}
-
-/// Fixed values: of each kind with a repeat, and none.
-static FIXED: [Listed; 3] = [
-    Listed {
-        name: "fixed integers and lists",
-        list: r#"[3,{"a":true,"b":1},["bb"],3,[{"k":"z"}]]"#,
-    },
-    Listed {
-        name: "fixed nulls, texts and objects",
-        list: r#"[null,"bb",{},[true,false],{"p":"a"}]"#,
-    },
-    Listed {
-        name: "no fixed value",
-        list: "[]",
-    },
-];
-
-fn fixed_nodes(
-    report: &mut Report,
-    alloc: Global,
-    holder: &Holder,
-    nodes: &[Held],
-    row: &Listed,
-) -> Result<(), AllocError> {
-    let pools = format!(in alloc;
-        r#"{{"any":["z"],"integers":[0],"names":["p"],"strings":["c"],"fixed":{{"{}":{}}}}}"#,
-        holder.path, row.list
-    )?;
-    let name = format!(in alloc; ", {}", row.name)?;
-    let over = Over {
-        pools: pools.as_str(),
-        limit: 6,
-        name: name.as_str(),
-    };
-    all_nodes(report, alloc, holder, nodes, over)
-}
-
-fn fixed_plans(report: &mut Report, alloc: Global, row: &Listed) -> Result<(), AllocError> {
-    for holder in &HOLDERS {
-        fixed_nodes(report, alloc, holder, &LEAVES, row)?;
-        fixed_nodes(report, alloc, holder, &NODES, row)?;
-    }
-    for holder in &HOLDERS_OF_SCALARS {
-        fixed_nodes(report, alloc, holder, &SCALARS, row)?;
-    }
-    Ok(())
 }
 
 #[test]
 fn plans_over_fixed_values(rt: HostRuntime) -> Result<(), Fail> {
-    let mut report = Report::new(rt.alloc());
-    for row in &FIXED {
-        fixed_plans(&mut report, rt.alloc(), row)?;
+    let alloc = rt.alloc();
+    let mut report = Report::new(alloc);
+    let front = r#"{"any":["z"],"integers":[0],"names":["p"],"strings":["c"],"fixed":"#;
+    for row in &rows_of(alloc, &[FIXED])? {
+        let listed = Listed { front, row };
+        listed_plans(&mut report, alloc, HOLDERS, &[LEAVES, NODES], listed)?;
+        listed_plans(&mut report, alloc, HOLDERS_OF_SCALARS, &[SCALARS], listed)?;
     }
     report.end(&rt)
 }
 
-/// A node that has nodes below it, and the texts of two steps that are asked for below it.
-struct Asked {
-    node: Held,
-    one: &'static str,
-    other: &'static str,
-}
-
-static ASKED: [Asked; 9] = [
-    Asked {
-        node: Held {
-            name: "objects",
-            schema: r#"{"type":"object","properties":{"a":{"type":"boolean"},"b":{"type":"boolean","nullable":true}}}"#,
-        },
-        one: "/b",
-        other: "/a",
-    },
-    Asked {
-        node: Held {
-            name: "objects or null",
-            schema: r#"{"type":"object","nullable":true,"properties":{"a":{"type":"boolean"},"b":{"type":"integer"}}}"#,
-        },
-        one: "/a",
-        other: "/a",
-    },
-    Asked {
-        node: Held {
-            name: "objects with a required field and a default",
-            schema: r#"{"type":"object","nullable":true,"required":["a"],"properties":{"a":{"type":"boolean"},"f":{"type":"integer","default":7}}}"#,
-        },
-        one: "/f",
-        other: "/a",
-    },
-    Asked {
-        node: Held {
-            name: "objects with at most one of two fields",
-            schema: r#"{"type":"object","maxProperties":1,"properties":{"a":{"type":"boolean"},
-        "b":{"type":"object","nullable":true,"properties":{"c":{"type":"boolean"}}}}}"#,
-        },
-        one: "/b",
-        other: "/b/c",
-    },
-    Asked {
-        node: Held {
-            name: "objects with one of two fields",
-            schema: r#"{"type":"object","nullable":true,"oneOf":[{"required":["a"]},{"required":["b"]}],
-        "properties":{"a":{"type":"boolean"},"b":{"type":"object"},"c":{"type":"object"}}}"#,
-        },
-        one: "/c",
-        other: "/b",
-    },
-    Asked {
-        node: Held {
-            name: "maps or null",
-            schema: r#"{"type":"object","nullable":true,"additionalProperties":{"type":"boolean","nullable":true}}"#,
-        },
-        one: "/{}",
-        other: "/{}",
-    },
-    Asked {
-        node: Held {
-            name: "maps of lists",
-            schema: r#"{"type":"object","maxProperties":1,"additionalProperties":{"type":"array","nullable":true,"items":{"type":"boolean"}}}"#,
-        },
-        one: "/{}/[]",
-        other: "/{}",
-    },
-    Asked {
-        node: Held {
-            name: "lists or null",
-            schema: r#"{"type":"array","nullable":true,"items":{"type":"object","nullable":true,"properties":{"a":{"type":"boolean"}}}}"#,
-        },
-        one: "/[]",
-        other: "/[]/a",
-    },
-    Asked {
-        node: Held {
-            name: "map lists",
-            schema: r#"{"type":"array","maxItems":2,"x-kubernetes-list-type":"map","x-kubernetes-list-map-keys":["k"],
-        "items":{"type":"object","required":["k"],"properties":{"k":{"type":"boolean"},"v":{"type":"boolean"}}}}"#,
-        },
-        one: "/[]",
-        other: "/[]/v",
-    },
-];
+// Nodes that have nodes below them, and the texts of two steps that are asked for below each.
+static ASKED: &str = r#"
+9 rows: name | schema | one | other
+objects | {"type":"object","properties":{"a":{"type":"boolean"},"b":{"type":"boolean","nullable":true}}} | /b | /a
+objects or null | {"type":"object","nullable":true,"properties":{"a":{"type":"boolean"},"b":{"type":"integer"}}} | /a | /a
+objects with a required field and a default
+    | {"type":"object","nullable":true,"required":["a"],"properties":{"a":{"type":"boolean"},"f":{"type":"integer","default":7}}} | /f | /a
+objects with at most one of two fields
+    | {"type":"object","maxProperties":1,"properties":{"a":{"type":"boolean"},"b":{"type":"object","nullable":true,
+    "properties":{"c":{"type":"boolean"}}}}} | /b | /b/c
+objects with one of two fields
+    | {"type":"object","nullable":true,"oneOf":[{"required":["a"]},{"required":["b"]}],
+    "properties":{"a":{"type":"boolean"},"b":{"type":"object"},"c":{"type":"object"}}} | /c | /b
+maps or null | {"type":"object","nullable":true,"additionalProperties":{"type":"boolean","nullable":true}} | /{} | /{}
+maps of lists | {"type":"object","maxProperties":1,"additionalProperties":{"type":"array","nullable":true,"items":{"type":"boolean"}}} | /{}/[] | /{}
+lists or null | {"type":"array","nullable":true,"items":{"type":"object","nullable":true,"properties":{"a":{"type":"boolean"}}}} | /[] | /[]/a
+map lists
+    | {"type":"array","maxItems":2,"x-kubernetes-list-type":"map","x-kubernetes-list-map-keys":["k"],
+    "items":{"type":"object","required":["k"],"properties":{"k":{"type":"boolean"},"v":{"type":"boolean"}}}}
+    | /[] | /[]/v
+"#;
 
 /// The path of the node that is held, what is below it, or both are asked for.
-fn present_paths(alloc: Global, path: &str, row: &Asked, place: u32) -> Result<String, AllocError> {
-    let Asked { one, other, .. } = row;
+fn present_paths(alloc: Global, path: &str, row: &Row, place: u32) -> Result<String, AllocError> {
+    let (one, other) = (row.text("one"), row.text("other"));
     match place {
         0 => format!(in alloc; r#"["{path}"]"#),
         1 => format!(in alloc; r#"["{path}{one}"]"#),
@@ -303,8 +216,8 @@ fn present_paths(alloc: Global, path: &str, row: &Asked, place: u32) -> Result<S
 fn asked_node(
     report: &mut Report,
     alloc: Global,
-    holder: &Holder,
-    row: &Asked,
+    holder: &Row,
+    row: &Row,
     present: &str,
 ) -> Result<(), AllocError> {
     let pools = format!(in alloc; r#"{{"integers":[0],"names":["p"],"present":{present}}}"#)?;
@@ -314,17 +227,17 @@ fn asked_node(
         limit: 6,
         name: name.as_str(),
     };
-    all_nodes(report, alloc, holder, &[row.node], over)
+    one_node(report, alloc, holder, row, over)
 }
 
 fn asked_nodes(
     report: &mut Report,
     alloc: Global,
-    holder: &Holder,
-    row: &Asked,
+    holder: &Row,
+    row: &Row,
 ) -> Result<(), AllocError> {
     for place in 0..4 {
-        let present = present_paths(alloc, holder.path, row, place)?;
+        let present = present_paths(alloc, holder.text("path"), row, place)?;
         asked_node(report, alloc, holder, row, present.as_str())?;
     }
     Ok(())
@@ -333,8 +246,8 @@ fn asked_nodes(
 #[test]
 fn plans_over_present_paths(rt: HostRuntime) -> Result<(), Fail> {
     let mut report = Report::new(rt.alloc());
-    for holder in &HOLDERS {
-        for row in &ASKED {
+    for holder in &rows_of(rt.alloc(), &[HOLDERS])? {
+        for row in &rows_of(rt.alloc(), &[ASKED])? {
             asked_nodes(&mut report, rt.alloc(), holder, row)?;
         }
     }

@@ -1,13 +1,10 @@
 //! Plans over words of 128 bits: limits above 63, and the same pages as over words of 64 bits below.
-use crate::support::documents::{
-    DEFAULTED, LABELS, NAMES, OPEN, SPEC, THIRTY_ONE, ZERO_AND_ONE, ZERO_AND_SEVEN,
-};
-use crate::support::given::{
-    FIFTEEN_ITEMS, Given, MAP_LISTS, ONE_OF_TWO_FIELDS, SETS_OF_63_NODES, TWO_FIELDS, made,
-};
+use crate::support::documents::THIRTY_ONE;
+use crate::support::given::{Given, given_of, made};
 use crate::support::harness::{is_said, pools_of, schema_of};
 use crate::support::pages::{lines_of, list_before_three, next_three_lists};
 use crate::support::report::Report;
+use crate::support::rows::{Kind, Row, try_tables};
 use enumerate::page;
 use jtree::Tree;
 use plan::{Meter, Plan};
@@ -56,66 +53,18 @@ fn thirty_one_items(rt: HostRuntime) -> Result<(), Fail> {
     report.end(&rt)
 }
 
-/// A plan that both words can have.
-struct WidePlan {
-    name: &'static str,
-    given: Given<'static>,
-}
-
-static PLANS: [WidePlan; 9] = [
-    WidePlan {
-        name: "two fields",
-        given: TWO_FIELDS,
-    },
-    WidePlan {
-        name: "two fields, and more room",
-        given: Given {
-            schema: SPEC,
-            pools: ZERO_AND_ONE,
-            limit: 63,
-        },
-    },
-    WidePlan {
-        name: "a map list",
-        given: MAP_LISTS,
-    },
-    WidePlan {
-        name: "a set",
-        given: SETS_OF_63_NODES,
-    },
-    WidePlan {
-        name: "a field with a default",
-        given: Given {
-            schema: DEFAULTED,
-            pools: ZERO_AND_SEVEN,
-            limit: 5,
-        },
-    },
-    WidePlan {
-        name: "a map",
-        given: Given {
-            schema: LABELS,
-            pools: NAMES,
-            limit: 9,
-        },
-    },
-    WidePlan {
-        name: "any value",
-        given: Given {
-            schema: OPEN,
-            pools: r#"{"any":[[1,2,3],"x"]}"#,
-            limit: 6,
-        },
-    },
-    WidePlan {
-        name: "one of two fields",
-        given: ONE_OF_TWO_FIELDS,
-    },
-    WidePlan {
-        name: "fifteen objects",
-        given: FIFTEEN_ITEMS,
-    },
-];
+static PLANS: &str = r#"
+9 rows: name | schema | pools | limit
+two fields | @SPEC | {"integers":[0,1]} | 4
+two fields, and more room | @SPEC | {"integers":[0,1]} | 63
+a map list | @MAP_LIST | {"strings":["a","b"],"integers":[0]} | 8
+a set | @SET | {"integers":[2,1,2]} | 63
+a field with a default | @DEFAULTED | {"integers":[0,7]} | 5
+a map | @LABELS | {"names":["k","j","k"],"strings":["x"]} | 9
+any value | @OPEN | {"any":[[1,2,3],"x"]} | 6
+one of two fields | @ONE_OF_TWO | {} | 4
+fifteen objects | @FIFTEEN | {} | 63
+"#;
 
 fn are_same(
     report: &mut Report,
@@ -135,19 +84,19 @@ fn are_same(
     Ok(())
 }
 
-fn try_same(report: &mut Report, alloc: Global, row: &WidePlan) -> Result<(), Fail> {
-    let mut plan = made(alloc, row.given)?;
-    let other = wide(alloc, row.given)?;
-    let mut meter = plan.meter();
-    are_same(report, alloc, &plan, &other, &mut meter)
+/// A plan that both words can have.
+struct WidePlan;
+
+impl Kind for WidePlan {
+    fn attempt(&self, report: &mut Report, alloc: Global, row: &Row) -> Result<(), Fail> {
+        let mut plan = made(alloc, given_of(row))?;
+        let other = wide(alloc, given_of(row))?;
+        let mut meter = plan.meter();
+        are_same(report, alloc, &plan, &other, &mut meter)
+    }
 }
 
 #[test]
 fn pages_of_both_words(rt: HostRuntime) -> Result<(), Fail> {
-    let mut report = Report::new(rt.alloc());
-    for row in &PLANS {
-        let ended = try_same(&mut report, rt.alloc(), row);
-        report.row(row.name, ended);
-    }
-    report.end(&rt)
+    try_tables(&rt, rt.alloc(), &WidePlan, &[PLANS])
 }

@@ -3,6 +3,7 @@ use crate::support::documents::MAP_LIST;
 use crate::support::harness::{is_said, schema_of};
 use crate::support::nodes::{node_text, push_flag, push_keyword};
 use crate::support::report::Report;
+use crate::support::rows::{Kind, Row, all_rows};
 use explain::{Field, Listing, XFault, resolve};
 use schema::{ListType, MapType};
 use std::alloc::Global;
@@ -27,70 +28,18 @@ fn fault_text(alloc: Global, fault: &XFault) -> Result<String, Fail> {
     Ok(fault.to_string(alloc)?)
 }
 
-/// A path, the text of its field, and its node; or the code of the fault of both.
-struct Path {
-    name: &'static str,
-    path: &'static str,
-    field: &'static str,
-    node: &'static str,
-}
-
-static PATHS: [Path; 9] = [
-    Path {
-        name: "a map list",
-        path: "/m",
-        field: "[]Object map list key=k",
-        node: "list of=object map key=k",
-    },
-    Path {
-        name: "an item of a map list",
-        path: "/m/[]",
-        field: "Object granular",
-        node: "object k=string required v=integer",
-    },
-    Path {
-        name: "a key",
-        path: "/m/[]/k",
-        field: "string required",
-        node: "string",
-    },
-    Path {
-        name: "a field of an item",
-        path: "/m/[]/v",
-        field: "integer",
-        node: "integer",
-    },
-    Path {
-        name: "the root",
-        path: "",
-        field: "X2",
-        node: "X2",
-    },
-    Path {
-        name: "a field of an item, without the item",
-        path: "/m/k",
-        field: "X2",
-        node: "X2",
-    },
-    Path {
-        name: "a slash after a key",
-        path: "/m/[]/k/",
-        field: "X2",
-        node: "X2",
-    },
-    Path {
-        name: "no slash before a name",
-        path: "m",
-        field: "X1",
-        node: "X1",
-    },
-    Path {
-        name: "a bracket alone",
-        path: "/m/[",
-        field: "X1",
-        node: "X1",
-    },
-];
+static PATHS: &str = r#"
+9 rows: name | path | field | node
+a map list | /m | []Object map list key=k | list of=object map key=k
+an item of a map list | /m/[] | Object granular | object k=string required v=integer
+a key | /m/[]/k | string required | string
+a field of an item | /m/[]/v | integer | integer
+the root | - | X2 | X2
+a field of an item, without the item | /m/k | X2 | X2
+a slash after a key | /m/[]/k/ | X2 | X2
+no slash before a name | m | X1 | X1
+a bracket alone | /m/[ | X1 | X1
+"#;
 
 fn said_of_field(alloc: Global, listing: &Listing, path: &str) -> Result<String, Fail> {
     match listing.field(path) {
@@ -106,17 +55,20 @@ fn said_of_node(alloc: Global, schema: &Schema, path: &str) -> Result<String, Fa
     }
 }
 
-fn try_path(
-    report: &mut Report,
-    alloc: Global,
-    schema: &Schema,
-    listing: &Listing,
-    row: &Path,
-) -> Result<(), Fail> {
-    let found = said_of_field(alloc, listing, row.path);
-    is_said(report, "the field", found, row.field)?;
-    let found = said_of_node(alloc, schema, row.path);
-    is_said(report, "the node", found, row.node)
+/// A path, the text of its field, and its node; or the code of the fault of both.
+#[derive(Drop)]
+struct PathRow<'a> {
+    schema: &'a Schema,
+    listing: &'a Listing,
+}
+
+impl Kind for PathRow<'_> {
+    fn attempt(&self, report: &mut Report, alloc: Global, row: &Row) -> Result<(), Fail> {
+        let found = said_of_field(alloc, self.listing, row.text("path"));
+        is_said(report, "the field", found, row.text("field"))?;
+        let found = said_of_node(alloc, self.schema, row.text("path"));
+        is_said(report, "the node", found, row.text("node"))
+    }
 }
 
 #[test]
@@ -130,9 +82,10 @@ fn fields_and_nodes_of_paths(rt: HostRuntime) -> Result<(), Fail> {
     let last = fields.last().map(|field| field.path.as_str());
     report.is_value("the last path", &last, &Some("/m/[]/v"));
     report.row("all fields", Ok(()));
-    for row in &PATHS {
-        let ended = try_path(&mut report, rt.alloc(), &schema, &listing, row);
-        report.row(row.name, ended);
-    }
+    let kind = PathRow {
+        schema: &schema,
+        listing: &listing,
+    };
+    all_rows(&mut report, rt.alloc(), &kind, &[PATHS]);
     report.end(&rt)
 }

@@ -2,62 +2,25 @@
 use crate::support::fakes::FailingSource;
 use crate::support::harness::is_said;
 use crate::support::report::Report;
+use crate::support::rows::{Kind, Row, try_tables};
 use crate::support::texts::padded;
 use jtree::lines::{LineFeed, LineSource};
-use jtree::{JFault, MOST_BYTES, Tree};
+use jtree::{JFault, Tree};
 use std::alloc::Global;
 use std::fmt::Write;
 use std::test::Fail;
 
-/// The bytes of a source, and what is read of each line, which is in brackets; or the fault that ends them.
-struct LinesRow {
-    name: &'static str,
-    bytes: &'static str,
-    wanted: &'static str,
-}
-
-static LINES: [LinesRow; 8] = [
-    LinesRow {
-        name: "no bytes",
-        bytes: "",
-        wanted: "",
-    },
-    LinesRow {
-        name: "a newline alone",
-        bytes: "\n",
-        wanted: "[J3]",
-    },
-    LinesRow {
-        name: "one line",
-        bytes: "{}\n",
-        wanted: "[{}]",
-    },
-    LinesRow {
-        name: "the last line without a newline",
-        bytes: "{}\n1",
-        wanted: "[{}][1]",
-    },
-    LinesRow {
-        name: "empty lines",
-        bytes: "\n1\n\n2\n\n",
-        wanted: "[J3][1][J3][2][J3]",
-    },
-    LinesRow {
-        name: "a line break of two characters",
-        bytes: "1\r\n[2]\r\n",
-        wanted: "[1][[2]]",
-    },
-    LinesRow {
-        name: "lines that are no documents",
-        bytes: "{\n0.5\n3\n",
-        wanted: "[J3][J1][3]",
-    },
-    LinesRow {
-        name: "a newline in a text",
-        bytes: "\"a\\nb\"\n\"a\nb\"\n",
-        wanted: "[\"a\\nb\"][J3][J3]",
-    },
-];
+static LINES: &str = r#"
+8 rows: name | bytes | wanted
+no bytes | - | -
+a newline alone | ␊ | [J3]
+one line | {}␊ | [{}]
+the last line without a newline | {}␊1 | [{}][1]
+empty lines | ␊1␊␊2␊␊ | [J3][1][J3][2][J3]
+a line break of two characters | 1␍␊[2]␍␊ | [1][[2]]
+lines that are no documents | {␊0.5␊3␊ | [J3][J1][3]
+a newline in a text | "a\nb"␊"a␊b"␊ | ["a\nb"][J3][J3]
+"#;
 
 fn push_read(alloc: Global, all: &mut String, read: Result<Tree, JFault>) -> Result<(), Fail> {
     let text = match read {
@@ -85,128 +48,89 @@ fn said_of(alloc: Global, source: FailingSource<'_>) -> Result<String, Fail> {
     Ok(all)
 }
 
-fn try_lines(report: &mut Report, alloc: Global, row: &LinesRow) -> Result<(), Fail> {
-    for step in [1, 2, 3, usize::MAX] {
-        let source = FailingSource::new(row.bytes.as_bytes(), step, usize::MAX);
-        is_said(report, "the lines", said_of(alloc, source), row.wanted)?;
+/// The bytes of a source, and what is read of each line, which is in brackets; or the fault that ends them.
+struct LinesRow;
+
+impl Kind for LinesRow {
+    fn attempt(&self, report: &mut Report, alloc: Global, row: &Row) -> Result<(), Fail> {
+        for step in [1, 2, 3, usize::MAX] {
+            let source = FailingSource::new(row.text("bytes").as_bytes(), step, usize::MAX);
+            is_said(
+                report,
+                "the lines",
+                said_of(alloc, source),
+                row.text("wanted"),
+            )?;
+        }
+        Ok(())
     }
-    Ok(())
 }
 
 /// The lines are the same in pieces of any length.
 #[test]
 fn lines(rt: HostRuntime) -> Result<(), Fail> {
     jtree::laws::lines_are_unique();
-    let mut report = Report::new(rt.alloc());
-    for row in &LINES {
-        let ended = try_lines(&mut report, rt.alloc(), row);
-        report.row(row.name, ended);
-    }
-    report.end(&rt)
+    try_tables(&rt, rt.alloc(), &LinesRow, &[LINES])
 }
+
+static LONG_LINES: &str = r#"
+4 rows: name | spaces | end | wanted
+the longest line, the last one | 1048575 | - | [1]
+the longest line before another | 1048575 | ␊2 | [1][2]
+one byte more, in the last line | 1048576 | - | J4
+one byte more, in a line before another | 1048576 | ␊2 | J4
+"#;
 
 /// A 1 with so many spaces after it, an end, and what is read of the lines.
-struct LongLine {
-    name: &'static str,
-    spaces: usize,
-    end: &'static str,
-    wanted: &'static str,
-}
+struct LongLine;
 
-static LONG_LINES: [LongLine; 4] = [
-    LongLine {
-        name: "the longest line, the last one",
-        spaces: MOST_BYTES - 1,
-        end: "",
-        wanted: "[1]",
-    },
-    LongLine {
-        name: "the longest line before another",
-        spaces: MOST_BYTES - 1,
-        end: "\n2",
-        wanted: "[1][2]",
-    },
-    LongLine {
-        name: "one byte more, in the last line",
-        spaces: MOST_BYTES,
-        end: "",
-        wanted: "J4",
-    },
-    LongLine {
-        name: "one byte more, in a line before another",
-        spaces: MOST_BYTES,
-        end: "\n2",
-        wanted: "J4",
-    },
-];
-
-fn try_long_line(report: &mut Report, alloc: Global, row: &LongLine) -> Result<(), Fail> {
-    let mut bytes = padded(alloc, "1", row.spaces)?;
-    bytes.push_str(row.end)?;
-    let source = FailingSource::new(bytes.as_bytes(), usize::MAX, usize::MAX);
-    is_said(report, "the lines", said_of(alloc, source), row.wanted)
+impl Kind for LongLine {
+    fn attempt(&self, report: &mut Report, alloc: Global, row: &Row) -> Result<(), Fail> {
+        let mut bytes = padded(alloc, "1", row.count("spaces"))?;
+        bytes.push_str(row.text("end"))?;
+        let source = FailingSource::new(bytes.as_bytes(), usize::MAX, usize::MAX);
+        is_said(
+            report,
+            "the lines",
+            said_of(alloc, source),
+            row.text("wanted"),
+        )
+    }
 }
 
 /// A line may be as long as a document, with a newline or without, and no longer.
 #[test]
 fn long_lines(rt: HostRuntime) -> Result<(), Fail> {
-    let mut report = Report::new(rt.alloc());
-    for row in &LONG_LINES {
-        let ended = try_long_line(&mut report, rt.alloc(), row);
-        report.row(row.name, ended);
+    try_tables(&rt, rt.alloc(), &LongLine, &[LONG_LINES])
+}
+
+static FAILURES: &str = r#"
+6 rows: name | left | wanted
+no byte | 0 | J5
+two bytes | 2 | J5
+a line | 3 | [{}]J5
+a byte after a line | 4 | [{}]J5
+two lines | 5 | [{}][1]J5
+two lines and a byte | 6 | [{}][1]J5
+"#;
+
+/// After how many bytes a source fails, and what is read of the lines until then.
+struct FailingLines;
+
+impl Kind for FailingLines {
+    fn attempt(&self, report: &mut Report, alloc: Global, row: &Row) -> Result<(), Fail> {
+        let source = FailingSource::new(b"{}\n1\n2", 1, row.count("left"));
+        is_said(
+            report,
+            "the lines",
+            said_of(alloc, source),
+            row.text("wanted"),
+        )
     }
-    report.end(&rt)
 }
-
-/// How many bytes a source gives before it fails, and what is read of the lines until then.
-struct FailingLines {
-    name: &'static str,
-    left: usize,
-    wanted: &'static str,
-}
-
-static FAILURES: [FailingLines; 6] = [
-    FailingLines {
-        name: "no byte",
-        left: 0,
-        wanted: "J5",
-    },
-    FailingLines {
-        name: "two bytes",
-        left: 2,
-        wanted: "J5",
-    },
-    FailingLines {
-        name: "a line",
-        left: 3,
-        wanted: "[{}]J5",
-    },
-    FailingLines {
-        name: "a byte after a line",
-        left: 4,
-        wanted: "[{}]J5",
-    },
-    FailingLines {
-        name: "two lines",
-        left: 5,
-        wanted: "[{}][1]J5",
-    },
-    FailingLines {
-        name: "two lines and a byte",
-        left: 6,
-        wanted: "[{}][1]J5",
-    },
-];
 
 /// A source that fails after each number of bytes, also after the last one.
 #[test]
 fn failures(rt: HostRuntime) -> Result<(), Fail> {
-    let mut report = Report::new(rt.alloc());
-    for row in &FAILURES {
-        let source = FailingSource::new(b"{}\n1\n2", 1, row.left);
-        let found = said_of(rt.alloc(), source);
-        let ended = is_said(&mut report, "the lines", found, row.wanted);
-        report.row(row.name, ended);
-    }
-    report.end(&rt)
+    try_tables(&rt, rt.alloc(), &FailingLines, &[FAILURES])
 }

@@ -3,6 +3,7 @@ use crate::support::documents::WIDGET;
 use crate::support::fakes::FailingSource;
 use crate::support::harness::is_said;
 use crate::support::report::Report;
+use crate::support::rows::{Kind, Row, try_tables};
 use crate::support::texts::padded;
 use jtree::source::{Feed, Source, read_bytes};
 use jtree::{JFault, Tree};
@@ -98,54 +99,32 @@ fn failures(rt: HostRuntime) -> Result<(), Fail> {
     report.end(&rt)
 }
 
+static LENGTHS: &str = r#"
+3 rows: name | spaces | wanted | left
+the longest text | 1048576 | J3 | 0
+one byte more | 1048577 | J4 | 0
+100 bytes more | 1048676 | J4 | 99
+"#;
+
 /// How many spaces there are, what is read, and how many of them are left.
-struct Length {
-    name: &'static str,
-    spaces: usize,
-    wanted: &'static str,
-    left: u64,
-}
+struct Length;
 
-static LENGTHS: [Length; 3] = [
-    Length {
-        name: "the longest text",
-        spaces: 1_048_576,
-        wanted: "J3",
-        left: 0,
-    },
-    Length {
-        name: "one byte more",
-        spaces: 1_048_577,
-        wanted: "J4",
-        left: 0,
-    },
-    Length {
-        name: "100 bytes more",
-        spaces: 1_048_676,
-        wanted: "J4",
-        left: 99,
-    },
-];
-
-fn try_length(report: &mut Report, alloc: Global, row: &Length) -> Result<(), Fail> {
-    let document = padded(alloc, "", row.spaces)?;
-    let mut source = FailingSource::new(document.as_bytes(), 10_000, usize::MAX);
-    let found = said_of(alloc, &mut source);
-    is_said(report, "what is read", found, row.wanted)?;
-    let left = source.bytes.len() as u64;
-    report.is_number("the bytes that are left", left, row.left);
-    Ok(())
+impl Kind for Length {
+    fn attempt(&self, report: &mut Report, alloc: Global, row: &Row) -> Result<(), Fail> {
+        let document = padded(alloc, "", row.count("spaces"))?;
+        let mut source = FailingSource::new(document.as_bytes(), 10_000, usize::MAX);
+        let found = said_of(alloc, &mut source);
+        is_said(report, "what is read", found, row.text("wanted"))?;
+        let left = source.bytes.len() as u64;
+        report.is_number("the bytes that are left", left, row.number("left"));
+        Ok(())
+    }
 }
 
 /// Of a document that is too long, no more is taken than tells so.
 #[test]
 fn lengths(rt: HostRuntime) -> Result<(), Fail> {
-    let mut report = Report::new(rt.alloc());
-    for row in &LENGTHS {
-        let ended = try_length(&mut report, rt.alloc(), row);
-        report.row(row.name, ended);
-    }
-    report.end(&rt)
+    try_tables(&rt, rt.alloc(), &Length, &[LENGTHS])
 }
 
 /// Is interrupted so many times, and then gives what it has, or fails.
@@ -169,53 +148,30 @@ impl Read for Interrupted<'_> {
     }
 }
 
-/// How often a reader is interrupted, whether it fails then, and what is read.
-struct Readable {
-    name: &'static str,
-    times: u32,
-    fails: bool,
-    wanted: &'static str,
-}
+static READERS: &str = r#"
+4 rows: name | times | fails | wanted
+a reader | 0 | no | [1]
+an interrupted reader | 3 | no | [1]
+a reader that fails | 0 | yes | J5
+an interrupted reader that fails | 3 | yes | J5
+"#;
 
-static READERS: [Readable; 4] = [
-    Readable {
-        name: "a reader",
-        times: 0,
-        fails: false,
-        wanted: "[1]",
-    },
-    Readable {
-        name: "an interrupted reader",
-        times: 3,
-        fails: false,
-        wanted: "[1]",
-    },
-    Readable {
-        name: "a reader that fails",
-        times: 0,
-        fails: true,
-        wanted: "J5",
-    },
-    Readable {
-        name: "an interrupted reader that fails",
-        times: 3,
-        fails: true,
-        wanted: "J5",
-    },
-];
+/// How often a reader is interrupted, whether it fails then, and what is read.
+struct Readable;
+
+impl Kind for Readable {
+    fn attempt(&self, report: &mut Report, alloc: Global, row: &Row) -> Result<(), Fail> {
+        let reader = Interrupted {
+            times: row.small("times"),
+            bytes: b"[1]",
+            fails: row.is("fails"),
+        };
+        let found = said_of(alloc, &mut Feed::new(reader));
+        is_said(report, "what is read", found, row.text("wanted"))
+    }
+}
 
 #[test]
 fn readers(rt: HostRuntime) -> Result<(), Fail> {
-    let mut report = Report::new(rt.alloc());
-    for row in &READERS {
-        let reader = Interrupted {
-            times: row.times,
-            bytes: b"[1]",
-            fails: row.fails,
-        };
-        let found = said_of(rt.alloc(), &mut Feed::new(reader));
-        let ended = is_said(&mut report, "what is read", found, row.wanted);
-        report.row(row.name, ended);
-    }
-    report.end(&rt)
+    try_tables(&rt, rt.alloc(), &Readable, &[READERS])
 }

@@ -1,7 +1,8 @@
 //! Trees: read, copied and written.
 use crate::support::harness::is_said;
 use crate::support::report::Report;
-use crate::support::texts::{Border, nested};
+use crate::support::rows::{Kind, Row, all_rows, try_tables};
+use crate::support::texts::{border_of, nested};
 use jtree::{Text, Tree};
 use serde_json::Value;
 use std::alloc::Global;
@@ -19,236 +20,93 @@ fn try_bytes(report: &mut Report, alloc: Global, bytes: &[u8], wanted: &str) -> 
     is_said(report, "what is read", outcome(alloc, bytes), wanted)
 }
 
-const CONTROL_CHARACTERS: &str = concat!(
-    r#""\u0000\u0001\u0002\u0003\u0004\u0005\u0006\u0007\b\t\n\u000b\f\r\u000e\u000f"#,
-    r#"\u0010\u0011\u0012\u0013\u0014\u0015\u0016\u0017\u0018\u0019\u001a\u001b\u001c\u001d\u001e\u001f""#
-);
+// What the tables name.
+static NAMED: &str = r#"
+@CONTROL_CHARACTERS
+    | "\u0000\u0001\u0002\u0003\u0004\u0005\u0006\u0007\b\t\n\u000b\f\r\u000e\u000f\u0010\u0011\u0012\u0013\u0014\u0015\u0016\u0017\u0018\u0019
+    \u001a\u001b\u001c\u001d\u001e\u001f"
+"#;
+
+static DOCUMENTS: &str = r#"
+13 rows: name | document | wanted
+null | null | null
+spaces between items | ␠[ true , false ]␠ | [true,false]
+names in another order | {"b":1,"a":2,"":3,"é":4,"Z":5} | {"":3,"Z":5,"a":2,"b":1,"é":4}
+names of three and four bytes | {"😀":1,"￼":2} | {"￼":2,"😀":1}
+values of several kinds in a list | {"k":[{},[],"",{"x":null}]} | {"k":[{},[],"",{"x":null}]}
+the greatest integer | 9223372036854775807 | 9223372036854775807
+one above the greatest integer | 9223372036854775808 | J1
+the least integer | -9223372036854775808 | -9223372036854775808
+one below the least integer | -9223372036854775809 | J1
+integers of few digits | [0,-1,10] | [0,-1,10]
+a fraction | 1.5 | J1
+an exponent | 1e2 | J1
+a fraction that is zero | 1.0 | J1
+"#;
+
+static REFUSALS_AND_ESCAPES: &str = r#"
+12 rows: name | document | wanted
+an exponent past any float | 1e999 | J3
+a fraction below a name | {"a":[1,1.5]} | J1
+half of a pair of surrogates | "\ud800" | J3
+two documents | 1 2 | J3
+an object that is cut | {"a": | J3
+a comma before a bracket | [1,] | J3
+a zero before a digit | 01 | J3
+a word that is cut | nul | J3
+escapes that need not be | "\u0041\/\u00e9\ud83d\ude00" | "A/é😀"
+escapes that must be | "a\"b\\c" | "a\"b\\c"
+characters that are not escaped | "/␡é😀" | "/␡é😀"
+control characters | @CONTROL_CHARACTERS | @CONTROL_CHARACTERS
+"#;
 
 /// A document, and its compact text or the fault.
-struct Document {
-    name: &'static str,
-    document: &'static str,
-    wanted: &'static str,
-}
+struct DocumentRow;
 
-static DOCUMENTS: [Document; 13] = [
-    Document {
-        name: "null",
-        document: "null",
-        wanted: "null",
-    },
-    Document {
-        name: "spaces between items",
-        document: " [ true , false ] ",
-        wanted: "[true,false]",
-    },
-    Document {
-        name: "names in another order",
-        document: r#"{"b":1,"a":2,"":3,"é":4,"Z":5}"#,
-        wanted: r#"{"":3,"Z":5,"a":2,"b":1,"é":4}"#,
-    },
-    Document {
-        name: "names of three and four bytes",
-        document: r#"{"😀":1,"￼":2}"#,
-        wanted: r#"{"￼":2,"😀":1}"#,
-    },
-    Document {
-        name: "values of several kinds in a list",
-        document: r#"{"k":[{},[],"",{"x":null}]}"#,
-        wanted: r#"{"k":[{},[],"",{"x":null}]}"#,
-    },
-    Document {
-        name: "the greatest integer",
-        document: "9223372036854775807",
-        wanted: "9223372036854775807",
-    },
-    Document {
-        name: "one above the greatest integer",
-        document: "9223372036854775808",
-        wanted: "J1",
-    },
-    Document {
-        name: "the least integer",
-        document: "-9223372036854775808",
-        wanted: "-9223372036854775808",
-    },
-    Document {
-        name: "one below the least integer",
-        document: "-9223372036854775809",
-        wanted: "J1",
-    },
-    Document {
-        name: "integers of few digits",
-        document: "[0,-1,10]",
-        wanted: "[0,-1,10]",
-    },
-    Document {
-        name: "a fraction",
-        document: "1.5",
-        wanted: "J1",
-    },
-    Document {
-        name: "an exponent",
-        document: "1e2",
-        wanted: "J1",
-    },
-    Document {
-        name: "a fraction that is zero",
-        document: "1.0",
-        wanted: "J1",
-    },
-];
-
-static REFUSALS_AND_ESCAPES: [Document; 12] = [
-    Document {
-        name: "an exponent past any float",
-        document: "1e999",
-        wanted: "J3",
-    },
-    Document {
-        name: "a fraction below a name",
-        document: r#"{"a":[1,1.5]}"#,
-        wanted: "J1",
-    },
-    Document {
-        name: "half of a pair of surrogates",
-        document: r#""\ud800""#,
-        wanted: "J3",
-    },
-    Document {
-        name: "two documents",
-        document: "1 2",
-        wanted: "J3",
-    },
-    Document {
-        name: "an object that is cut",
-        document: r#"{"a":"#,
-        wanted: "J3",
-    },
-    Document {
-        name: "a comma before a bracket",
-        document: "[1,]",
-        wanted: "J3",
-    },
-    Document {
-        name: "a zero before a digit",
-        document: "01",
-        wanted: "J3",
-    },
-    Document {
-        name: "a word that is cut",
-        document: "nul",
-        wanted: "J3",
-    },
-    Document {
-        name: "escapes that need not be",
-        document: r#""\u0041\/\u00e9\ud83d\ude00""#,
-        wanted: r#""A/é😀""#,
-    },
-    Document {
-        name: "escapes that must be",
-        document: r#""a\"b\\c""#,
-        wanted: r#""a\"b\\c""#,
-    },
-    Document {
-        name: "characters that are not escaped",
-        document: "\"/\u{7f}é😀\"",
-        wanted: "\"/\u{7f}é😀\"",
-    },
-    Document {
-        name: "control characters",
-        document: CONTROL_CHARACTERS,
-        wanted: CONTROL_CHARACTERS,
-    },
-];
-
-/// Bytes that are no text, or none, and what is read.
-struct Bytes {
-    name: &'static str,
-    bytes: &'static [u8],
-    wanted: &'static str,
-}
-
-static NO_TEXTS: [Bytes; 2] = [
-    Bytes {
-        name: "no byte",
-        bytes: b"",
-        wanted: "J3",
-    },
-    Bytes {
-        name: "a byte of 255",
-        bytes: b"\"\xff\"",
-        wanted: "J3",
-    },
-];
-
-fn all_documents(report: &mut Report, alloc: Global, rows: &[Document]) {
-    for row in rows {
-        let ended = try_bytes(report, alloc, row.document.as_bytes(), row.wanted);
-        report.row(row.name, ended);
+impl Kind for DocumentRow {
+    fn attempt(&self, report: &mut Report, alloc: Global, row: &Row) -> Result<(), Fail> {
+        try_bytes(
+            report,
+            alloc,
+            row.text("document").as_bytes(),
+            row.text("wanted"),
+        )
     }
 }
 
 #[test]
 fn documents(rt: HostRuntime) -> Result<(), Fail> {
     let mut report = Report::new(rt.alloc());
-    all_documents(&mut report, rt.alloc(), &DOCUMENTS);
-    all_documents(&mut report, rt.alloc(), &REFUSALS_AND_ESCAPES);
-    for row in &NO_TEXTS {
-        let ended = try_bytes(&mut report, rt.alloc(), row.bytes, row.wanted);
-        report.row(row.name, ended);
-    }
+    let tables = &[NAMED, DOCUMENTS, REFUSALS_AND_ESCAPES];
+    all_rows(&mut report, rt.alloc(), &DocumentRow, tables);
+    let ended = try_bytes(&mut report, rt.alloc(), b"", "J3");
+    report.row("no byte", ended);
+    let ended = try_bytes(&mut report, rt.alloc(), b"\"\xff\"", "J3");
+    report.row("a byte of 255", ended);
     report.end(&rt)
 }
 
-static BORDERS: [Border; 4] = [
-    Border {
-        name: "128 lists",
-        before: "[",
-        times: 128,
-        middle: "",
-        after: "]",
-        wanted: "J3",
-    },
-    Border {
-        name: "1,048,576 bytes",
-        before: " ",
-        times: 1_048_575,
-        middle: "7",
-        after: "",
-        wanted: "7",
-    },
-    Border {
-        name: "1,048,577 bytes",
-        before: " ",
-        times: 1_048_576,
-        middle: "7",
-        after: "",
-        wanted: "J4",
-    },
-    Border {
-        name: "the length goes first",
-        before: " ",
-        times: 1_048_576,
-        middle: "nul",
-        after: "",
-        wanted: "J4",
-    },
-];
+static BORDERS: &str = r#"
+4 rows: name | before | times | middle | after | wanted
+128 lists | [ | 128 | - | ] | J3
+1,048,576 bytes | ␠ | 1048575 | 7 | - | 7
+1,048,577 bytes | ␠ | 1048576 | 7 | - | J4
+the length goes first | ␠ | 1048576 | nul | - | J4
+"#;
 
-fn try_border(report: &mut Report, alloc: Global, row: &Border) -> Result<(), Fail> {
-    let text = row.text(alloc)?;
-    try_bytes(report, alloc, text.as_bytes(), row.wanted)
+/// A long text, and what is said of it.
+struct BorderRow;
+
+impl Kind for BorderRow {
+    fn attempt(&self, report: &mut Report, alloc: Global, row: &Row) -> Result<(), Fail> {
+        let text = border_of(alloc, row)?;
+        try_bytes(report, alloc, text.as_bytes(), row.text("wanted"))
+    }
 }
 
 #[test]
 fn borders(rt: HostRuntime) -> Result<(), Fail> {
-    let mut report = Report::new(rt.alloc());
-    for row in &BORDERS {
-        let ended = try_border(&mut report, rt.alloc(), row);
-        report.row(row.name, ended);
-    }
-    report.end(&rt)
+    try_tables(&rt, rt.alloc(), &BorderRow, &[BORDERS])
 }
 
 fn tree_of_value(alloc: Global, document: &str) -> Result<Tree, Fail> {

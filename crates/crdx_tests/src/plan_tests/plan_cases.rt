@@ -2,128 +2,62 @@
 ghost use Rattle.std.specs.Prelude.{length, ◌<◌};
 ghost use Rattle.plan.specs.Samples.Sites.{sites_of};
 
-use crate::support::documents::{SPEC, TWO_TEXTS, ZERO_AND_ONE};
-use crate::support::given::{
-    DEFAULTS, FIFTEEN_ITEMS, Given, LABELLED, LARGE_VALUES, MAP_LISTS, NULLABLE_OBJECTS, SETS,
-    TWO_FIELDS, made,
-};
+use crate::support::documents::{SPEC, ZERO_AND_ONE};
+use crate::support::given::{Given, MAP_LISTS, given_of, made};
 use crate::support::harness::{is_said, pools_of, schema_of};
-use crate::support::plans::{At, node_at, place_of, slot_of};
+use crate::support::plans::{node_at, place_of, slot_of};
 use crate::support::report::Report;
-use plan::{Distinct, Meter, PFault, Plan, PlanNode, Sort};
+use crate::support::rows::{Kind, Row, try_tables};
+use plan::{Meter, PFault, Plan, PlanNode, Sort};
 use std::alloc::{AllocError, Global};
 use std::test::Fail;
 
-const THREE_KEYS: &str =
-    r#"{"type":"object","properties":{"m":{"type":"array","x-kubernetes-list-type":"map",
-        "x-kubernetes-list-map-keys":["d","a","c"],"items":{"type":"object",
-        "properties":{"a":{"type":"integer"},"b":{"type":"string"},"c":{"type":"boolean"},"d":{"type":"string"}},
-        "required":["a","c","d"]}}}}"#;
-
-/// Junctors that name four of five fields.
-const NAMED_FIELDS: &str =
-    r#"{"type":"object","properties":{"o":{"type":"object","not":{"required":["z","b","a0"]},
-        "anyOf":[{"required":["b"]},{"not":{"required":["a"]}}],
-        "properties":{"a":{"type":"boolean"},"a0":{"type":"boolean"},"b":{"type":"boolean"},"c":{"type":"boolean"},
-        "z":{"type":"boolean"}}}}}"#;
-
-/// A node, its sort, whether null is accepted there, and, of a list, which items may not be in it together.
-struct Sorted {
-    name: &'static str,
-    given: Given<'static>,
-    at: At,
-    sort: Sort,
-    nullable: bool,
-    distinct: Option<Distinct>,
-}
-
-static SORTS: [Sorted; 6] = [
-    Sorted {
-        name: "an integer",
-        given: TWO_FIELDS,
-        at: At::Slot(0),
-        sort: Sort::Leaf,
-        nullable: false,
-        distinct: None,
-    },
-    Sorted {
-        name: "an object that may be null",
-        given: NULLABLE_OBJECTS,
-        at: At::First,
-        sort: Sort::Row,
-        nullable: true,
-        distinct: None,
-    },
-    Sorted {
-        name: "a map",
-        given: LABELLED,
-        at: At::First,
-        sort: Sort::Row,
-        nullable: false,
-        distinct: None,
-    },
-    Sorted {
-        name: "a map list",
-        given: MAP_LISTS,
-        at: At::First,
-        sort: Sort::List,
-        nullable: false,
-        distinct: Some(Distinct::Keys),
-    },
-    Sorted {
-        name: "a set",
-        given: SETS,
-        at: At::First,
-        sort: Sort::List,
-        nullable: false,
-        distinct: Some(Distinct::Whole),
-    },
-    Sorted {
-        name: "fifteen objects",
-        given: FIFTEEN_ITEMS,
-        at: At::First,
-        sort: Sort::List,
-        nullable: false,
-        distinct: Some(Distinct::Free),
-    },
-];
+static SORTS: &str = r#"
+6 rows: name | schema | pools | limit | at | sort | nullable | distinct
+an integer | @SPEC | {"integers":[0,1]} | 4 | slot 0 | Leaf | no | none
+an object that may be null | @NULLABLE | {} | 2 | first | Row | yes | none
+a map | @LABELS | {"names":["k","j","k"],"strings":["x"]} | 4 | first | Row | no | none
+a map list | @MAP_LIST | {"strings":["a","b"],"integers":[0]} | 8 | first | List | no | Keys
+a set | @SET | {"integers":[2,1,2]} | 4 | first | List | no | Whole
+fifteen objects | @FIFTEEN | {} | 63 | first | List | no | Free
+"#;
 
 fn is_sorted(
     report: &mut Report,
     plan: &Plan<u64>,
     meter: &mut Meter,
-    row: &Sorted,
+    row: &Row,
 ) -> Result<(), Fail> {
-    let Some(node) = node_at(plan, row.at, meter) else {
+    let Some(node) = node_at(plan, row.text("at"), meter) else {
         return Err(Fail::from("no such node"));
     };
-    report.is_value("the sort", &plan.sort(node), &row.sort);
-    report.is_value("null", &plan.null_ok(node), &row.nullable);
-    if let Some(distinct) = row.distinct {
-        report.is_value("the items", &plan.distinct(node), &distinct);
+    report.is_shown("the sort", &plan.sort(node), row.text("sort"))?;
+    report.is_value("null", &plan.null_ok(node), &row.is("nullable"));
+    if let Some(distinct) = row.optional("distinct") {
+        report.is_shown("the items", &plan.distinct(node), distinct)?;
     }
     Ok(())
 }
 
-fn try_sort(report: &mut Report, alloc: Global, row: &Sorted) -> Result<(), Fail> {
-    let mut plan = made(alloc, row.given)?;
-    let mut meter = plan.meter();
-    is_sorted(report, &plan, &mut meter, row)
+/// A node, its sort, whether null is accepted there, and, of a list, which items may not be in it together.
+struct Sorted;
+
+impl Kind for Sorted {
+    fn attempt(&self, report: &mut Report, alloc: Global, row: &Row) -> Result<(), Fail> {
+        let mut plan = made(alloc, given_of(row))?;
+        let mut meter = plan.meter();
+        is_sorted(report, &plan, &mut meter, row)
+    }
 }
 
 #[test]
 fn sorts(rt: HostRuntime) -> Result<(), Fail> {
-    let mut report = Report::new(rt.alloc());
-    for row in &SORTS {
-        let ended = try_sort(&mut report, rt.alloc(), row);
-        report.row(row.name, ended);
-    }
-    report.end(&rt)
+    try_tables(&rt, rt.alloc(), &Sorted, &[SORTS])
 }
 
 /// A slot: whether it must be filled, whether it is a key, its place among the named fields, and how many tuples the keys after it
 /// have.
-#[derive(Clone, Copy, Debug, PartialEq)]
+#[derive(Clone, Copy, Debug)]
 struct Slot<'a> {
     name: &'a str,
     must: bool,
@@ -132,139 +66,31 @@ struct Slot<'a> {
     later: u64,
 }
 
-/// A node, whether its junctors name some of its fields, and its slots.
-struct SlotsRow {
-    name: &'static str,
-    given: Given<'static>,
-    at: At,
-    names_fields: bool,
-    slots: &'static [Slot<'static>],
-}
-
-static SLOTS: [SlotsRow; 4] = [
-    SlotsRow {
-        name: "an item of a map list with three keys",
-        given: Given {
-            schema: THREE_KEYS,
-            pools: TWO_TEXTS,
-            limit: 8,
-        },
-        at: At::Item,
-        names_fields: false,
-        slots: &[
-            Slot {
-                name: "a",
-                must: true,
-                key: true,
-                bit: None,
-                later: 4,
-            },
-            Slot {
-                name: "b",
-                must: false,
-                key: false,
-                bit: None,
-                later: 4,
-            },
-            Slot {
-                name: "c",
-                must: true,
-                key: true,
-                bit: None,
-                later: 2,
-            },
-            Slot {
-                name: "d",
-                must: true,
-                key: true,
-                bit: None,
-                later: 1,
-            },
-        ],
-    },
-    SlotsRow {
-        name: "a field with a default",
-        given: DEFAULTS,
-        at: At::First,
-        names_fields: false,
-        slots: &[Slot {
-            name: "f",
-            must: true,
-            key: false,
-            bit: None,
-            later: 1,
-        }],
-    },
-    SlotsRow {
-        name: "a map over names with a repeat",
-        given: LABELLED,
-        at: At::First,
-        names_fields: false,
-        slots: &[
-            Slot {
-                name: "j",
-                must: false,
-                key: false,
-                bit: None,
-                later: 1,
-            },
-            Slot {
-                name: "k",
-                must: false,
-                key: false,
-                bit: None,
-                later: 1,
-            },
-        ],
-    },
-    SlotsRow {
-        name: "an object whose junctors name four fields",
-        given: Given {
-            schema: NAMED_FIELDS,
-            pools: "{}",
-            limit: 8,
-        },
-        at: At::First,
-        names_fields: true,
-        slots: &[
-            Slot {
-                name: "a",
-                must: false,
-                key: false,
-                bit: Some(0),
-                later: 1,
-            },
-            Slot {
-                name: "a0",
-                must: false,
-                key: false,
-                bit: Some(1),
-                later: 1,
-            },
-            Slot {
-                name: "b",
-                must: false,
-                key: false,
-                bit: Some(2),
-                later: 1,
-            },
-            Slot {
-                name: "c",
-                must: false,
-                key: false,
-                bit: None,
-                later: 1,
-            },
-            Slot {
-                name: "z",
-                must: false,
-                key: false,
-                bit: Some(3),
-                later: 1,
-            },
-        ],
-    },
-];
+static SLOTS: &str = r#"
+4 rows: name | schema | pools | limit | at | names_fields
+an item of a map list with three keys
+    | {"type":"object","properties":{"m":{"type":"array","x-kubernetes-list-type":"map","x-kubernetes-list-map-keys":["d","a","c"],
+    "items":{"type":"object","properties":{"a":{"type":"integer"},"b":{"type":"string"},"c":{"type":"boolean"},"d":{"type":"string"}},
+    "required":["a","c","d"]}}}} | {"strings":["a","b"],"integers":[0]} | 8 | item | no
+    > Slot { name: "a", must: true, key: true, bit: None, later: 4 }
+    > Slot { name: "b", must: false, key: false, bit: None, later: 4 }
+    > Slot { name: "c", must: true, key: true, bit: None, later: 2 }
+    > Slot { name: "d", must: true, key: true, bit: None, later: 1 }
+a field with a default | @DEFAULTED | {"integers":[0,7]} | 3 | first | no
+    > Slot { name: "f", must: true, key: false, bit: None, later: 1 }
+a map over names with a repeat | @LABELS | {"names":["k","j","k"],"strings":["x"]} | 4 | first | no
+    > Slot { name: "j", must: false, key: false, bit: None, later: 1 }
+    > Slot { name: "k", must: false, key: false, bit: None, later: 1 }
+an object whose junctors name four fields
+    | {"type":"object","properties":{"o":{"type":"object","not":{"required":["z","b","a0"]},"anyOf":[{"required":["b"]},{"not":{"required":["a"]}}],
+    "properties":{"a":{"type":"boolean"},"a0":{"type":"boolean"},"b":{"type":"boolean"},"c":{"type":"boolean"},"z":{"type":"boolean"}}}}}
+    | {} | 8 | first | yes
+    > Slot { name: "a", must: false, key: false, bit: Some(0), later: 1 }
+    > Slot { name: "a0", must: false, key: false, bit: Some(1), later: 1 }
+    > Slot { name: "b", must: false, key: false, bit: Some(2), later: 1 }
+    > Slot { name: "c", must: false, key: false, bit: None, later: 1 }
+    > Slot { name: "z", must: false, key: false, bit: Some(3), later: 1 }
+"#;
 
 fn slot_at<'a>(
     plan: &'a Plan<u64>,
@@ -303,123 +129,77 @@ fn are_slots(
     report: &mut Report,
     plan: &Plan<u64>,
     meter: &mut Meter,
-    row: &SlotsRow,
+    row: &Row,
 ) -> Result<(), Fail> {
-    let Some(node) = node_at(plan, row.at, meter) else {
+    let Some(node) = node_at(plan, row.text("at"), meter) else {
         return Err(Fail::from("no such node"));
     };
-    let wanted = (place_of(row.slots.len()), row.names_fields);
+    let count = place_of(row.out().lines().count());
+    let wanted = (count, row.is("names_fields"));
     report.is_value("the row", &row_parts(plan, node), &Some(wanted));
-    for (place, slot) in row.slots.iter().enumerate() {
-        let found = slot_at(plan, node, place_of(place), meter);
-        report.is_value("a slot", &found, &Some(*slot));
+    for (place, wanted) in row.out().lines().enumerate() {
+        match slot_at(plan, node, place_of(place), meter) {
+            Some(slot) => report.is_shown("a slot", &slot, wanted)?,
+            None => report.holds("there is a slot", false),
+        }
     }
-    let after = slot_of(plan, node, place_of(row.slots.len()), meter);
+    let after = slot_of(plan, node, count, meter);
     report.holds("no slot after the last", after.is_none());
     Ok(())
 }
 
-fn try_slots(report: &mut Report, alloc: Global, row: &SlotsRow) -> Result<(), Fail> {
-    let mut plan = made(alloc, row.given)?;
-    let mut meter = plan.meter();
-    are_slots(report, &plan, &mut meter, row)
+/// A node, whether its junctors name some of its fields, and its slots.
+struct SlotsRow;
+
+impl Kind for SlotsRow {
+    fn attempt(&self, report: &mut Report, alloc: Global, row: &Row) -> Result<(), Fail> {
+        let mut plan = made(alloc, given_of(row))?;
+        let mut meter = plan.meter();
+        are_slots(report, &plan, &mut meter, row)
+    }
 }
 
 #[test]
 fn slots(rt: HostRuntime) -> Result<(), Fail> {
-    let mut report = Report::new(rt.alloc());
-    for row in &SLOTS {
-        let ended = try_slots(&mut report, rt.alloc(), row);
-        report.row(row.name, ended);
-    }
-    report.end(&rt)
+    try_tables(&rt, rt.alloc(), &SlotsRow, &[SLOTS])
 }
+
+static WIDTHS: &str = r#"
+4 rows: name | schema | pools | limit | width | bound
+a map list | @MAP_LIST | {"strings":["a","b"],"integers":[0]} | 8 | 2 | 108
+two fields | @SPEC | {"integers":[0,1]} | 4 | 2 | 60
+fifteen objects | @FIFTEEN | {} | 63 | 3 | 1024
+two values of more nodes than the limit | @OPEN | {"any":[[1,2,3],[4,5,6]]} | 2 | 1 | 24
+"#;
 
 /// The width of a plan, and four times the product of what is one more than the limit and of what is one more than the width.
-struct Width {
-    name: &'static str,
-    given: Given<'static>,
-    width: u64,
-    bound: u64,
-}
+struct Width;
 
-static WIDTHS: [Width; 4] = [
-    Width {
-        name: "a map list",
-        given: MAP_LISTS,
-        width: 2,
-        bound: 108,
-    },
-    Width {
-        name: "two fields",
-        given: TWO_FIELDS,
-        width: 2,
-        bound: 60,
-    },
-    Width {
-        name: "fifteen objects",
-        given: FIFTEEN_ITEMS,
-        width: 3,
-        bound: 1024,
-    },
-    Width {
-        name: "two values of more nodes than the limit",
-        given: LARGE_VALUES,
-        width: 1,
-        bound: 24,
-    },
-];
-
-fn try_width(report: &mut Report, alloc: Global, row: &Width) -> Result<(), Fail> {
-    let plan = made(alloc, row.given)?;
-    let width = plan.width();
-    let limit = u64::from(plan.limit());
-    drop(plan);
-    report.is_number("the width", width, row.width);
-    let bound = limit.wrapping_add(1).wrapping_mul(width.wrapping_add(1));
-    report.is_number("the bound", bound.wrapping_mul(4), row.bound);
-    Ok(())
+impl Kind for Width {
+    fn attempt(&self, report: &mut Report, alloc: Global, row: &Row) -> Result<(), Fail> {
+        let plan = made(alloc, given_of(row))?;
+        let width = plan.width();
+        let limit = u64::from(plan.limit());
+        drop(plan);
+        report.is_number("the width", width, row.number("width"));
+        let bound = limit.wrapping_add(1).wrapping_mul(width.wrapping_add(1));
+        report.is_number("the bound", bound.wrapping_mul(4), row.number("bound"));
+        Ok(())
+    }
 }
 
 #[test]
 fn widths(rt: HostRuntime) -> Result<(), Fail> {
-    let mut report = Report::new(rt.alloc());
-    for row in &WIDTHS {
-        let ended = try_width(&mut report, rt.alloc(), row);
-        report.row(row.name, ended);
-    }
-    report.end(&rt)
+    try_tables(&rt, rt.alloc(), &Width, &[WIDTHS])
 }
 
-/// A limit, and the limit of the plan, or the code of the fault.
-struct Limit {
-    name: &'static str,
-    limit: u32,
-    wanted: &'static str,
-}
-
-static LIMITS: [Limit; 4] = [
-    Limit {
-        name: "no node",
-        limit: 0,
-        wanted: "P4",
-    },
-    Limit {
-        name: "63 nodes",
-        limit: 63,
-        wanted: "63",
-    },
-    Limit {
-        name: "64 nodes",
-        limit: 64,
-        wanted: "P4",
-    },
-    Limit {
-        name: "the highest number",
-        limit: 4_294_967_295,
-        wanted: "P4",
-    },
-];
+static LIMITS: &str = r#"
+4 rows: name | limit | wanted
+no node | 0 | P4
+63 nodes | 63 | 63
+64 nodes | 64 | P4
+the highest number | 4294967295 | P4
+"#;
 
 fn limit_said(alloc: Global, limit: u32) -> Result<String, Fail> {
     let schema = schema_of(alloc, SPEC)?;
@@ -435,15 +215,19 @@ fn said_of_made(alloc: Global, made: &Result<Plan<u64>, PFault>) -> Result<Strin
     }
 }
 
+/// A limit, and the limit of the plan, or the code of the fault.
+struct Limit;
+
+impl Kind for Limit {
+    fn attempt(&self, report: &mut Report, alloc: Global, row: &Row) -> Result<(), Fail> {
+        let found = limit_said(alloc, row.small("limit"));
+        is_said(report, "what is made", found, row.text("wanted"))
+    }
+}
+
 #[test]
 fn limits(rt: HostRuntime) -> Result<(), Fail> {
-    let mut report = Report::new(rt.alloc());
-    for row in &LIMITS {
-        let found = limit_said(rt.alloc(), row.limit);
-        let ended = is_said(&mut report, "what is made", found, row.wanted);
-        report.row(row.name, ended);
-    }
-    report.end(&rt)
+    try_tables(&rt, rt.alloc(), &Limit, &[LIMITS])
 }
 
 /// The width of a plan after its laws were called, for which nothing runs and which leave it as it is.

@@ -1,335 +1,96 @@
 //! How many entries the pools of a document may have.
 use crate::support::harness::is_said;
-use crate::support::pools::{Document, all_documents, outcome};
+use crate::support::pools::{DocumentRow, limits_of, outcome};
 use crate::support::report::Report;
+use crate::support::rows::{Kind, Row, all_rows, try_tables};
 use plan::PoolLimits;
 use std::alloc::{AllocError, Global};
 use std::fmt::Write;
 use std::test::Fail;
 
-/// The beginning of a document, an entry with its comma, how many there are, the text after them, and what is answered.
-struct Long {
-    name: &'static str,
-    head: &'static str,
-    entry: &'static str,
-    count: usize,
-    tail: &'static str,
-    wanted: &'static str,
-}
-
 /// Each repeat counts, and the form is judged before the limits.
-static PATHS_AND_SCALARS: [Long; 8] = [
-    Long {
-        name: "64 present paths",
-        head: r#"{"present":["#,
-        entry: r#""/a","#,
-        count: 63,
-        tail: r#""/a"]}"#,
-        wanted: "0 0 0 0 0 0 64",
-    },
-    Long {
-        name: "65 present paths",
-        head: r#"{"present":["#,
-        entry: r#""/a","#,
-        count: 64,
-        tail: r#""/a"]}"#,
-        wanted: "P2 present 65 64",
-    },
-    Long {
-        name: "64 values at a fixed path",
-        head: r#"{"fixed":{"/a":["#,
-        entry: "0,",
-        count: 63,
-        tail: "0]}}",
-        wanted: "0 0 0 0 0 1 0",
-    },
-    Long {
-        name: "65 values at a fixed path",
-        head: r#"{"fixed":{"/a":["#,
-        entry: "0,",
-        count: 64,
-        tail: "0]}}",
-        wanted: "P2 /a 65 64",
-    },
-    Long {
-        name: "64 integers",
-        head: r#"{"integers":["#,
-        entry: "0,",
-        count: 63,
-        tail: "0]}",
-        wanted: "64 0 0 0 0 0 0",
-    },
-    Long {
-        name: "65 integers",
-        head: r#"{"integers":["#,
-        entry: "0,",
-        count: 64,
-        tail: "0]}",
-        wanted: "P2 integers 65 64",
-    },
-    Long {
-        name: "64 strings",
-        head: r#"{"strings":["#,
-        entry: r#""s","#,
-        count: 63,
-        tail: r#""s"]}"#,
-        wanted: "0 64 0 0 0 0 0",
-    },
-    Long {
-        name: "65 strings",
-        head: r#"{"strings":["#,
-        entry: r#""s","#,
-        count: 64,
-        tail: r#""s"]}"#,
-        wanted: "P2 strings 65 64",
-    },
-];
+static PATHS_AND_SCALARS: &str = r#"
+8 rows: name | head | entry | count | tail | wanted
+64 present paths | {"present":[ | "/a", | 63 | "/a"]} | 0 0 0 0 0 0 64
+65 present paths | {"present":[ | "/a", | 64 | "/a"]} | P2 present 65 64
+64 values at a fixed path | {"fixed":{"/a":[ | 0, | 63 | 0]}} | 0 0 0 0 0 1 0
+65 values at a fixed path | {"fixed":{"/a":[ | 0, | 64 | 0]}} | P2 /a 65 64
+64 integers | {"integers":[ | 0, | 63 | 0]} | 64 0 0 0 0 0 0
+65 integers | {"integers":[ | 0, | 64 | 0]} | P2 integers 65 64
+64 strings | {"strings":[ | "s", | 63 | "s"]} | 0 64 0 0 0 0 0
+65 strings | {"strings":[ | "s", | 64 | "s"]} | P2 strings 65 64
+"#;
 
-static NAMES_AND_TREES: [Long; 10] = [
-    Long {
-        name: "32 names",
-        head: r#"{"names":["#,
-        entry: r#""n","#,
-        count: 31,
-        tail: r#""n"]}"#,
-        wanted: "0 0 32 0 0 0 0",
-    },
-    Long {
-        name: "33 names",
-        head: r#"{"names":["#,
-        entry: r#""n","#,
-        count: 32,
-        tail: r#""n"]}"#,
-        wanted: "P2 names 33 32",
-    },
-    Long {
-        name: "64 trees",
-        head: r#"{"any":["#,
-        entry: "{},",
-        count: 63,
-        tail: "{}]}",
-        wanted: "0 0 0 64 0 0 0",
-    },
-    Long {
-        name: "65 trees",
-        head: r#"{"any":["#,
-        entry: "{},",
-        count: 64,
-        tail: "{}]}",
-        wanted: "P2 any 65 64",
-    },
-    Long {
-        name: "64 entries at a path",
-        head: r#"{"paths":{"/a":["#,
-        entry: "0,",
-        count: 63,
-        tail: "0]}}",
-        wanted: "0 0 0 0 1 0 0",
-    },
-    Long {
-        name: "65 entries at a path",
-        head: r#"{"paths":{"/a":["#,
-        entry: "0,",
-        count: 64,
-        tail: "0]}}",
-        wanted: "P2 /a 65 64",
-    },
-    Long {
-        name: "an integer for a path after 65 integers",
-        head: r#"{"integers":["#,
-        entry: "0,",
-        count: 64,
-        tail: r#"0],"paths":{"/a":1}}"#,
-        wanted: r#"P1 "/paths/~1a""#,
-    },
-    Long {
-        name: "a text for strings after 65 integers",
-        head: r#"{"integers":["#,
-        entry: "0,",
-        count: 64,
-        tail: r#"0],"strings":"s"}"#,
-        wanted: r#"P1 "/strings""#,
-    },
-    Long {
-        name: "another name after 33 names",
-        head: r#"{"names":["#,
-        entry: r#""n","#,
-        count: 32,
-        tail: r#""n"],"titles":[]}"#,
-        wanted: r#"P1 "/titles""#,
-    },
-    Long {
-        name: "127 lists",
-        head: "",
-        entry: "[",
-        count: 126,
-        tail: "[]]]]]]]]]]]]]]]]]]]]]]]]]]]]]]]]]]]]]]]]]]]]]]]]]]]]]]]]]]]]]]]]]]]]]]]]]]]]]]]]]]]]]]]]]]]]]]]]]]]]]]]]]]]]]]]]]]]]]]]]]]]]]]]",
-        wanted: r#"P1 """#,
-    },
-];
+static NAMES_AND_TREES: &str = r#"
+10 rows: name | head | entry | count | tail | wanted
+32 names | {"names":[ | "n", | 31 | "n"]} | 0 0 32 0 0 0 0
+33 names | {"names":[ | "n", | 32 | "n"]} | P2 names 33 32
+64 trees | {"any":[ | {}, | 63 | {}]} | 0 0 0 64 0 0 0
+65 trees | {"any":[ | {}, | 64 | {}]} | P2 any 65 64
+64 entries at a path | {"paths":{"/a":[ | 0, | 63 | 0]}} | 0 0 0 0 1 0 0
+65 entries at a path | {"paths":{"/a":[ | 0, | 64 | 0]}} | P2 /a 65 64
+an integer for a path after 65 integers | {"integers":[ | 0, | 64 | 0],"paths":{"/a":1}} | P1 "/paths/~1a"
+a text for strings after 65 integers | {"integers":[ | 0, | 64 | 0],"strings":"s"} | P1 "/strings"
+another name after 33 names | {"names":[ | "n", | 32 | "n"],"titles":[]} | P1 "/titles"
+127 lists | - | [ | 126
+    | []]]]]]]]]]]]]]]]]]]]]]]]]]]]]]]]]]]]]]]]]]]]]]]]]]]]]]]]]]]]]]]]]]]]]]]]]]]]]]]]]]]]]]]]]]]]]]]]]]]]]]]]]]]]]]]]]]]]]]]]]]]]]]] | P1 ""
+"#;
 
 /// The same with the large limits.
-static LARGE: [Long; 8] = [
-    Long {
-        name: "1,024 present paths",
-        head: r#"{"present":["#,
-        entry: r#""/a","#,
-        count: 1023,
-        tail: r#""/a"]}"#,
-        wanted: "0 0 0 0 0 0 1024",
-    },
-    Long {
-        name: "1,025 values at a fixed path",
-        head: r#"{"fixed":{"/a":["#,
-        entry: "0,",
-        count: 1024,
-        tail: "0]}}",
-        wanted: "P2 /a 1025 1024",
-    },
-    Long {
-        name: "1,024 integers",
-        head: r#"{"integers":["#,
-        entry: "0,",
-        count: 1023,
-        tail: "0]}",
-        wanted: "1024 0 0 0 0 0 0",
-    },
-    Long {
-        name: "1,025 integers",
-        head: r#"{"integers":["#,
-        entry: "0,",
-        count: 1024,
-        tail: "0]}",
-        wanted: "P2 integers 1025 1024",
-    },
-    Long {
-        name: "1,025 strings",
-        head: r#"{"strings":["#,
-        entry: r#""s","#,
-        count: 1024,
-        tail: r#""s"]}"#,
-        wanted: "P2 strings 1025 1024",
-    },
-    Long {
-        name: "33 names",
-        head: r#"{"names":["#,
-        entry: r#""n","#,
-        count: 32,
-        tail: r#""n"]}"#,
-        wanted: "P2 names 33 32",
-    },
-    Long {
-        name: "1,024 entries at a path",
-        head: r#"{"paths":{"/a":["#,
-        entry: "0,",
-        count: 1023,
-        tail: "0]}}",
-        wanted: "0 0 0 0 1 0 0",
-    },
-    Long {
-        name: "1,025 entries at a path",
-        head: r#"{"paths":{"/a":["#,
-        entry: "0,",
-        count: 1024,
-        tail: "0]}}",
-        wanted: "P2 /a 1025 1024",
-    },
-];
+static LARGE: &str = r#"
+8 rows: name | head | entry | count | tail | wanted
+1,024 present paths | {"present":[ | "/a", | 1023 | "/a"]} | 0 0 0 0 0 0 1024
+1,025 values at a fixed path | {"fixed":{"/a":[ | 0, | 1024 | 0]}} | P2 /a 1025 1024
+1,024 integers | {"integers":[ | 0, | 1023 | 0]} | 1024 0 0 0 0 0 0
+1,025 integers | {"integers":[ | 0, | 1024 | 0]} | P2 integers 1025 1024
+1,025 strings | {"strings":[ | "s", | 1024 | "s"]} | P2 strings 1025 1024
+33 names | {"names":[ | "n", | 32 | "n"]} | P2 names 33 32
+1,024 entries at a path | {"paths":{"/a":[ | 0, | 1023 | 0]}} | 0 0 0 0 1 0 0
+1,025 entries at a path | {"paths":{"/a":[ | 0, | 1024 | 0]}} | P2 /a 1025 1024
+"#;
 
 /// What is answered where there may be one entry, two names and three paths: of several pools that have too many entries, the first
 /// in path order.
-static FEW: [Document; 13] = [
-    Document {
-        name: "as many fixed and present paths as there may be",
-        document: r#"{"fixed":{"/a":[1],"/b":[],"/c":[2]},"present":["/a","/a","/b"]}"#,
-        wanted: "0 0 0 0 0 3 3",
-    },
-    Document {
-        name: "too many fixed paths, values at one of them, and integers",
-        document: r#"{"integers":[0,1],"fixed":{"/a":[0,1],"/b":[],"/c":[],"/d":[]}}"#,
-        wanted: "P2 fixed 4 3",
-    },
-    Document {
-        name: "too many values at two fixed paths, integers and values at a path",
-        document: r#"{"integers":[0,1],"paths":{"/a":[0,1]},"fixed":{"/c":[0,1,2],"/b":[0,1],"/a":[0]}}"#,
-        wanted: "P2 /b 2 1",
-    },
-    Document {
-        name: "too many present paths and strings",
-        document: r#"{"strings":["s","t"],"present":["/a","/b","/c","/a"]}"#,
-        wanted: "P2 present 4 3",
-    },
-    Document {
-        name: "too many values at a path and present paths",
-        document: r#"{"present":["/a","/b","/c","/a"],"paths":{"/p":[0,1]}}"#,
-        wanted: "P2 /p 2 1",
-    },
-    Document {
-        name: "as many as there may be",
-        document: r#"{"any":[0],"integers":[1],"names":["a","b"],"paths":{"/a":[1],"/b":[2],"/c":[]},"strings":["s"]}"#,
-        wanted: "1 1 2 1 3 0 0",
-    },
-    Document {
-        name: "too many in each pool",
-        document: r#"{"strings":["s","t"],"paths":{"/a":[0,1],"/b":[],"/c":[],"/d":[]},"names":["a","b","c"],"integers":[0,1],"any":[0,1]}"#,
-        wanted: "P2 any 2 1",
-    },
-    Document {
-        name: "too many in each pool but any",
-        document: r#"{"strings":["s","t"],"paths":{"/a":[0,1],"/b":[],"/c":[],"/d":[]},"names":["a","b","c"],"integers":[0,1]}"#,
-        wanted: "P2 integers 2 1",
-    },
-    Document {
-        name: "too many names, paths and strings",
-        document: r#"{"strings":["s","t"],"paths":{"/a":[0,1],"/b":[],"/c":[],"/d":[]},"names":["a","b","c"]}"#,
-        wanted: "P2 names 3 2",
-    },
-    Document {
-        name: "too many paths, entries at one of them, and strings",
-        document: r#"{"strings":["s","t"],"paths":{"/a":[0,1],"/b":[],"/c":[],"/d":[]}}"#,
-        wanted: "P2 paths 4 3",
-    },
-    Document {
-        name: "too many entries at two paths, and strings",
-        document: r#"{"strings":["s","t"],"paths":{"/c":[0,1,2],"/b":[0,1],"/a":[0]}}"#,
-        wanted: "P2 /b 2 1",
-    },
-    Document {
-        name: "too many strings",
-        document: r#"{"strings":["s","s","s"],"paths":{"/a":[0]}}"#,
-        wanted: "P2 strings 3 1",
-    },
-    Document {
-        name: "a text for strings after too many integers",
-        document: r#"{"integers":[0,1],"strings":"s"}"#,
-        wanted: r#"P1 "/strings""#,
-    },
-];
+static FEW: &str = r#"
+13 rows: name | document | wanted
+as many fixed and present paths as there may be | {"fixed":{"/a":[1],"/b":[],"/c":[2]},"present":["/a","/a","/b"]} | 0 0 0 0 0 3 3
+too many fixed paths, values at one of them, and integers | {"integers":[0,1],"fixed":{"/a":[0,1],"/b":[],"/c":[],"/d":[]}} | P2 fixed 4 3
+too many values at two fixed paths, integers and values at a path | {"integers":[0,1],"paths":{"/a":[0,1]},"fixed":{"/c":[0,1,2],"/b":[0,1],"/a":[0]}}
+    | P2 /b 2 1
+too many present paths and strings | {"strings":["s","t"],"present":["/a","/b","/c","/a"]} | P2 present 4 3
+too many values at a path and present paths | {"present":["/a","/b","/c","/a"],"paths":{"/p":[0,1]}} | P2 /p 2 1
+as many as there may be | {"any":[0],"integers":[1],"names":["a","b"],"paths":{"/a":[1],"/b":[2],"/c":[]},"strings":["s"]} | 1 1 2 1 3 0 0
+too many in each pool | {"strings":["s","t"],"paths":{"/a":[0,1],"/b":[],"/c":[],"/d":[]},"names":["a","b","c"],"integers":[0,1],"any":[0,1]}
+    | P2 any 2 1
+too many in each pool but any | {"strings":["s","t"],"paths":{"/a":[0,1],"/b":[],"/c":[],"/d":[]},"names":["a","b","c"],"integers":[0,1]}
+    | P2 integers 2 1
+too many names, paths and strings | {"strings":["s","t"],"paths":{"/a":[0,1],"/b":[],"/c":[],"/d":[]},"names":["a","b","c"]} | P2 names 3 2
+too many paths, entries at one of them, and strings | {"strings":["s","t"],"paths":{"/a":[0,1],"/b":[],"/c":[],"/d":[]}} | P2 paths 4 3
+too many entries at two paths, and strings | {"strings":["s","t"],"paths":{"/c":[0,1,2],"/b":[0,1],"/a":[0]}} | P2 /b 2 1
+too many strings | {"strings":["s","s","s"],"paths":{"/a":[0]}} | P2 strings 3 1
+a text for strings after too many integers | {"integers":[0,1],"strings":"s"} | P1 "/strings"
+"#;
 
-fn try_long(
-    report: &mut Report,
-    alloc: Global,
-    limits: PoolLimits,
-    row: &Long,
-) -> Result<(), Fail> {
-    let document = repeated(alloc, row)?;
-    let found = outcome(alloc, document.as_str(), limits);
-    is_said(report, "what is read", found, row.wanted)
-}
-
-fn repeated(alloc: Global, row: &Long) -> Result<String, AllocError> {
-    let mut document = String::from_str(alloc, row.head)?;
-    for _ in 0..row.count {
-        document.push_str(row.entry)?;
+fn repeated(alloc: Global, row: &Row) -> Result<String, AllocError> {
+    let mut document = String::from_str(alloc, row.text("head"))?;
+    for _ in 0..row.count("count") {
+        document.push_str(row.text("entry"))?;
     }
-    document.push_str(row.tail)?;
+    document.push_str(row.text("tail"))?;
     Ok(document)
 }
 
-fn all_long(report: &mut Report, alloc: Global, limits: PoolLimits, rows: &[Long]) {
-    for row in rows {
-        let ended = try_long(report, alloc, limits, row);
-        report.row(row.name, ended);
+/// The beginning of a document, an entry with its comma, how many there are, the text after them, and what is answered.
+#[derive(Drop)]
+struct Long {
+    limits: PoolLimits,
+}
+
+impl Kind for Long {
+    fn attempt(&self, report: &mut Report, alloc: Global, row: &Row) -> Result<(), Fail> {
+        let document = repeated(alloc, row)?;
+        let found = outcome(alloc, document.as_str(), self.limits);
+        is_said(report, "what is read", found, row.text("wanted"))
     }
 }
 
@@ -340,21 +101,22 @@ fn limits(rt: HostRuntime) -> Result<(), Fail> {
         names: 2,
         paths: 3,
     };
-    let mut report = Report::new(rt.alloc());
-    all_long(
+    let standard = Long {
+        limits: PoolLimits::STANDARD,
+    };
+    let large = Long {
+        limits: PoolLimits::LARGE,
+    };
+    let alloc = rt.alloc();
+    let mut report = Report::new(alloc);
+    all_rows(
         &mut report,
-        rt.alloc(),
-        PoolLimits::STANDARD,
-        &PATHS_AND_SCALARS,
+        alloc,
+        &standard,
+        &[PATHS_AND_SCALARS, NAMES_AND_TREES],
     );
-    all_long(
-        &mut report,
-        rt.alloc(),
-        PoolLimits::STANDARD,
-        &NAMES_AND_TREES,
-    );
-    all_long(&mut report, rt.alloc(), PoolLimits::LARGE, &LARGE);
-    all_documents(&mut report, rt.alloc(), few, &FEW);
+    all_rows(&mut report, alloc, &large, &[LARGE]);
+    all_rows(&mut report, alloc, &DocumentRow { limits: few }, &[FEW]);
     report.end(&rt)
 }
 
@@ -368,93 +130,32 @@ fn many_paths(alloc: Global, name: &str, count: usize) -> Result<String, AllocEr
     Ok(document)
 }
 
+static MANY_PATHS: &str = r#"
+9 rows: name | pool | count | limits | wanted
+one path | paths | 1 | standard | 0 0 0 0 1 0 0
+64 paths | paths | 64 | standard | 0 0 0 0 64 0 0
+65 paths | paths | 65 | standard | P2 paths 65 64
+1,024 paths | paths | 1024 | large | 0 0 0 0 1024 0 0
+1,025 paths | paths | 1025 | large | P2 paths 1025 1024
+64 fixed paths | fixed | 64 | standard | 0 0 0 0 0 64 0
+65 fixed paths | fixed | 65 | standard | P2 fixed 65 64
+1,024 fixed paths | fixed | 1024 | large | 0 0 0 0 0 1024 0
+1,025 fixed paths | fixed | 1025 | large | P2 fixed 1025 1024
+"#;
+
 /// How many paths there are under a name, the limits, and what is read.
-struct ManyPaths {
-    name: &'static str,
-    pool: &'static str,
-    count: usize,
-    limits: PoolLimits,
-    wanted: &'static str,
-}
+struct ManyPaths;
 
-static MANY_PATHS: [ManyPaths; 9] = [
-    ManyPaths {
-        name: "one path",
-        pool: "paths",
-        count: 1,
-        limits: PoolLimits::STANDARD,
-        wanted: "0 0 0 0 1 0 0",
-    },
-    ManyPaths {
-        name: "64 paths",
-        pool: "paths",
-        count: 64,
-        limits: PoolLimits::STANDARD,
-        wanted: "0 0 0 0 64 0 0",
-    },
-    ManyPaths {
-        name: "65 paths",
-        pool: "paths",
-        count: 65,
-        limits: PoolLimits::STANDARD,
-        wanted: "P2 paths 65 64",
-    },
-    ManyPaths {
-        name: "1,024 paths",
-        pool: "paths",
-        count: 1024,
-        limits: PoolLimits::LARGE,
-        wanted: "0 0 0 0 1024 0 0",
-    },
-    ManyPaths {
-        name: "1,025 paths",
-        pool: "paths",
-        count: 1025,
-        limits: PoolLimits::LARGE,
-        wanted: "P2 paths 1025 1024",
-    },
-    ManyPaths {
-        name: "64 fixed paths",
-        pool: "fixed",
-        count: 64,
-        limits: PoolLimits::STANDARD,
-        wanted: "0 0 0 0 0 64 0",
-    },
-    ManyPaths {
-        name: "65 fixed paths",
-        pool: "fixed",
-        count: 65,
-        limits: PoolLimits::STANDARD,
-        wanted: "P2 fixed 65 64",
-    },
-    ManyPaths {
-        name: "1,024 fixed paths",
-        pool: "fixed",
-        count: 1024,
-        limits: PoolLimits::LARGE,
-        wanted: "0 0 0 0 0 1024 0",
-    },
-    ManyPaths {
-        name: "1,025 fixed paths",
-        pool: "fixed",
-        count: 1025,
-        limits: PoolLimits::LARGE,
-        wanted: "P2 fixed 1025 1024",
-    },
-];
-
-fn try_many_paths(report: &mut Report, alloc: Global, row: &ManyPaths) -> Result<(), Fail> {
-    let document = many_paths(alloc, row.pool, row.count)?;
-    let found = outcome(alloc, document.as_str(), row.limits);
-    is_said(report, "what is read", found, row.wanted)
+impl Kind for ManyPaths {
+    fn attempt(&self, report: &mut Report, alloc: Global, row: &Row) -> Result<(), Fail> {
+        let document = many_paths(alloc, row.text("pool"), row.count("count"))?;
+        let limits = limits_of(row.text("limits"))?;
+        let found = outcome(alloc, document.as_str(), limits);
+        is_said(report, "what is read", found, row.text("wanted"))
+    }
 }
 
 #[test]
 fn paths(rt: HostRuntime) -> Result<(), Fail> {
-    let mut report = Report::new(rt.alloc());
-    for row in &MANY_PATHS {
-        let ended = try_many_paths(&mut report, rt.alloc(), row);
-        report.row(row.name, ended);
-    }
-    report.end(&rt)
+    try_tables(&rt, rt.alloc(), &ManyPaths, &[MANY_PATHS])
 }

@@ -1,233 +1,75 @@
 //! Documents of pools: their form, and what is read.
 use crate::support::harness::{is_said, pools_of};
 use crate::support::pages::lines_of;
-use crate::support::pools::{Document, all_documents, counts, said};
+use crate::support::pools::{DocumentRow, counts, said};
 use crate::support::report::Report;
+use crate::support::rows::try_tables;
 use jtree::{Text, Tree};
 use plan::{PFault, PoolLimits, Pools};
 use std::alloc::Global;
 use std::test::Fail;
 
-static FIXED_AND_PRESENT: [Document; 11] = [
-    Document {
-        name: "no member",
-        document: "{}",
-        wanted: "0 0 0 0 0 0 0",
-    },
-    Document {
-        name: "fixed and present paths",
-        document: r#"{"present":["/a","no path","/a"],"fixed":{"/a":[null,{"q":[]}],"/b":[]}}"#,
-        wanted: "0 0 0 0 0 2 3",
-    },
-    Document {
-        name: "a list of fixed values",
-        document: r#"{"fixed":[]}"#,
-        wanted: r#"P1 "/fixed""#,
-    },
-    Document {
-        name: "a text for a fixed path",
-        document: r#"{"fixed":{"/spec":"x","/a":[]}}"#,
-        wanted: r#"P1 "/fixed/~1spec""#,
-    },
-    Document {
-        name: "the first of two fixed paths",
-        document: r#"{"fixed":{"/b":1,"/a":2}}"#,
-        wanted: r#"P1 "/fixed/~1a""#,
-    },
-    Document {
-        name: "a present text",
-        document: r#"{"present":"/a"}"#,
-        wanted: r#"P1 "/present""#,
-    },
-    Document {
-        name: "an integer among present paths",
-        document: r#"{"present":["/a",1,2]}"#,
-        wanted: r#"P1 "/present/1""#,
-    },
-    Document {
-        name: "an object of present paths",
-        document: r#"{"present":{"/a":[]}}"#,
-        wanted: r#"P1 "/present""#,
-    },
-    Document {
-        name: "a fixed path before an integer",
-        document: r#"{"integers":"x","fixed":{"/a":{}}}"#,
-        wanted: r#"P1 "/fixed/~1a""#,
-    },
-    Document {
-        name: "a path before a present one, and this before a string",
-        document: r#"{"strings":[0],"present":[0],"paths":{"/a":0}}"#,
-        wanted: r#"P1 "/paths/~1a""#,
-    },
-    Document {
-        name: "a present path before a string",
-        document: r#"{"strings":[0],"present":[0]}"#,
-        wanted: r#"P1 "/present/0""#,
-    },
-];
+static FIXED_AND_PRESENT: &str = r#"
+11 rows: name | document | wanted
+no member | {} | 0 0 0 0 0 0 0
+fixed and present paths | {"present":["/a","no path","/a"],"fixed":{"/a":[null,{"q":[]}],"/b":[]}} | 0 0 0 0 0 2 3
+a list of fixed values | {"fixed":[]} | P1 "/fixed"
+a text for a fixed path | {"fixed":{"/spec":"x","/a":[]}} | P1 "/fixed/~1spec"
+the first of two fixed paths | {"fixed":{"/b":1,"/a":2}} | P1 "/fixed/~1a"
+a present text | {"present":"/a"} | P1 "/present"
+an integer among present paths | {"present":["/a",1,2]} | P1 "/present/1"
+an object of present paths | {"present":{"/a":[]}} | P1 "/present"
+a fixed path before an integer | {"integers":"x","fixed":{"/a":{}}} | P1 "/fixed/~1a"
+a path before a present one, and this before a string | {"strings":[0],"present":[0],"paths":{"/a":0}} | P1 "/paths/~1a"
+a present path before a string | {"strings":[0],"present":[0]} | P1 "/present/0"
+"#;
 
-static VALUES_AND_PATHS: [Document; 12] = [
-    Document {
-        name: "each pool",
-        document: r#"{"any":[null],"integers":[1,1,1,1],"names":["n","n"],"strings":["a","b","a"]}"#,
-        wanted: "4 3 2 1 0 0 0",
-    },
-    Document {
-        name: "trees of each kind",
-        document: r#"{"any":[null,true,-1,"t",[[]],{"q":1}]}"#,
-        wanted: "0 0 0 6 0 0 0",
-    },
-    Document {
-        name: "no paths",
-        document: r#"{"paths":{}}"#,
-        wanted: "0 0 0 0 0 0 0",
-    },
-    Document {
-        name: "paths with trees of each kind",
-        document: r#"{"paths":{"":[],"/a":[null,true,-1,"t",[[]],{"q":1}],"no path":[1,1]}}"#,
-        wanted: "0 0 0 0 3 0 0",
-    },
-    Document {
-        name: "a list of paths",
-        document: r#"{"paths":[]}"#,
-        wanted: r#"P1 "/paths""#,
-    },
-    Document {
-        name: "null for paths",
-        document: r#"{"paths":null}"#,
-        wanted: r#"P1 "/paths""#,
-    },
-    Document {
-        name: "an integer for a path",
-        document: r#"{"paths":{"/spec/b":1}}"#,
-        wanted: r#"P1 "/paths/~1spec~1b""#,
-    },
-    Document {
-        name: "an object for a path",
-        document: r#"{"paths":{"/a":[],"/b~0":{}}}"#,
-        wanted: r#"P1 "/paths/~1b~00""#,
-    },
-    Document {
-        name: "null for the path of the root",
-        document: r#"{"paths":{"":null}}"#,
-        wanted: r#"P1 "/paths/""#,
-    },
-    Document {
-        name: "the first of two paths",
-        document: r#"{"paths":{"/b":1,"/a":2}}"#,
-        wanted: r#"P1 "/paths/~1a""#,
-    },
-    Document {
-        name: "a path before a string",
-        document: r#"{"strings":[1],"paths":{"/a":[],"/b":2}}"#,
-        wanted: r#"P1 "/paths/~1b""#,
-    },
-    Document {
-        name: "a name before a path",
-        document: r#"{"names":[1],"paths":{"/b":2}}"#,
-        wanted: r#"P1 "/names/0""#,
-    },
-];
+static VALUES_AND_PATHS: &str = r#"
+12 rows: name | document | wanted
+each pool | {"any":[null],"integers":[1,1,1,1],"names":["n","n"],"strings":["a","b","a"]} | 4 3 2 1 0 0 0
+trees of each kind | {"any":[null,true,-1,"t",[[]],{"q":1}]} | 0 0 0 6 0 0 0
+no paths | {"paths":{}} | 0 0 0 0 0 0 0
+paths with trees of each kind | {"paths":{"":[],"/a":[null,true,-1,"t",[[]],{"q":1}],"no path":[1,1]}} | 0 0 0 0 3 0 0
+a list of paths | {"paths":[]} | P1 "/paths"
+null for paths | {"paths":null} | P1 "/paths"
+an integer for a path | {"paths":{"/spec/b":1}} | P1 "/paths/~1spec~1b"
+an object for a path | {"paths":{"/a":[],"/b~0":{}}} | P1 "/paths/~1b~00"
+null for the path of the root | {"paths":{"":null}} | P1 "/paths/"
+the first of two paths | {"paths":{"/b":1,"/a":2}} | P1 "/paths/~1a"
+a path before a string | {"strings":[1],"paths":{"/a":[],"/b":2}} | P1 "/paths/~1b"
+a name before a path | {"names":[1],"paths":{"/b":2}} | P1 "/names/0"
+"#;
 
-static FORMS: [Document; 7] = [
-    Document {
-        name: "a list",
-        document: "[]",
-        wanted: r#"P1 """#,
-    },
-    Document {
-        name: "a text for integers",
-        document: r#"{"integers":"x"}"#,
-        wanted: r#"P1 "/integers""#,
-    },
-    Document {
-        name: "a text for strings",
-        document: r#"{"strings":"x"}"#,
-        wanted: r#"P1 "/strings""#,
-    },
-    Document {
-        name: "a text among integers",
-        document: r#"{"integers":[0,"x"]}"#,
-        wanted: r#"P1 "/integers/1""#,
-    },
-    Document {
-        name: "an integer for a name",
-        document: r#"{"names":[1]}"#,
-        wanted: r#"P1 "/names/0""#,
-    },
-    Document {
-        name: "a break of index 2 before one of index 10",
-        document: r#"{"integers":[0,1,"x",3,4,5,6,7,8,9,"y"]}"#,
-        wanted: r#"P1 "/integers/2""#,
-    },
-    Document {
-        name: "a break of index 10",
-        document: r#"{"integers":[0,1,2,3,4,5,6,7,8,9,"y"]}"#,
-        wanted: r#"P1 "/integers/10""#,
-    },
-];
+static FORMS: &str = r#"
+7 rows: name | document | wanted
+a list | [] | P1 ""
+a text for integers | {"integers":"x"} | P1 "/integers"
+a text for strings | {"strings":"x"} | P1 "/strings"
+a text among integers | {"integers":[0,"x"]} | P1 "/integers/1"
+an integer for a name | {"names":[1]} | P1 "/names/0"
+a break of index 2 before one of index 10 | {"integers":[0,1,"x",3,4,5,6,7,8,9,"y"]} | P1 "/integers/2"
+a break of index 10 | {"integers":[0,1,2,3,4,5,6,7,8,9,"y"]} | P1 "/integers/10"
+"#;
 
-static NAMES: [Document; 8] = [
-    Document {
-        name: "a pool of another name",
-        document: r#"{"floats":[]}"#,
-        wanted: r#"P1 "/floats""#,
-    },
-    Document {
-        name: "the empty name",
-        document: r#"{"":[]}"#,
-        wanted: r#"P1 "/""#,
-    },
-    Document {
-        name: "a slash and a tilde",
-        document: r#"{"a/b~c~1":[]}"#,
-        wanted: r#"P1 "/a~1b~0c~01""#,
-    },
-    Document {
-        name: "trees before integers",
-        document: r#"{"integers":"x","any":"x"}"#,
-        wanted: r#"P1 "/any""#,
-    },
-    Document {
-        name: "a capital letter before a small one",
-        document: r#"{"any":1,"Z":[]}"#,
-        wanted: r#"P1 "/Z""#,
-    },
-    Document {
-        name: "an entry before another name",
-        document: r#"{"integers":[true],"j":[]}"#,
-        wanted: r#"P1 "/integers/0""#,
-    },
-    Document {
-        name: "another name before an entry",
-        document: r#"{"integers":[true],"i":[]}"#,
-        wanted: r#"P1 "/i""#,
-    },
-    Document {
-        name: "any trees before an entry",
-        document: r#"{"any":["x",1],"integers":[1,"x"]}"#,
-        wanted: r#"P1 "/integers/1""#,
-    },
-];
+static NAMES: &str = r#"
+8 rows: name | document | wanted
+a pool of another name | {"floats":[]} | P1 "/floats"
+the empty name | {"":[]} | P1 "/"
+a slash and a tilde | {"a/b~c~1":[]} | P1 "/a~1b~0c~01"
+trees before integers | {"integers":"x","any":"x"} | P1 "/any"
+a capital letter before a small one | {"any":1,"Z":[]} | P1 "/Z"
+an entry before another name | {"integers":[true],"j":[]} | P1 "/integers/0"
+another name before an entry | {"integers":[true],"i":[]} | P1 "/i"
+any trees before an entry | {"any":["x",1],"integers":[1,"x"]} | P1 "/integers/1"
+"#;
 
 #[test]
 fn forms(rt: HostRuntime) -> Result<(), Fail> {
-    let mut report = Report::new(rt.alloc());
-    all_documents(
-        &mut report,
-        rt.alloc(),
-        PoolLimits::STANDARD,
-        &FIXED_AND_PRESENT,
-    );
-    all_documents(
-        &mut report,
-        rt.alloc(),
-        PoolLimits::STANDARD,
-        &VALUES_AND_PATHS,
-    );
-    all_documents(&mut report, rt.alloc(), PoolLimits::STANDARD, &FORMS);
-    all_documents(&mut report, rt.alloc(), PoolLimits::STANDARD, &NAMES);
-    report.end(&rt)
+    let kind = DocumentRow {
+        limits: PoolLimits::STANDARD,
+    };
+    let tables = &[FIXED_AND_PRESENT, VALUES_AND_PATHS, FORMS, NAMES];
+    try_tables(&rt, rt.alloc(), &kind, tables)
 }
 
 fn are_texts(report: &mut Report, found: &[Text], wanted: &[&str]) {

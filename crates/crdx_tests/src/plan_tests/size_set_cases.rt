@@ -1,227 +1,132 @@
 //! Sets of sizes: their members, sums up to a limit, and the next member.
-use crate::support::plans::are_sizes;
+use crate::support::plans::are_sizes_of;
 use crate::support::report::Report;
+use crate::support::rows::{Kind, Row, all_rows};
 use plan::SizeSet;
 use std::alloc::Global;
 use std::test::Fail;
 
 /// The set of these members, none of which is too large.
-fn set_of<S: SizeSet>(members: &[u32]) -> Result<S, Fail> {
+fn set_of<S: SizeSet>(members: &str) -> Result<S, Fail> {
     let mut set = S::empty();
-    for n in members {
-        if *n >= S::BITS {
+    for member in members.split_whitespace() {
+        let n = member.parse::<u32>()?;
+        if n >= S::BITS {
             return Err(Fail::from("no size"));
         }
-        set = set.union(S::one(*n));
+        set = set.union(S::one(n));
     }
     Ok(set)
 }
 
-/// The members of two sets, a limit, and the sums up to it.
-struct SumsRow {
-    name: &'static str,
-    left: &'static [u32],
-    right: &'static [u32],
-    limit: u32,
-    sums: &'static [u32],
-}
+static SUMS: &str = r#"
+4 rows: name | left | right | limit | sums
+sums up to 4 | 1 3 | 0 2 | 4 | 1 3
+sums up to 5 | 1 3 | 0 2 | 5 | 1 3 5
+sums that are too great | 63 | 1 | 63 | -
+sums with the empty set | 1 3 | - | 63 | -
+"#;
 
-static SUMS: [SumsRow; 4] = [
-    SumsRow {
-        name: "sums up to 4",
-        left: &[1, 3],
-        right: &[0, 2],
-        limit: 4,
-        sums: &[1, 3],
-    },
-    SumsRow {
-        name: "sums up to 5",
-        left: &[1, 3],
-        right: &[0, 2],
-        limit: 5,
-        sums: &[1, 3, 5],
-    },
-    SumsRow {
-        name: "sums that are too great",
-        left: &[63],
-        right: &[1],
-        limit: 63,
-        sums: &[],
-    },
-    SumsRow {
-        name: "sums with the empty set",
-        left: &[1, 3],
-        right: &[],
-        limit: 63,
-        sums: &[],
-    },
-];
+static WIDE_SUMS: &str = r#"
+4 rows: name | left | right | limit | sums
+sums around 64 | 1 63 | 0 1 | 127 | 1 2 63 64
+sums up to 126 | 63 64 | 62 63 | 126 | 125 126
+sums to 127 | 63 64 | 62 63 | 127 | 125 126 127
+sums past any size | 64 127 | 1 64 | 127 | 65
+"#;
 
-static WIDE_SUMS: [SumsRow; 4] = [
-    SumsRow {
-        name: "sums around 64",
-        left: &[1, 63],
-        right: &[0, 1],
-        limit: 127,
-        sums: &[1, 2, 63, 64],
-    },
-    SumsRow {
-        name: "sums up to 126",
-        left: &[63, 64],
-        right: &[62, 63],
-        limit: 126,
-        sums: &[125, 126],
-    },
-    SumsRow {
-        name: "sums to 127",
-        left: &[63, 64],
-        right: &[62, 63],
-        limit: 127,
-        sums: &[125, 126, 127],
-    },
-    SumsRow {
-        name: "sums past any size",
-        left: &[64, 127],
-        right: &[1, 64],
-        limit: 127,
-        sums: &[65],
-    },
-];
-
-fn try_sums<S: SizeSet>(report: &mut Report, alloc: Global, row: &SumsRow) -> Result<(), Fail> {
-    if row.limit >= S::BITS {
+fn try_sums<S: SizeSet>(report: &mut Report, alloc: Global, row: &Row) -> Result<(), Fail> {
+    let limit = row.small("limit");
+    if limit >= S::BITS {
         return Err(Fail::from("no limit"));
     }
-    let sums = set_of::<S>(row.left)?.sums(set_of(row.right)?, row.limit);
-    are_sizes(report, alloc, "the members", sums, row.sums)
+    let sums = set_of::<S>(row.text("left"))?.sums(set_of(row.text("right"))?, limit);
+    are_sizes_of(report, alloc, "the members", sums, row.text("sums"))
 }
 
-fn all_sums<S: SizeSet>(report: &mut Report, alloc: Global, rows: &[SumsRow]) {
-    for row in rows {
-        let ended = try_sums::<S>(report, alloc, row);
-        report.row_of(
-            format!(in alloc; "{}, over {} bits", row.name, S::BITS),
-            ended,
-        );
+/// The members of two sets, a limit, and the sums up to it, over 128 bits, and over 64 where the members are not wide.
+#[derive(Drop)]
+struct SumsRow {
+    are_wide: bool,
+}
+
+impl Kind for SumsRow {
+    fn attempt(&self, report: &mut Report, alloc: Global, row: &Row) -> Result<(), Fail> {
+        if !self.are_wide {
+            try_sums::<u64>(report, alloc, row)?;
+        }
+        try_sums::<u128>(report, alloc, row)
     }
 }
 
 #[test]
 fn sums(rt: HostRuntime) -> Result<(), Fail> {
     let mut report = Report::new(rt.alloc());
-    all_sums::<u64>(&mut report, rt.alloc(), &SUMS);
-    all_sums::<u128>(&mut report, rt.alloc(), &SUMS);
-    all_sums::<u128>(&mut report, rt.alloc(), &WIDE_SUMS);
+    all_rows(
+        &mut report,
+        rt.alloc(),
+        &SumsRow { are_wide: false },
+        &[SUMS],
+    );
+    all_rows(
+        &mut report,
+        rt.alloc(),
+        &SumsRow { are_wide: true },
+        &[WIDE_SUMS],
+    );
     report.end(&rt)
 }
 
-/// The members of a set, a number, and the least member at or above it.
-struct Next {
-    name: &'static str,
-    members: &'static [u32],
-    from: u32,
-    next: Option<u32>,
-}
+static NEXT: &str = r#"
+7 rows: name | members | from | next
+a number between two members | 3 9 | 4 | Some(9)
+a member | 3 9 | 3 | Some(3)
+a number past all members | 3 9 | 10 | None
+0 and the empty set | - | 0 | None
+63, a member | 63 | 63 | Some(63)
+63, not a member | 62 | 63 | None
+64, past all members | 63 | 64 | None
+"#;
 
-static NEXT: [Next; 7] = [
-    Next {
-        name: "a number between two members",
-        members: &[3, 9],
-        from: 4,
-        next: Some(9),
-    },
-    Next {
-        name: "a member",
-        members: &[3, 9],
-        from: 3,
-        next: Some(3),
-    },
-    Next {
-        name: "a number past all members",
-        members: &[3, 9],
-        from: 10,
-        next: None,
-    },
-    Next {
-        name: "0 and the empty set",
-        members: &[],
-        from: 0,
-        next: None,
-    },
-    Next {
-        name: "63, a member",
-        members: &[63],
-        from: 63,
-        next: Some(63),
-    },
-    Next {
-        name: "63, not a member",
-        members: &[62],
-        from: 63,
-        next: None,
-    },
-    Next {
-        name: "64, past all members",
-        members: &[63],
-        from: 64,
-        next: None,
-    },
-];
+static WIDE_NEXT: &str = r#"
+5 rows: name | members | from | next
+64, a member | 63 64 | 64 | Some(64)
+a number between 64 and 126 | 64 126 | 65 | Some(126)
+the greatest size, a member | 127 | 127 | Some(127)
+the greatest size, not a member | 126 | 127 | None
+a number that is no size | 127 | 128 | None
+"#;
 
-static WIDE_NEXT: [Next; 5] = [
-    Next {
-        name: "64, a member",
-        members: &[63, 64],
-        from: 64,
-        next: Some(64),
-    },
-    Next {
-        name: "a number between 64 and 126",
-        members: &[64, 126],
-        from: 65,
-        next: Some(126),
-    },
-    Next {
-        name: "the greatest size, a member",
-        members: &[127],
-        from: 127,
-        next: Some(127),
-    },
-    Next {
-        name: "the greatest size, not a member",
-        members: &[126],
-        from: 127,
-        next: None,
-    },
-    Next {
-        name: "a number that is no size",
-        members: &[127],
-        from: 128,
-        next: None,
-    },
-];
-
-fn try_next<S: SizeSet>(report: &mut Report, row: &Next) -> Result<(), Fail> {
-    let next = set_of::<S>(row.members)?.next(row.from);
-    report.is_value("the next member", &next, &row.next);
+fn try_next<S: SizeSet>(report: &mut Report, row: &Row) -> Result<(), Fail> {
+    let next = set_of::<S>(row.text("members"))?.next(row.small("from"));
+    report.is_shown("the next member", &next, row.text("next"))?;
     Ok(())
 }
 
-fn all_next<S: SizeSet>(report: &mut Report, alloc: Global, rows: &[Next]) {
-    for row in rows {
-        let ended = try_next::<S>(report, row);
-        report.row_of(
-            format!(in alloc; "{}, over {} bits", row.name, S::BITS),
-            ended,
-        );
+/// The members of a set, a number, and the least member at or above it, over 128 bits, and over 64 where they are not wide.
+#[derive(Drop)]
+struct Next {
+    are_wide: bool,
+}
+
+impl Kind for Next {
+    fn attempt(&self, report: &mut Report, _alloc: Global, row: &Row) -> Result<(), Fail> {
+        if !self.are_wide {
+            try_next::<u64>(report, row)?;
+        }
+        try_next::<u128>(report, row)
     }
 }
 
 #[test]
 fn next_members(rt: HostRuntime) -> Result<(), Fail> {
     let mut report = Report::new(rt.alloc());
-    all_next::<u64>(&mut report, rt.alloc(), &NEXT);
-    all_next::<u128>(&mut report, rt.alloc(), &NEXT);
-    all_next::<u128>(&mut report, rt.alloc(), &WIDE_NEXT);
+    all_rows(&mut report, rt.alloc(), &Next { are_wide: false }, &[NEXT]);
+    all_rows(
+        &mut report,
+        rt.alloc(),
+        &Next { are_wide: true },
+        &[WIDE_NEXT],
+    );
     report.end(&rt)
 }

@@ -1,79 +1,39 @@
 //! `sample --all`: all samples, however many, with flushes between blocks of lines.
-use crate::support::documents::{LAST_LINES, TEN_LINES, WIDGET, ZERO_AND_ONE};
 use crate::support::fakes::{FailingSink, FakeInputs};
-use crate::support::harness::{Output, Run, all_runs, definition, has_failed, is_answer, run_on};
+use crate::support::harness::{Output, RunRow, definition, has_failed, is_answer, run_on};
 use crate::support::report::Report;
+use crate::support::rows::try_tables;
 use crate::support::texts::beginning;
 use std::alloc::{AllocError, Global};
 use std::fmt::Write;
 use std::test::Fail;
 
-const NAMED_LAST: &str =
-    r#"{"apiVersion":"example.org/v1","kind":"Widget","metadata":{"name":"w"},"spec":{"a":1,"b":true}}
+static LISTINGS: &str = r#"
+6 rows: name | command | definition | second | status
+every sample of four nodes | crdx sample crd.json v1 --pools pools.json --limit 4 --all | @WIDGET | {"integers":[0,1]} | 0
+    > @TEN_LINES
+    ! crdx: end
+the samples past the third one | crdx sample crd.json v1 --pools pools.json --limit 4 --all --after {"spec":{"b":false}} | @WIDGET
+    | {"integers":[0,1]} | 0
+    > @LAST_LINES
+    ! crdx: end
+the last sample as a resource | crdx sample crd.json v1 --pools pools.json --limit 4 --name w --all --after {"spec":{"a":1,"b":false}} | @WIDGET
+    | {"integers":[0,1]} | 0
+    > {"apiVersion":"example.org/v1","kind":"Widget","metadata":{"name":"w"},"spec":{"a":1,"b":true}}
+    ! crdx: end
+nothing past the last sample | crdx sample crd.json v1 --pools pools.json --limit 4 --all --after {"spec":{"a":1,"b":true}} | @WIDGET
+    | {"integers":[0,1]} | 0
+    ! crdx: end
+past what is no sample | crdx sample crd.json v1 --pools pools.json --limit 4 --all --after {"spec":{"a":2}} | @WIDGET | {"integers":[0,1]} | 1
+    ! crdx: after: not a sample
+within words of 128 bits | crdx sample crd.json v1 --pools pools.json --limit 64 --all | @WIDGET | {"integers":[0,1]} | 0
+    > @TEN_LINES
+    ! crdx: end
 "#;
-
-static LISTINGS: [Run<'static>; 6] = [
-    Run {
-        name: "every sample of four nodes",
-        command: "crdx sample crd.json v1 --pools pools.json --limit 4 --all",
-        crd: WIDGET,
-        second: ZERO_AND_ONE,
-        out: TEN_LINES,
-        err: "crdx: end\n",
-        status: 0,
-    },
-    Run {
-        name: "the samples past the third one",
-        command: "crdx sample crd.json v1 --pools pools.json --limit 4 --all --after {\"spec\":{\"b\":false}}",
-        crd: WIDGET,
-        second: ZERO_AND_ONE,
-        out: LAST_LINES,
-        err: "crdx: end\n",
-        status: 0,
-    },
-    Run {
-        name: "the last sample as a resource",
-        command: "crdx sample crd.json v1 --pools pools.json --limit 4 --name w --all --after {\"spec\":{\"a\":1,\"b\":false}}",
-        crd: WIDGET,
-        second: ZERO_AND_ONE,
-        out: NAMED_LAST,
-        err: "crdx: end\n",
-        status: 0,
-    },
-    Run {
-        name: "nothing past the last sample",
-        command: "crdx sample crd.json v1 --pools pools.json --limit 4 --all --after {\"spec\":{\"a\":1,\"b\":true}}",
-        crd: WIDGET,
-        second: ZERO_AND_ONE,
-        out: "",
-        err: "crdx: end\n",
-        status: 0,
-    },
-    Run {
-        name: "past what is no sample",
-        command: "crdx sample crd.json v1 --pools pools.json --limit 4 --all --after {\"spec\":{\"a\":2}}",
-        crd: WIDGET,
-        second: ZERO_AND_ONE,
-        out: "",
-        err: "crdx: after: not a sample\n",
-        status: 1,
-    },
-    Run {
-        name: "within words of 128 bits",
-        command: "crdx sample crd.json v1 --pools pools.json --limit 64 --all",
-        crd: WIDGET,
-        second: ZERO_AND_ONE,
-        out: TEN_LINES,
-        err: "crdx: end\n",
-        status: 0,
-    },
-];
 
 #[test]
 fn listings(rt: HostRuntime) -> Result<(), Fail> {
-    let mut report = Report::new(rt.alloc());
-    all_runs(&mut report, rt.alloc(), &LISTINGS);
-    report.end(&rt)
+    try_tables(&rt, rt.alloc(), &RunRow, &[LISTINGS])
 }
 
 // Three integers, each of 23: 12,167 samples of four nodes, from all 0 to all 22.

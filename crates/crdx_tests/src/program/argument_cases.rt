@@ -1,7 +1,7 @@
 //! The words of the command line: what they ask for.
-use crate::program::help_cases::CommandLine;
 use crate::support::harness::{is_said, words_of};
 use crate::support::report::Report;
+use crate::support::rows::{Kind, Row, try_tables};
 use crdx::arguments::{
     CommonArguments, CoverArguments, ExplainArguments, ObjectArguments, ObjectCommand,
     PoolsArguments, Request, SampleArguments, parse_arguments,
@@ -13,207 +13,61 @@ use std::test::Fail;
 
 // What is wanted in these tables: the definition, the version, and the object, or the pools, the sample to go on from, the name, the
 // limit and the count, or all. What is read of the standard input is (input), and - is nothing.
-static COVERS_AND_CHECKS: [CommandLine; 13] = [
-    CommandLine {
-        name: "a cover",
-        command: "crdx cover c.json v1",
-        wanted: "cover c.json v1 - - 127",
-    },
-    CommandLine {
-        name: "a cover with values",
-        command: "crdx cover --values c.json v1 --pools - --limit 15 --name w",
-        wanted: "cover c.json v1 (input) w 15 values",
-    },
-    CommandLine {
-        name: "a cover of the standard input, with reasons",
-        command: "crdx cover - v1 --why --large --pools p.json",
-        wanted: "cover (input) v1 large with reasons p.json - 127",
-    },
-    CommandLine {
-        name: "a sample",
-        command: "crdx sample c.json v1",
-        wanted: "sample c.json v1 - - - 8 100",
-    },
-    CommandLine {
-        name: "a check",
-        command: "crdx check c.json v1",
-        wanted: "check c.json v1 without reasons",
-    },
-    CommandLine {
-        name: "a check with reasons",
-        command: "crdx check c.json v1 --why",
-        wanted: "check c.json v1 with reasons",
-    },
-    CommandLine {
-        name: "a check with reasons, which come first",
-        command: "crdx check --why c.json v1",
-        wanted: "check c.json v1 with reasons",
-    },
-    CommandLine {
-        name: "a check of the standard input",
-        command: "crdx check - v1",
-        wanted: "check (input) v1 without reasons",
-    },
-    CommandLine {
-        name: "a check of a file with the name -",
-        command: "crdx check ./- v1",
-        wanted: "check ./- v1 without reasons",
-    },
-    CommandLine {
-        name: "a check within the larger limits",
-        command: "crdx check --large c.json v1",
-        wanted: "check c.json v1 large without reasons",
-    },
-    CommandLine {
-        name: "a sample with reasons",
-        command: "crdx sample c.json v1 --why --pools p.json",
-        wanted: "sample c.json v1 with reasons p.json - - 8 100",
-    },
-    CommandLine {
-        name: "fields within the larger limits",
-        command: "crdx explain --large c.json v1",
-        wanted: "explain c.json v1 large -",
-    },
-    CommandLine {
-        name: "options between the words",
-        command: "crdx validate c.json --why v1 --large o.json",
-        wanted: "validate c.json v1 large with reasons o.json",
-    },
-];
+static COVERS_AND_CHECKS: &str = r#"
+13 rows: name | command | wanted
+a cover | crdx cover c.json v1 | cover c.json v1 - - 127
+a cover with values | crdx cover --values c.json v1 --pools - --limit 15 --name w | cover c.json v1 (input) w 15 values
+a cover of the standard input, with reasons | crdx cover - v1 --why --large --pools p.json | cover (input) v1 large with reasons p.json - 127
+a sample | crdx sample c.json v1 | sample c.json v1 - - - 8 100
+a check | crdx check c.json v1 | check c.json v1 without reasons
+a check with reasons | crdx check c.json v1 --why | check c.json v1 with reasons
+a check with reasons, which come first | crdx check --why c.json v1 | check c.json v1 with reasons
+a check of the standard input | crdx check - v1 | check (input) v1 without reasons
+a check of a file with the name - | crdx check ./- v1 | check ./- v1 without reasons
+a check within the larger limits | crdx check --large c.json v1 | check c.json v1 large without reasons
+a sample with reasons | crdx sample c.json v1 --why --pools p.json | sample c.json v1 with reasons p.json - - 8 100
+fields within the larger limits | crdx explain --large c.json v1 | explain c.json v1 large -
+options between the words | crdx validate c.json --why v1 --large o.json | validate c.json v1 large with reasons o.json
+"#;
 
-static POOLS: [CommandLine; 8] = [
-    CommandLine {
-        name: "pools with both options",
-        command: "crdx pools --large c.json v1 --why",
-        wanted: "pools c.json v1 large with reasons",
-    },
-    CommandLine {
-        name: "pools",
-        command: "crdx pools c.json v1",
-        wanted: "pools c.json v1",
-    },
-    CommandLine {
-        name: "pools of the standard input",
-        command: "crdx pools - v1",
-        wanted: "pools (input) v1",
-    },
-    CommandLine {
-        name: "pools with values of objects",
-        command: "crdx pools c.json v1 --from o.json --from=- --without /status --without /a",
-        wanted: "pools c.json v1 from o.json from - without /status without /a",
-    },
-    CommandLine {
-        name: "pools around an object of the standard input",
-        command: "crdx pools --vary /b c.json --vary /a v1 --from -",
-        wanted: "pools c.json v1 from - vary /b vary /a",
-    },
-    CommandLine {
-        name: "a version with the name -",
-        command: "crdx explain - -",
-        wanted: "explain (input) - -",
-    },
-    CommandLine {
-        name: "the standard input by its name",
-        command: "crdx validate c.json v1 -",
-        wanted: "validate c.json v1 (input)",
-    },
-    CommandLine {
-        name: "pools of a sample on the standard input",
-        command: "crdx sample c.json v1 --pools -",
-        wanted: "sample c.json v1 (input) - - 8 100",
-    },
-];
+static POOLS: &str = r#"
+8 rows: name | command | wanted
+pools with both options | crdx pools --large c.json v1 --why | pools c.json v1 large with reasons
+pools | crdx pools c.json v1 | pools c.json v1
+pools of the standard input | crdx pools - v1 | pools (input) v1
+pools with values of objects | crdx pools c.json v1 --from o.json --from=- --without /status --without /a
+    | pools c.json v1 from o.json from - without /status without /a
+pools around an object of the standard input | crdx pools --vary /b c.json --vary /a v1 --from - | pools c.json v1 from - vary /b vary /a
+a version with the name - | crdx explain - - | explain (input) - -
+the standard input by its name | crdx validate c.json v1 - | validate c.json v1 (input)
+pools of a sample on the standard input | crdx sample c.json v1 --pools - | sample c.json v1 (input) - - 8 100
+"#;
 
-static OBJECTS: [CommandLine; 9] = [
-    CommandLine {
-        name: "an object in a file, of a definition on the standard input",
-        command: "crdx leaves - v1 o.json",
-        wanted: "leaves (input) v1 o.json",
-    },
-    CommandLine {
-        name: "faults of an object in a file",
-        command: "crdx validate c.json v1 o.json",
-        wanted: "validate c.json v1 o.json",
-    },
-    CommandLine {
-        name: "a strict validation, after the inputs",
-        command: "crdx validate c.json v1 --large o.json --strict",
-        wanted: "validate strictly c.json v1 large o.json",
-    },
-    CommandLine {
-        name: "what is pruned of the standard input",
-        command: "crdx prune c.json v1",
-        wanted: "prune c.json v1 (input)",
-    },
-    CommandLine {
-        name: "the defaults of an object",
-        command: "crdx default c.json v1 ./o",
-        wanted: "default c.json v1 ./o",
-    },
-    CommandLine {
-        name: "the leaves of an object in a file",
-        command: "crdx leaves c.json v1 o.json",
-        wanted: "leaves c.json v1 o.json",
-    },
-    CommandLine {
-        name: "objects on lines, strictly",
-        command: "crdx validate c.json v1 o.jsonl --lines --strict",
-        wanted: "lines: validate strictly c.json v1 o.jsonl",
-    },
-    CommandLine {
-        name: "the defaults of objects on the lines of the standard input",
-        command: "crdx default --lines --why c.json v1",
-        wanted: "lines: default c.json v1 with reasons (input)",
-    },
-    CommandLine {
-        name: "the leaves of objects on the lines of the standard input, of a definition of real size",
-        command: "crdx leaves c.json v1 - --large --lines",
-        wanted: "lines: leaves c.json v1 large (input)",
-    },
-];
+static OBJECTS: &str = r#"
+9 rows: name | command | wanted
+an object in a file, of a definition on the standard input | crdx leaves - v1 o.json | leaves (input) v1 o.json
+faults of an object in a file | crdx validate c.json v1 o.json | validate c.json v1 o.json
+a strict validation, after the inputs | crdx validate c.json v1 --large o.json --strict | validate strictly c.json v1 large o.json
+what is pruned of the standard input | crdx prune c.json v1 | prune c.json v1 (input)
+the defaults of an object | crdx default c.json v1 ./o | default c.json v1 ./o
+the leaves of an object in a file | crdx leaves c.json v1 o.json | leaves c.json v1 o.json
+objects on lines, strictly | crdx validate c.json v1 o.jsonl --lines --strict | lines: validate strictly c.json v1 o.jsonl
+the defaults of objects on the lines of the standard input | crdx default --lines --why c.json v1 | lines: default c.json v1 with reasons (input)
+the leaves of objects on the lines of the standard input, of a definition of real size | crdx leaves c.json v1 - --large --lines
+    | lines: leaves c.json v1 large (input)
+"#;
 
-static FIELDS_AND_SAMPLES: [CommandLine; 8] = [
-    CommandLine {
-        name: "all fields",
-        command: "crdx explain c.json v1",
-        wanted: "explain c.json v1 -",
-    },
-    CommandLine {
-        name: "the field at a path",
-        command: "crdx explain c.json v1 /spec/[]",
-        wanted: "explain c.json v1 /spec/[]",
-    },
-    CommandLine {
-        name: "the field at an empty path",
-        command: "crdx explain c.json v1 ",
-        wanted: "explain c.json v1 ",
-    },
-    CommandLine {
-        name: "the least limit and count",
-        command: "crdx sample c.json v1 --pools p.json --limit 1 --count 1",
-        wanted: "sample c.json v1 p.json - - 1 1",
-    },
-    CommandLine {
-        name: "the greatest limit and count",
-        command: "crdx sample --limit 127 --count=10000 - v1beta1",
-        wanted: "sample (input) v1beta1 - - - 127 10000",
-    },
-    CommandLine {
-        name: "a sample to go on from, and a name",
-        command: "crdx sample c.json v1 --name w --after {\"a\":0}",
-        wanted: "sample c.json v1 - {\"a\":0} w 8 100",
-    },
-    CommandLine {
-        name: "all samples",
-        command: "crdx sample c.json v1 --all --limit 3",
-        wanted: "sample c.json v1 - - - 3 all",
-    },
-    CommandLine {
-        name: "all samples past one, with a name",
-        command: "crdx sample --all c.json v1 --name w --after {}",
-        wanted: "sample c.json v1 - {} w 8 all",
-    },
-];
+static FIELDS_AND_SAMPLES: &str = r#"
+8 rows: name | command | wanted
+all fields | crdx explain c.json v1 | explain c.json v1 -
+the field at a path | crdx explain c.json v1 /spec/[] | explain c.json v1 /spec/[]
+the field at an empty path | crdx explain c.json v1␠ | explain c.json v1␠
+the least limit and count | crdx sample c.json v1 --pools p.json --limit 1 --count 1 | sample c.json v1 p.json - - 1 1
+the greatest limit and count | crdx sample --limit 127 --count=10000 - v1beta1 | sample (input) v1beta1 - - - 127 10000
+a sample to go on from, and a name | crdx sample c.json v1 --name w --after {"a":0} | sample c.json v1 - {"a":0} w 8 100
+all samples | crdx sample c.json v1 --all --limit 3 | sample c.json v1 - - - 3 all
+all samples past one, with a name | crdx sample --all c.json v1 --name w --after {} | sample c.json v1 - {} w 8 all
+"#;
 
 /// The name of a file, or `(input)` for the standard input.
 fn input_text(name: InputName<'_>) -> &str {
@@ -336,24 +190,22 @@ fn asked(alloc: Global, line: &str) -> Result<String, Fail> {
     Ok(said(alloc, &parse_arguments(alloc, words.as_slice()))?)
 }
 
-fn all_requests(report: &mut Report, alloc: Global, rows: &[CommandLine]) {
-    for row in rows {
-        let ended = is_said(
+/// A command line, and what it asks for.
+struct RequestRow;
+
+impl Kind for RequestRow {
+    fn attempt(&self, report: &mut Report, alloc: Global, row: &Row) -> Result<(), Fail> {
+        is_said(
             report,
             "what is asked",
-            asked(alloc, row.command),
-            row.wanted,
-        );
-        report.row(row.name, ended);
+            asked(alloc, row.text("command")),
+            row.text("wanted"),
+        )
     }
 }
 
 #[test]
 fn requests(rt: HostRuntime) -> Result<(), Fail> {
-    let mut report = Report::new(rt.alloc());
-    all_requests(&mut report, rt.alloc(), &COVERS_AND_CHECKS);
-    all_requests(&mut report, rt.alloc(), &POOLS);
-    all_requests(&mut report, rt.alloc(), &OBJECTS);
-    all_requests(&mut report, rt.alloc(), &FIELDS_AND_SAMPLES);
-    report.end(&rt)
+    let tables = &[COVERS_AND_CHECKS, POOLS, OBJECTS, FIELDS_AND_SAMPLES];
+    try_tables(&rt, rt.alloc(), &RequestRow, tables)
 }

@@ -1,9 +1,10 @@
 //! Sinks that fail: what is out by then, and what is said of it.
-use crate::support::documents::{BROKEN, BROKEN_LINES, TEN_LINES, WIDGET, ZERO_AND_ONE};
+use crate::support::documents::ZERO_AND_ONE;
 use crate::support::fakes::{FailingSink, FakeInputs};
 use crate::support::harness::{Output, has_failed, is_answer, run_on};
 use crate::support::phrases::with_phrases;
 use crate::support::report::Report;
+use crate::support::rows::{Kind, Row, try_tables};
 use crate::support::texts::beginning;
 use crdx::sink::{Plain, Sink, SinkFault};
 use crdx::walk::WFault;
@@ -12,121 +13,43 @@ use std::io;
 use std::io::Write;
 use std::test::Fail;
 
-const SOUND: &str = r#"{
-    "apiVersion":"apiextensions.k8s.io/v1","kind":"CustomResourceDefinition",
-    "spec":{
-        "group":"example.com","names":{"kind":"Widget"},
-        "versions":[{"name":"v1","schema":{"openAPIV3Schema":{"type":"object"}}}]
-    }
-}"#;
-
-const LIST_OF_TEXTS: &str = r#"{
-    "apiVersion":"apiextensions.k8s.io/v1","kind":"CustomResourceDefinition",
-    "spec":{
-        "group":"example.com","names":{"kind":"Widget"},
-        "versions":[{"name":"v1","schema":{"openAPIV3Schema":{
-            "type":"object","properties":{"integers":{"type":"array","items":{"type":"string"}}}
-        }}}]
-    }
-}"#;
-
-const LIST_OF_INTEGERS: &str = r#"{
-    "apiVersion":"apiextensions.k8s.io/v1","kind":"CustomResourceDefinition",
-    "spec":{
-        "group":"example.com","names":{"kind":"Widget"},
-        "versions":[{"name":"v1","schema":{"openAPIV3Schema":{
-            "type":"object","properties":{"integers":{"type":"array","items":{"type":"integer"}}}
-        }}}]
-    }
-}"#;
-
-/// The fields of `WIDGET`.
-const FIELDS: &str = r#""/spec" <Object>
-"/spec/a" <integer>
-"/spec/b" <boolean>
+// What the tables name.
+static NAMED: &str = r#"
+@SOUND
+    | {"apiVersion":"apiextensions.k8s.io/v1","kind":"CustomResourceDefinition","spec":{"group":"example.com","names":{"kind":"Widget"},
+    "versions":[{"name":"v1","schema":{"openAPIV3Schema":{"type":"object"}}}]}}
 "#;
 
-/// The faults of `ZERO_AND_ONE` by `LIST_OF_TEXTS`.
-const TWO_FAULTS: &str = r#"F01 "/integers/0"
-F01 "/integers/1"
+static RUNS: &str = r#"
+8 rows: name | command | crd | status
+a sample | crdx sample crd.json v1 --pools pools.json --limit 4 | @WIDGET | 0
+    > @TEN_LINES
+    ! crdx: end
+all samples | crdx sample crd.json v1 --pools pools.json --limit 4 --all | @WIDGET | 0
+    > @TEN_LINES
+    ! crdx: end
+a check of what breaks rules | crdx check crd.json v1 | @BROKEN | 1
+    > @BROKEN_LINES
+a check of what breaks none | crdx check crd.json v1 | @SOUND | 0
+    > structural
+an object with two faults, on the standard input | crdx validate crd.json v1
+    | {"apiVersion":"apiextensions.k8s.io/v1","kind":"CustomResourceDefinition","spec":{"group":"example.com","names":{"kind":"Widget"},
+    "versions":[{"name":"v1","schema":{"openAPIV3Schema":{"type":"object","properties":{"integers":{"type":"array","items":{"type":"string"}}}}}}]}}
+    | 1
+    > F01 "/integers/0"
+    > F01 "/integers/1"
+all fields | crdx explain crd.json v1 | @WIDGET | 0
+    > "/spec" <Object>
+    > "/spec/a" <integer>
+    > "/spec/b" <boolean>
+the leaves of an object | crdx leaves crd.json v1 object.json
+    | {"apiVersion":"apiextensions.k8s.io/v1","kind":"CustomResourceDefinition","spec":{"group":"example.com","names":{"kind":"Widget"},
+    "versions":[{"name":"v1","schema":{"openAPIV3Schema":{"type":"object","properties":{"integers":{"type":"array","items":{"type":"integer"}}}}}}]}}
+    | 0
+    > ["f:integers"]
+an object without what is pruned | crdx prune crd.json v1 object.json | @SOUND | 0
+    > {}
 "#;
-
-/// A run over `ZERO_AND_ONE`, and what it writes and answers on a sink that does not fail.
-struct SinkRun {
-    name: &'static str,
-    command: &'static str,
-    crd: &'static str,
-    out: &'static str,
-    err: &'static str,
-    status: u8,
-}
-
-static RUNS: [SinkRun; 8] = [
-    SinkRun {
-        name: "a sample",
-        command: "crdx sample crd.json v1 --pools pools.json --limit 4",
-        crd: WIDGET,
-        out: TEN_LINES,
-        err: "crdx: end\n",
-        status: 0,
-    },
-    SinkRun {
-        name: "all samples",
-        command: "crdx sample crd.json v1 --pools pools.json --limit 4 --all",
-        crd: WIDGET,
-        out: TEN_LINES,
-        err: "crdx: end\n",
-        status: 0,
-    },
-    SinkRun {
-        name: "a check of what breaks rules",
-        command: "crdx check crd.json v1",
-        crd: BROKEN,
-        out: BROKEN_LINES,
-        err: "",
-        status: 1,
-    },
-    SinkRun {
-        name: "a check of what breaks none",
-        command: "crdx check crd.json v1",
-        crd: SOUND,
-        out: "structural\n",
-        err: "",
-        status: 0,
-    },
-    SinkRun {
-        name: "an object with two faults, on the standard input",
-        command: "crdx validate crd.json v1",
-        crd: LIST_OF_TEXTS,
-        out: TWO_FAULTS,
-        err: "",
-        status: 1,
-    },
-    SinkRun {
-        name: "all fields",
-        command: "crdx explain crd.json v1",
-        crd: WIDGET,
-        out: FIELDS,
-        err: "",
-        status: 0,
-    },
-    SinkRun {
-        name: "the leaves of an object",
-        command: "crdx leaves crd.json v1 object.json",
-        crd: LIST_OF_INTEGERS,
-        out: "[\"f:integers\"]\n",
-        err: "",
-        status: 0,
-    },
-    SinkRun {
-        name: "an object without what is pruned",
-        command: "crdx prune crd.json v1 object.json",
-        crd: SOUND,
-        out: "{}\n",
-        err: "",
-        status: 0,
-    },
-];
 
 fn count_lines(text: &str) -> u64 {
     let mut lines: u64 = 0;
@@ -141,15 +64,15 @@ fn count_lines(text: &str) -> u64 {
 /// The sinks of a run: its row, all that it writes, and how many bytes are taken in one call, after which a full sink answers 0 or fails.
 #[derive(Clone, Copy)]
 struct Sinks<'a> {
-    row: &'a SinkRun,
+    row: &'a Row,
     out: &'a str,
     step: usize,
     answers_zero: bool,
 }
 
-fn run_row(alloc: Global, row: &SinkRun, sink: FailingSink) -> Result<Output, AllocError> {
-    let inputs = FakeInputs::new(alloc, row.crd, ZERO_AND_ONE);
-    run_on(alloc, row.command, inputs, sink)
+fn run_row(alloc: Global, row: &Row, sink: FailingSink) -> Result<Output, AllocError> {
+    let inputs = FakeInputs::new(alloc, row.text("crd"), ZERO_AND_ONE);
+    run_on(alloc, row.text("command"), inputs, sink)
 }
 
 /// The sink is full after `room` bytes.
@@ -165,7 +88,8 @@ fn try_room(
         let out = beginning(sinks.out, room);
         return has_failed(report, alloc, &output, out, count_lines(out));
     }
-    is_answer(report, &output, sinks.out, sinks.row.err, sinks.row.status);
+    let row = sinks.row;
+    is_answer(report, &output, sinks.out, row.err(), row.number("status"));
     Ok(())
 }
 
@@ -181,7 +105,7 @@ fn try_step(report: &mut Report, alloc: Global, sinks: &Sinks<'_>) -> Result<(),
 fn try_unflushed(
     report: &mut Report,
     alloc: Global,
-    row: &SinkRun,
+    row: &Row,
     out: &str,
 ) -> Result<(), AllocError> {
     let mut sink = FailingSink::endless(alloc);
@@ -190,61 +114,50 @@ fn try_unflushed(
     has_failed(report, alloc, &output, out, count_lines(out))
 }
 
-/// Standard output fails after each byte in turn, whole and in pieces, and after all.
-fn try_sinks(report: &mut Report, alloc: Global, row: &SinkRun) -> Result<(), Fail> {
-    let out = with_phrases(alloc, row.out)?;
-    let out = out.as_str();
-    for (step, answers_zero) in [(usize::MAX, false), (7, true), (1, false)] {
-        let sinks = Sinks {
-            row,
-            out,
-            step,
-            answers_zero,
-        };
-        try_step(report, alloc, &sinks)?;
+/// A run over `ZERO_AND_ONE`, and what it writes and answers on a sink that does not fail.
+struct SinkRun;
+
+impl Kind for SinkRun {
+    // Standard output fails after each byte in turn, whole and in pieces, and after all.
+    fn attempt(&self, report: &mut Report, alloc: Global, row: &Row) -> Result<(), Fail> {
+        let out = with_phrases(alloc, row.out())?;
+        let out = out.as_str();
+        for (step, answers_zero) in [(usize::MAX, false), (7, true), (1, false)] {
+            let sinks = Sinks {
+                row,
+                out,
+                step,
+                answers_zero,
+            };
+            try_step(report, alloc, &sinks)?;
+        }
+        Ok(try_unflushed(report, alloc, row, out)?)
     }
-    Ok(try_unflushed(report, alloc, row, out)?)
 }
 
 #[test]
 fn cut_runs(rt: HostRuntime) -> Result<(), Fail> {
-    let mut report = Report::new(rt.alloc());
-    for row in &RUNS {
-        let ended = try_sinks(&mut report, rt.alloc(), row);
-        report.row(row.name, ended);
-    }
-    report.end(&rt)
+    try_tables(&rt, rt.alloc(), &SinkRun, &[NAMED, RUNS])
 }
 
-/// A fault of a walk, and its code.
-struct FaultCode {
-    code: &'static str,
+fn try_code(
+    report: &mut Report,
+    alloc: Global,
     fault: WFault,
+    code: &str,
+) -> Result<(), AllocError> {
+    let text = fault.to_string(alloc)?;
+    report.is_text("the code", text.as_str(), code);
+    report.row(code, Ok(()));
+    Ok(())
 }
-
-static FAULTS: [FaultCode; 3] = [
-    FaultCode {
-        code: "W1",
-        fault: WFault::NotASample,
-    },
-    FaultCode {
-        code: "W2",
-        fault: WFault::NoMemory(3),
-    },
-    FaultCode {
-        code: "W3",
-        fault: WFault::Write(3),
-    },
-];
 
 #[test]
 fn codes_of_faults(rt: HostRuntime) -> Result<(), Fail> {
     let mut report = Report::new(rt.alloc());
-    for row in &FAULTS {
-        let text = row.fault.to_string(rt.alloc())?;
-        report.is_text("the code", text.as_str(), row.code);
-        report.row(row.code, Ok(()));
-    }
+    try_code(&mut report, rt.alloc(), WFault::NotASample, "W1")?;
+    try_code(&mut report, rt.alloc(), WFault::NoMemory(3), "W2")?;
+    try_code(&mut report, rt.alloc(), WFault::Write(3), "W3")?;
     report.end(&rt)
 }
 

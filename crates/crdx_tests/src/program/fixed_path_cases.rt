@@ -1,386 +1,204 @@
 //! `sample` with fixed values for paths.
-use crate::support::documents::{
-    DEFAULTED, LABELS, LIST_OF_OBJECTS, MAP_LIST, NULLABLE, OPEN, OPEN_NULLABLE,
-    REQUIRED_LONG_MAP_LIST, SET, SPEC,
-};
-use crate::support::harness::{SchemaRun, all_schema_runs};
-use crate::support::report::Report;
+use crate::support::harness::SchemaRunRow;
+use crate::support::rows::try_tables;
 use std::test::Fail;
 
+// What the tables name.
+static NAMED: &str = r#"
 // A list of truth values.
-const LIST: &str =
-    r#"{"type":"object","properties":{"l":{"type":"array","items":{"type":"boolean"}}}}"#;
+@LIST | {"type":"object","properties":{"l":{"type":"array","items":{"type":"boolean"}}}}
+"#;
 
-static SCALARS_AND_OBJECTS: [SchemaRun<'static>; 4] = [
-    SchemaRun {
-        name: "a scalar",
-        command: "crdx sample crd.json v1 --pools pools.json --limit 4",
-        schema: SPEC,
-        second: r#"{"integers":[0],"fixed":{"/spec/a":[7,"x",null,7]}}"#,
-        out: r#"{}
-{"spec":{}}
-{"spec":{"b":false}}
-{"spec":{"b":true}}
-{"spec":{"a":7}}
-{"spec":{"a":7,"b":false}}
-{"spec":{"a":7,"b":true}}
-"#,
-        err: "crdx: end\n",
-        status: 0,
-    },
-    SchemaRun {
-        name: "a value that enum does not list",
-        command: "crdx sample crd.json v1 --pools pools.json --limit 9",
-        schema: r#"{"type":"object","properties":{"e":{"type":"string","enum":["a","b"]}}}"#,
-        second: r#"{"fixed":{"/e":["c","b"]}}"#,
-        out: r#"{}
-{"e":"b"}
-"#,
-        err: "crdx: end\n",
-        status: 0,
-    },
-    SchemaRun {
-        name: "objects, one of them with an undeclared name",
-        command: "crdx sample crd.json v1 --pools pools.json --limit 4",
-        schema: SPEC,
-        second: r#"{"integers":[0],"fixed":{"/spec":[{"b":true,"a":5},{"c":1},{"a":5}]}}"#,
-        out: r#"{}
-{"spec":{"a":5}}
-{"spec":{"a":5,"b":true}}
-"#,
-        err: "crdx: end\n",
-        status: 0,
-    },
-    SchemaRun {
-        name: "objects, one of them without a default",
-        command: "crdx sample crd.json v1 --pools pools.json --limit 9",
-        schema: DEFAULTED,
-        second: r#"{"fixed":{"/spec":[{},{"f":3}]}}"#,
-        out: r#"{}
-{"spec":{"f":3}}
-"#,
-        err: "crdx: end\n",
-        status: 0,
-    },
-];
+static SCALARS_AND_OBJECTS: &str = r#"
+4 rows: name | command | schema | second | status
+a scalar | crdx sample crd.json v1 --pools pools.json --limit 4 | @SPEC | {"integers":[0],"fixed":{"/spec/a":[7,"x",null,7]}} | 0
+    > {}
+    > {"spec":{}}
+    > {"spec":{"b":false}}
+    > {"spec":{"b":true}}
+    > {"spec":{"a":7}}
+    > {"spec":{"a":7,"b":false}}
+    > {"spec":{"a":7,"b":true}}
+    ! crdx: end
+a value that enum does not list | crdx sample crd.json v1 --pools pools.json --limit 9
+    | {"type":"object","properties":{"e":{"type":"string","enum":["a","b"]}}} | {"fixed":{"/e":["c","b"]}} | 0
+    > {}
+    > {"e":"b"}
+    ! crdx: end
+objects, one of them with an undeclared name | crdx sample crd.json v1 --pools pools.json --limit 4 | @SPEC
+    | {"integers":[0],"fixed":{"/spec":[{"b":true,"a":5},{"c":1},{"a":5}]}} | 0
+    > {}
+    > {"spec":{"a":5}}
+    > {"spec":{"a":5,"b":true}}
+    ! crdx: end
+objects, one of them without a default | crdx sample crd.json v1 --pools pools.json --limit 9 | @DEFAULTED | {"fixed":{"/spec":[{},{"f":3}]}} | 0
+    > {}
+    > {"spec":{"f":3}}
+    ! crdx: end
+"#;
 
-static LISTS_AND_MAPS: [SchemaRun<'static>; 9] = [
-    SchemaRun {
-        name: "lists",
-        command: "crdx sample crd.json v1 --pools pools.json --limit 5",
-        schema: LIST,
-        second: r#"{"fixed":{"/l":[[true,true,true],[],"x"]}}"#,
-        out: r#"{}
-{"l":[]}
-{"l":[true,true,true]}
-"#,
-        err: "crdx: end\n",
-        status: 0,
-    },
-    SchemaRun {
-        name: "lists, one of them with more nodes than the limit",
-        command: "crdx sample crd.json v1 --pools pools.json --limit 4",
-        schema: LIST,
-        second: r#"{"fixed":{"/l":[[true,true,true],[]]}}"#,
-        out: r#"{}
-{"l":[]}
-"#,
-        err: "crdx: end\n",
-        status: 0,
-    },
-    SchemaRun {
-        name: "a map of names that are not in the pools",
-        command: "crdx sample crd.json v1 --pools pools.json --limit 9",
-        schema: LABELS,
-        second: r#"{"names":["k"],"strings":["x"],"fixed":{"/labels":[{"z":"q"}]}}"#,
-        out: r#"{}
-{"labels":{"z":"q"}}
-"#,
-        err: "crdx: end\n",
-        status: 0,
-    },
-    SchemaRun {
-        name: "the values of a map",
-        command: "crdx sample crd.json v1 --pools pools.json --limit 4",
-        schema: LABELS,
-        second: r#"{"names":["k","j"],"strings":["x"],"fixed":{"/labels/{}":["p"]}}"#,
-        out: r#"{}
-{"labels":{}}
-{"labels":{"k":"p"}}
-{"labels":{"j":"p"}}
-{"labels":{"j":"p","k":"p"}}
-"#,
-        err: "crdx: end\n",
-        status: 0,
-    },
-    SchemaRun {
-        name: "the items of a list",
-        command: "crdx sample crd.json v1 --pools pools.json --limit 4",
-        schema: LIST,
-        second: r#"{"fixed":{"/l/[]":[true]}}"#,
-        out: r#"{}
-{"l":[]}
-{"l":[true]}
-{"l":[true,true]}
-"#,
-        err: "crdx: end\n",
-        status: 0,
-    },
-    SchemaRun {
-        name: "the items of a list of objects",
-        command: "crdx sample crd.json v1 --pools pools.json --limit 5",
-        schema: LIST_OF_OBJECTS,
-        second: r#"{"fixed":{"/l/[]":[{"b":true},{}]}}"#,
-        out: r#"{}
-{"l":[]}
-{"l":[{}]}
-{"l":[{},{}]}
-{"l":[{"b":true}]}
-{"l":[{},{},{}]}
-{"l":[{},{"b":true}]}
-{"l":[{"b":true},{}]}
-"#,
-        err: "crdx: end\n",
-        status: 0,
-    },
-    SchemaRun {
-        name: "the items of a set",
-        command: "crdx sample crd.json v1 --pools pools.json --limit 9",
-        schema: SET,
-        second: r#"{"integers":[2],"fixed":{"/s/[]":[5,"x",5]}}"#,
-        out: r#"{}
-{"s":[]}
-{"s":[5]}
-"#,
-        err: "crdx: end\n",
-        status: 0,
-    },
-    SchemaRun {
-        name: "the key of a map list",
-        command: "crdx sample crd.json v1 --pools pools.json --limit 63",
-        schema: MAP_LIST,
-        second: r#"{"strings":["a"],"integers":[0],"fixed":{"/m/[]/k":["b"]}}"#,
-        out: r#"{}
-{"m":[]}
-{"m":[{"k":"b"}]}
-{"m":[{"k":"b","v":0}]}
-"#,
-        err: "crdx: end\n",
-        status: 0,
-    },
-    SchemaRun {
-        name: "a map list",
-        command: "crdx sample crd.json v1 --pools pools.json --limit 63",
-        schema: MAP_LIST,
-        second: r#"{"strings":["a"],"fixed":{"/m":[[{"k":"y"},{"k":"z"}],[{"k":"y"},{"k":"y"}]]}}"#,
-        out: r#"{}
-{"m":[{"k":"y"},{"k":"z"}]}
-"#,
-        err: "crdx: end\n",
-        status: 0,
-    },
-];
+static LISTS_AND_MAPS: &str = r#"
+9 rows: name | command | schema | second | status
+lists | crdx sample crd.json v1 --pools pools.json --limit 5 | @LIST | {"fixed":{"/l":[[true,true,true],[],"x"]}} | 0
+    > {}
+    > {"l":[]}
+    > {"l":[true,true,true]}
+    ! crdx: end
+lists, one of them with more nodes than the limit | crdx sample crd.json v1 --pools pools.json --limit 4 | @LIST
+    | {"fixed":{"/l":[[true,true,true],[]]}} | 0
+    > {}
+    > {"l":[]}
+    ! crdx: end
+a map of names that are not in the pools | crdx sample crd.json v1 --pools pools.json --limit 9 | @LABELS
+    | {"names":["k"],"strings":["x"],"fixed":{"/labels":[{"z":"q"}]}} | 0
+    > {}
+    > {"labels":{"z":"q"}}
+    ! crdx: end
+the values of a map | crdx sample crd.json v1 --pools pools.json --limit 4 | @LABELS
+    | {"names":["k","j"],"strings":["x"],"fixed":{"/labels/{}":["p"]}} | 0
+    > {}
+    > {"labels":{}}
+    > {"labels":{"k":"p"}}
+    > {"labels":{"j":"p"}}
+    > {"labels":{"j":"p","k":"p"}}
+    ! crdx: end
+the items of a list | crdx sample crd.json v1 --pools pools.json --limit 4 | @LIST | {"fixed":{"/l/[]":[true]}} | 0
+    > {}
+    > {"l":[]}
+    > {"l":[true]}
+    > {"l":[true,true]}
+    ! crdx: end
+the items of a list of objects | crdx sample crd.json v1 --pools pools.json --limit 5 | @LIST_OF_OBJECTS | {"fixed":{"/l/[]":[{"b":true},{}]}} | 0
+    > {}
+    > {"l":[]}
+    > {"l":[{}]}
+    > {"l":[{},{}]}
+    > {"l":[{"b":true}]}
+    > {"l":[{},{},{}]}
+    > {"l":[{},{"b":true}]}
+    > {"l":[{"b":true},{}]}
+    ! crdx: end
+the items of a set | crdx sample crd.json v1 --pools pools.json --limit 9 | @SET | {"integers":[2],"fixed":{"/s/[]":[5,"x",5]}} | 0
+    > {}
+    > {"s":[]}
+    > {"s":[5]}
+    ! crdx: end
+the key of a map list | crdx sample crd.json v1 --pools pools.json --limit 63 | @MAP_LIST | {"strings":["a"],"integers":[0],"fixed":{"/m/[]/k":["b"]}}
+    | 0
+    > {}
+    > {"m":[]}
+    > {"m":[{"k":"b"}]}
+    > {"m":[{"k":"b","v":0}]}
+    ! crdx: end
+a map list | crdx sample crd.json v1 --pools pools.json --limit 63 | @MAP_LIST
+    | {"strings":["a"],"fixed":{"/m":[[{"k":"y"},{"k":"z"}],[{"k":"y"},{"k":"y"}]]}} | 0
+    > {}
+    > {"m":[{"k":"y"},{"k":"z"}]}
+    ! crdx: end
+"#;
 
-static OPEN_PLACES_AND_NULLS: [SchemaRun<'static>; 7] = [
-    SchemaRun {
-        name: "an open place",
-        command: "crdx sample crd.json v1 --pools pools.json --limit 9",
-        schema: OPEN,
-        second: r#"{"any":[2],"fixed":{"/x":[{"q":1},null]}}"#,
-        out: r#"{}
-{"x":{"q":1}}
-"#,
-        err: "crdx: end\n",
-        status: 0,
-    },
-    SchemaRun {
-        name: "an open place that may be null, with null",
-        command: "crdx sample crd.json v1 --pools pools.json --limit 9",
-        schema: OPEN_NULLABLE,
-        second: r#"{"any":[2],"fixed":{"/x":[1,null]}}"#,
-        out: r#"{}
-{"x":null}
-{"x":1}
-"#,
-        err: "crdx: end\n",
-        status: 0,
-    },
-    SchemaRun {
-        name: "an open place that may be null, without null",
-        command: "crdx sample crd.json v1 --pools pools.json --limit 9",
-        schema: OPEN_NULLABLE,
-        second: r#"{"any":[2],"fixed":{"/x":[1]}}"#,
-        out: r#"{}
-{"x":1}
-"#,
-        err: "crdx: end\n",
-        status: 0,
-    },
-    SchemaRun {
-        name: "null for an object",
-        command: "crdx sample crd.json v1 --pools pools.json --limit 9",
-        schema: NULLABLE,
-        second: r#"{"fixed":{"/n":[null]}}"#,
-        out: r#"{}
-{"n":null}
-"#,
-        err: "crdx: end\n",
-        status: 0,
-    },
-    SchemaRun {
-        name: "an object that may be null, without null",
-        command: "crdx sample crd.json v1 --pools pools.json --limit 9",
-        schema: NULLABLE,
-        second: r#"{"fixed":{"/n":[{}]}}"#,
-        out: r#"{}
-{"n":{}}
-"#,
-        err: "crdx: end\n",
-        status: 0,
-    },
-    SchemaRun {
-        name: "no values",
-        command: "crdx sample crd.json v1 --pools pools.json --limit 9",
-        schema: SPEC,
-        second: r#"{"integers":[0],"fixed":{"/spec":[]}}"#,
-        out: r#"{}
-"#,
-        err: "crdx: end\n",
-        status: 0,
-    },
-    SchemaRun {
-        name: "no values for what is required",
-        command: "crdx sample crd.json v1 --pools pools.json --limit 63",
-        schema: REQUIRED_LONG_MAP_LIST,
-        second: r#"{"strings":["a","b","c"],"fixed":{"/m":[]}}"#,
-        out: "",
-        err: "crdx: end\n",
-        status: 0,
-    },
-];
+static OPEN_PLACES_AND_NULLS: &str = r#"
+7 rows: name | command | schema | second | status
+an open place | crdx sample crd.json v1 --pools pools.json --limit 9 | @OPEN | {"any":[2],"fixed":{"/x":[{"q":1},null]}} | 0
+    > {}
+    > {"x":{"q":1}}
+    ! crdx: end
+an open place that may be null, with null | crdx sample crd.json v1 --pools pools.json --limit 9 | @OPEN_NULLABLE
+    | {"any":[2],"fixed":{"/x":[1,null]}} | 0
+    > {}
+    > {"x":null}
+    > {"x":1}
+    ! crdx: end
+an open place that may be null, without null | crdx sample crd.json v1 --pools pools.json --limit 9 | @OPEN_NULLABLE | {"any":[2],"fixed":{"/x":[1]}}
+    | 0
+    > {}
+    > {"x":1}
+    ! crdx: end
+null for an object | crdx sample crd.json v1 --pools pools.json --limit 9 | @NULLABLE | {"fixed":{"/n":[null]}} | 0
+    > {}
+    > {"n":null}
+    ! crdx: end
+an object that may be null, without null | crdx sample crd.json v1 --pools pools.json --limit 9 | @NULLABLE | {"fixed":{"/n":[{}]}} | 0
+    > {}
+    > {"n":{}}
+    ! crdx: end
+no values | crdx sample crd.json v1 --pools pools.json --limit 9 | @SPEC | {"integers":[0],"fixed":{"/spec":[]}} | 0
+    > {}
+    ! crdx: end
+no values for what is required | crdx sample crd.json v1 --pools pools.json --limit 63 | @REQUIRED_LONG_MAP_LIST
+    | {"strings":["a","b","c"],"fixed":{"/m":[]}} | 0
+    ! crdx: end
+"#;
 
-static BESIDE_OTHER_PATHS: [SchemaRun<'static>; 7] = [
-    SchemaRun {
-        name: "a path below another fixed path",
-        command: "crdx sample crd.json v1 --pools pools.json --limit 9",
-        schema: SPEC,
-        second: r#"{"integers":[0],"fixed":{"/spec":[{"a":5}],"/spec/a":[7]}}"#,
-        out: r#"{}
-{"spec":{"a":5}}
-"#,
-        err: "crdx: end\n",
-        status: 0,
-    },
-    SchemaRun {
-        name: "a list of values for a fixed path",
-        command: "crdx sample crd.json v1 --pools pools.json --limit 3",
-        schema: SPEC,
-        second: r#"{"paths":{"/spec/a":[1]},"fixed":{"/spec/a":[2]}}"#,
-        out: r#"{}
-{"spec":{}}
-{"spec":{"b":false}}
-{"spec":{"b":true}}
-{"spec":{"a":2}}
-"#,
-        err: "crdx: end\n",
-        status: 0,
-    },
-    SchemaRun {
-        name: "a list of values below a fixed path",
-        command: "crdx sample crd.json v1 --pools pools.json --limit 3",
-        schema: SPEC,
-        second: r#"{"paths":{"/spec/a":[1]},"fixed":{"/spec":[{"a":2}]}}"#,
-        out: r#"{}
-{"spec":{"a":2}}
-"#,
-        err: "crdx: end\n",
-        status: 0,
-    },
-    SchemaRun {
-        name: "a fixed path that is always there",
-        command: "crdx sample crd.json v1 --pools pools.json --limit 9",
-        schema: SPEC,
-        second: r#"{"fixed":{"/spec":[{"a":5}]},"present":["/spec"]}"#,
-        out: r#"{"spec":{"a":5}}
-"#,
-        err: "crdx: end\n",
-        status: 0,
-    },
-    SchemaRun {
-        name: "a path below a fixed path that is always there",
-        command: "crdx sample crd.json v1 --pools pools.json --limit 9",
-        schema: SPEC,
-        second: r#"{"fixed":{"/spec":[{},{"a":5}]},"present":["/spec/a"]}"#,
-        out: r#"{}
-{"spec":{}}
-{"spec":{"a":5}}
-"#,
-        err: "crdx: end\n",
-        status: 0,
-    },
-    SchemaRun {
-        name: "an item of a list whose items are fixed to nothing",
-        command: "crdx sample crd.json v1 --pools pools.json --limit 9",
-        schema: LIST,
-        second: r#"{"fixed":{"/l/[]":[]},"present":["/l/[]"]}"#,
-        out: r#"{}
-"#,
-        err: "crdx: end\n",
-        status: 0,
-    },
-    SchemaRun {
-        name: "a field with a default",
-        command: "crdx sample crd.json v1 --pools pools.json --limit 9",
-        schema: DEFAULTED,
-        second: r#"{"integers":[0,7],"fixed":{"/spec/f":[3]}}"#,
-        out: r#"{}
-{"spec":{"f":3}}
-"#,
-        err: "crdx: end\n",
-        status: 0,
-    },
-];
+static BESIDE_OTHER_PATHS: &str = r#"
+7 rows: name | command | schema | second | status
+a path below another fixed path | crdx sample crd.json v1 --pools pools.json --limit 9 | @SPEC
+    | {"integers":[0],"fixed":{"/spec":[{"a":5}],"/spec/a":[7]}} | 0
+    > {}
+    > {"spec":{"a":5}}
+    ! crdx: end
+a list of values for a fixed path | crdx sample crd.json v1 --pools pools.json --limit 3 | @SPEC | {"paths":{"/spec/a":[1]},"fixed":{"/spec/a":[2]}}
+    | 0
+    > {}
+    > {"spec":{}}
+    > {"spec":{"b":false}}
+    > {"spec":{"b":true}}
+    > {"spec":{"a":2}}
+    ! crdx: end
+a list of values below a fixed path | crdx sample crd.json v1 --pools pools.json --limit 3 | @SPEC
+    | {"paths":{"/spec/a":[1]},"fixed":{"/spec":[{"a":2}]}} | 0
+    > {}
+    > {"spec":{"a":2}}
+    ! crdx: end
+a fixed path that is always there | crdx sample crd.json v1 --pools pools.json --limit 9 | @SPEC | {"fixed":{"/spec":[{"a":5}]},"present":["/spec"]}
+    | 0
+    > {"spec":{"a":5}}
+    ! crdx: end
+a path below a fixed path that is always there | crdx sample crd.json v1 --pools pools.json --limit 9 | @SPEC
+    | {"fixed":{"/spec":[{},{"a":5}]},"present":["/spec/a"]} | 0
+    > {}
+    > {"spec":{}}
+    > {"spec":{"a":5}}
+    ! crdx: end
+an item of a list whose items are fixed to nothing | crdx sample crd.json v1 --pools pools.json --limit 9 | @LIST
+    | {"fixed":{"/l/[]":[]},"present":["/l/[]"]} | 0
+    > {}
+    ! crdx: end
+a field with a default | crdx sample crd.json v1 --pools pools.json --limit 9 | @DEFAULTED | {"integers":[0,7],"fixed":{"/spec/f":[3]}} | 0
+    > {}
+    > {"spec":{"f":3}}
+    ! crdx: end
+"#;
 
-static BEGINNINGS: [SchemaRun<'static>; 3] = [
-    SchemaRun {
-        name: "past a fixed value",
-        command: r#"crdx sample crd.json v1 --pools pools.json --limit 4 --after {"spec":{"a":5}}"#,
-        schema: SPEC,
-        second: r#"{"fixed":{"/spec":[{"b":true,"a":5},{"a":5}]}}"#,
-        out: r#"{"spec":{"a":5,"b":true}}
-"#,
-        err: "crdx: end\n",
-        status: 0,
-    },
-    SchemaRun {
-        name: "past what is not a fixed value",
-        command: r#"crdx sample crd.json v1 --pools pools.json --limit 4 --after {"spec":{}}"#,
-        schema: SPEC,
-        second: r#"{"fixed":{"/spec":[{"b":true,"a":5},{"a":5}]}}"#,
-        out: "",
-        err: "crdx: after: not a sample\n",
-        status: 1,
-    },
-    SchemaRun {
-        name: "with room for 127 nodes",
-        command: "crdx sample crd.json v1 --pools pools.json --limit 127",
-        schema: SPEC,
-        second: r#"{"fixed":{"/spec":[{"b":true,"a":5},{"a":5}]},"present":["/spec"]}"#,
-        out: r#"{"spec":{"a":5}}
-{"spec":{"a":5,"b":true}}
-"#,
-        err: "crdx: end\n",
-        status: 0,
-    },
-];
+static BEGINNINGS: &str = r#"
+3 rows: name | command | schema | second | status
+past a fixed value | crdx sample crd.json v1 --pools pools.json --limit 4 --after {"spec":{"a":5}} | @SPEC
+    | {"fixed":{"/spec":[{"b":true,"a":5},{"a":5}]}} | 0
+    > {"spec":{"a":5,"b":true}}
+    ! crdx: end
+past what is not a fixed value | crdx sample crd.json v1 --pools pools.json --limit 4 --after {"spec":{}} | @SPEC
+    | {"fixed":{"/spec":[{"b":true,"a":5},{"a":5}]}} | 1
+    ! crdx: after: not a sample
+with room for 127 nodes | crdx sample crd.json v1 --pools pools.json --limit 127 | @SPEC
+    | {"fixed":{"/spec":[{"b":true,"a":5},{"a":5}]},"present":["/spec"]} | 0
+    > {"spec":{"a":5}}
+    > {"spec":{"a":5,"b":true}}
+    ! crdx: end
+"#;
 
 #[test]
 fn fixed_paths(rt: HostRuntime) -> Result<(), Fail> {
-    let mut report = Report::new(rt.alloc());
-    all_schema_runs(&mut report, rt.alloc(), &SCALARS_AND_OBJECTS);
-    all_schema_runs(&mut report, rt.alloc(), &LISTS_AND_MAPS);
-    all_schema_runs(&mut report, rt.alloc(), &OPEN_PLACES_AND_NULLS);
-    all_schema_runs(&mut report, rt.alloc(), &BESIDE_OTHER_PATHS);
-    all_schema_runs(&mut report, rt.alloc(), &BEGINNINGS);
-    report.end(&rt)
+    try_tables(
+        &rt,
+        rt.alloc(),
+        &SchemaRunRow,
+        &[
+            NAMED,
+            SCALARS_AND_OBJECTS,
+            LISTS_AND_MAPS,
+            OPEN_PLACES_AND_NULLS,
+            BESIDE_OTHER_PATHS,
+            BEGINNINGS,
+        ],
+    )
 }

@@ -3,385 +3,109 @@ use crate::support::documents::{WIDGET, ZERO_AND_ONE};
 use crate::support::fakes::{FailingSink, FakeInputs};
 use crate::support::harness::{Output, run_on};
 use crate::support::report::Report;
+use crate::support::rows::{Kind, Row, try_tables};
 use std::alloc::{AllocError, Global};
 use std::test::Fail;
 
-/// A command line, and what is wanted of it.
-pub struct CommandLine {
-    pub name: &'static str,
-    pub command: &'static str,
-    pub wanted: &'static str,
-}
-
-const MISSING: &str = "error: the following required arguments were not provided:\n";
-
 // What is wanted of a mistake, in these tables: the first line of standard error.
-static COVERS_AND_INPUTS: [CommandLine; 11] = [
-    CommandLine {
-        name: "the standard input for a definition and pools of a cover",
-        command: "crdx cover - v1 --pools -",
-        wanted: "error: CRD and --pools cannot both be the standard input\n",
-    },
-    CommandLine {
-        name: "limit 128 of a cover",
-        command: "crdx cover crd.json v1 --limit 128",
-        wanted: "error: invalid value '128' for '--limit <N>': 128 is not in 1..=127\n",
-    },
-    CommandLine {
-        name: "a number of lines of a cover",
-        command: "crdx cover crd.json v1 --count 1",
-        wanted: "error: unexpected argument '--count' found\n",
-    },
-    CommandLine {
-        name: "values of a sample",
-        command: "crdx sample crd.json v1 --values",
-        wanted: "error: unexpected argument '--values' found\n",
-    },
-    CommandLine {
-        name: "no command",
-        command: "crdx",
-        wanted: "error: 'crdx' requires a subcommand but one was not provided\n",
-    },
-    CommandLine {
-        name: "another command",
-        command: "crdx list",
-        wanted: "error: unrecognized subcommand 'list'\n",
-    },
-    CommandLine {
-        name: "the standard input for a definition, and for an object without a name",
-        command: "crdx validate - v1",
-        wanted: "error: CRD and OBJECT cannot both be the standard input\n",
-    },
-    CommandLine {
-        name: "the standard input for a definition and an object",
-        command: "crdx leaves - v1 -",
-        wanted: "error: CRD and OBJECT cannot both be the standard input\n",
-    },
-    CommandLine {
-        name: "the standard input for a definition and pools",
-        command: "crdx sample - v1 --pools -",
-        wanted: "error: CRD and --pools cannot both be the standard input\n",
-    },
-    CommandLine {
-        name: "a value of an option without values",
-        command: "crdx check crd.json v1 --why=V17",
-        wanted: "error: unexpected value 'V17' for '--why' found; no more were expected\n",
-    },
-    CommandLine {
-        name: "larger limits twice",
-        command: "crdx explain crd.json v1 --large --large",
-        wanted: "error: the argument '--large' cannot be used multiple times\n",
-    },
-];
+static COVERS_AND_INPUTS: &str = r#"
+11 rows: name | command | lines
+the standard input for a definition and pools of a cover | crdx cover - v1 --pools - | error: CRD and --pools cannot both be the standard input
+limit 128 of a cover | crdx cover crd.json v1 --limit 128 | error: invalid value '128' for '--limit <N>': 128 is not in 1..=127
+a number of lines of a cover | crdx cover crd.json v1 --count 1 | error: unexpected argument '--count' found
+values of a sample | crdx sample crd.json v1 --values | error: unexpected argument '--values' found
+no command | crdx | error: 'crdx' requires a subcommand but one was not provided
+another command | crdx list | error: unrecognized subcommand 'list'
+the standard input for a definition, and for an object without a name | crdx validate - v1 | error: CRD and OBJECT cannot both be the standard input
+the standard input for a definition and an object | crdx leaves - v1 - | error: CRD and OBJECT cannot both be the standard input
+the standard input for a definition and pools | crdx sample - v1 --pools - | error: CRD and --pools cannot both be the standard input
+a value of an option without values | crdx check crd.json v1 --why=V17 | error: unexpected value 'V17' for '--why' found; no more were expected
+larger limits twice | crdx explain crd.json v1 --large --large | error: the argument '--large' cannot be used multiple times
+"#;
 
-static POOLS: [CommandLine; 7] = [
-    CommandLine {
-        name: "pools of no version",
-        command: "crdx pools crd.json",
-        wanted: MISSING,
-    },
-    CommandLine {
-        name: "pools with a limit",
-        command: "crdx pools crd.json v1 --limit 4",
-        wanted: "error: unexpected argument '--limit' found\n",
-    },
-    CommandLine {
-        name: "pools around no object",
-        command: "crdx pools crd.json v1 --vary /spec",
-        wanted: "error: --vary needs --from, once\n",
-    },
-    CommandLine {
-        name: "pools around two objects",
-        command: "crdx pools crd.json v1 --from a.json --from b.json --vary /spec",
-        wanted: "error: --vary needs --from, once\n",
-    },
-    CommandLine {
-        name: "the standard input for a definition and an object of pools",
-        command: "crdx pools - v1 --from o.json --from -",
-        wanted: "error: only one of CRD and --from can be the standard input\n",
-    },
-    CommandLine {
-        name: "the standard input for two objects of pools",
-        command: "crdx pools crd.json v1 --from - --from -",
-        wanted: "error: only one of CRD and --from can be the standard input\n",
-    },
-    CommandLine {
-        name: "objects without a name",
-        command: "crdx pools crd.json v1 --from",
-        wanted: "error: a value is required for '--from <OBJECT>' but none was supplied\n",
-    },
-];
+static POOLS: &str = r#"
+7 rows: name | command | lines
+pools of no version | crdx pools crd.json | error: the following required arguments were not provided:
+pools with a limit | crdx pools crd.json v1 --limit 4 | error: unexpected argument '--limit' found
+pools around no object | crdx pools crd.json v1 --vary /spec | error: --vary needs --from, once
+pools around two objects | crdx pools crd.json v1 --from a.json --from b.json --vary /spec | error: --vary needs --from, once
+the standard input for a definition and an object of pools | crdx pools - v1 --from o.json --from -
+    | error: only one of CRD and --from can be the standard input
+the standard input for two objects of pools | crdx pools crd.json v1 --from - --from - | error: only one of CRD and --from can be the standard input
+objects without a name | crdx pools crd.json v1 --from | error: a value is required for '--from <OBJECT>' but none was supplied
+"#;
 
-static WORDS: [CommandLine; 11] = [
-    CommandLine {
-        name: "a sample of nothing",
-        command: "crdx sample",
-        wanted: MISSING,
-    },
-    CommandLine {
-        name: "a sample of no version",
-        command: "crdx sample crd.json",
-        wanted: MISSING,
-    },
-    CommandLine {
-        name: "a check of no version",
-        command: "crdx check crd.json",
-        wanted: MISSING,
-    },
-    CommandLine {
-        name: "no version",
-        command: "crdx validate crd.json",
-        wanted: MISSING,
-    },
-    CommandLine {
-        name: "leaves of no version",
-        command: "crdx leaves crd.json",
-        wanted: MISSING,
-    },
-    CommandLine {
-        name: "fields of nothing",
-        command: "crdx explain",
-        wanted: MISSING,
-    },
-    CommandLine {
-        name: "a second path",
-        command: "crdx explain crd.json v1 /a /b",
-        wanted: "error: unexpected argument '/b' found\n",
-    },
-    CommandLine {
-        name: "a fourth word",
-        command: "crdx prune crd.json v1 object.json w",
-        wanted: "error: unexpected argument 'w' found\n",
-    },
-    CommandLine {
-        name: "an option of another command",
-        command: "crdx default crd.json v1 --pools pools.json",
-        wanted: "error: unexpected argument '--pools' found\n",
-    },
-    CommandLine {
-        name: "strict pruning",
-        command: "crdx prune crd.json v1 --strict",
-        wanted: "error: unexpected argument '--strict' found\n",
-    },
-    CommandLine {
-        name: "a third word",
-        command: "crdx sample crd.json v1 w",
-        wanted: "error: unexpected argument 'w' found\n",
-    },
-];
+static WORDS: &str = r#"
+11 rows: name | command | lines
+a sample of nothing | crdx sample | error: the following required arguments were not provided:
+a sample of no version | crdx sample crd.json | error: the following required arguments were not provided:
+a check of no version | crdx check crd.json | error: the following required arguments were not provided:
+no version | crdx validate crd.json | error: the following required arguments were not provided:
+leaves of no version | crdx leaves crd.json | error: the following required arguments were not provided:
+fields of nothing | crdx explain | error: the following required arguments were not provided:
+a second path | crdx explain crd.json v1 /a /b | error: unexpected argument '/b' found
+a fourth word | crdx prune crd.json v1 object.json w | error: unexpected argument 'w' found
+an option of another command | crdx default crd.json v1 --pools pools.json | error: unexpected argument '--pools' found
+strict pruning | crdx prune crd.json v1 --strict | error: unexpected argument '--strict' found
+a third word | crdx sample crd.json v1 w | error: unexpected argument 'w' found
+"#;
 
-static NUMBERS_OF_SAMPLES: [CommandLine; 7] = [
-    CommandLine {
-        name: "a limit of a check",
-        command: "crdx check crd.json v1 --limit 4",
-        wanted: "error: unexpected argument '--limit' found\n",
-    },
-    CommandLine {
-        name: "a count of a check",
-        command: "crdx check crd.json v1 --count 1",
-        wanted: "error: unexpected argument '--count' found\n",
-    },
-    CommandLine {
-        name: "limit 0",
-        command: "crdx sample crd.json v1 --limit 0",
-        wanted: "error: invalid value '0' for '--limit <N>': 0 is not in 1..=127\n",
-    },
-    CommandLine {
-        name: "limit 128",
-        command: "crdx sample crd.json v1 --limit 128",
-        wanted: "error: invalid value '128' for '--limit <N>': 128 is not in 1..=127\n",
-    },
-    CommandLine {
-        name: "count 0",
-        command: "crdx sample crd.json v1 --count 0",
-        wanted: "error: invalid value '0' for '--count <N>': 0 is not in 1..=10000\n",
-    },
-    CommandLine {
-        name: "count 10001",
-        command: "crdx sample crd.json v1 --count 10001",
-        wanted: "error: invalid value '10001' for '--count <N>': 10001 is not in 1..=10000\n",
-    },
-    CommandLine {
-        name: "a limit that is no number",
-        command: "crdx sample crd.json v1 --limit x",
-        wanted: "error: invalid value 'x' for '--limit <N>': invalid digit found in string\n",
-    },
-];
+static NUMBERS_OF_SAMPLES: &str = r#"
+7 rows: name | command | lines
+a limit of a check | crdx check crd.json v1 --limit 4 | error: unexpected argument '--limit' found
+a count of a check | crdx check crd.json v1 --count 1 | error: unexpected argument '--count' found
+limit 0 | crdx sample crd.json v1 --limit 0 | error: invalid value '0' for '--limit <N>': 0 is not in 1..=127
+limit 128 | crdx sample crd.json v1 --limit 128 | error: invalid value '128' for '--limit <N>': 128 is not in 1..=127
+count 0 | crdx sample crd.json v1 --count 0 | error: invalid value '0' for '--count <N>': 0 is not in 1..=10000
+count 10001 | crdx sample crd.json v1 --count 10001 | error: invalid value '10001' for '--count <N>': 10001 is not in 1..=10000
+a limit that is no number | crdx sample crd.json v1 --limit x | error: invalid value 'x' for '--limit <N>': invalid digit found in string
+"#;
 
-static ALL_AND_LINES: [CommandLine; 8] = [
-    CommandLine {
-        name: "all samples and a number of them",
-        command: "crdx sample crd.json v1 --all --count 5",
-        wanted: "error: --all and --count cannot both be given\n",
-    },
-    CommandLine {
-        name: "the usual number of samples and all of them",
-        command: "crdx sample --count=100 crd.json v1 --all",
-        wanted: "error: --all and --count cannot both be given\n",
-    },
-    CommandLine {
-        name: "all samples twice",
-        command: "crdx sample crd.json v1 --all --all",
-        wanted: "error: the argument '--all' cannot be used multiple times\n",
-    },
-    CommandLine {
-        name: "all samples and a number that is refused",
-        command: "crdx sample crd.json v1 --all --count 0",
-        wanted: "error: invalid value '0' for '--count <N>': 0 is not in 1..=10000\n",
-    },
-    CommandLine {
-        name: "the standard input for a definition and for objects",
-        command: "crdx prune - v1 --lines",
-        wanted: "error: CRD and OBJECT cannot both be the standard input\n",
-    },
-    CommandLine {
-        name: "lines of a sample",
-        command: "crdx sample crd.json v1 --lines",
-        wanted: "error: unexpected argument '--lines' found\n",
-    },
-    CommandLine {
-        name: "lines twice",
-        command: "crdx leaves crd.json v1 --lines --lines",
-        wanted: "error: the argument '--lines' cannot be used multiple times\n",
-    },
-    CommandLine {
-        name: "all of a check",
-        command: "crdx check crd.json v1 --all",
-        wanted: "error: unexpected argument '--all' found\n",
-    },
-];
+static ALL_AND_LINES: &str = r#"
+8 rows: name | command | lines
+all samples and a number of them | crdx sample crd.json v1 --all --count 5 | error: --all and --count cannot both be given
+the usual number of samples and all of them | crdx sample --count=100 crd.json v1 --all | error: --all and --count cannot both be given
+all samples twice | crdx sample crd.json v1 --all --all | error: the argument '--all' cannot be used multiple times
+all samples and a number that is refused | crdx sample crd.json v1 --all --count 0 | error: invalid value '0' for '--count <N>': 0 is not in 1..=10000
+the standard input for a definition and for objects | crdx prune - v1 --lines | error: CRD and OBJECT cannot both be the standard input
+lines of a sample | crdx sample crd.json v1 --lines | error: unexpected argument '--lines' found
+lines twice | crdx leaves crd.json v1 --lines --lines | error: the argument '--lines' cannot be used multiple times
+all of a check | crdx check crd.json v1 --all | error: unexpected argument '--all' found
+"#;
 
 // What is wanted: a line of the help, or the version.
-static HELP: [CommandLine; 13] = [
-    CommandLine {
-        name: "an option of a cover",
-        command: "crdx cover --help",
-        wanted: "Usage: crdx cover [OPTIONS] <CRD> <VERSION>\n",
-    },
-    CommandLine {
-        name: "an option",
-        command: "crdx --help",
-        wanted: "Usage: crdx <COMMAND>\n",
-    },
-    CommandLine {
-        name: "a command",
-        command: "crdx help",
-        wanted: "Usage: crdx <COMMAND>\n",
-    },
-    CommandLine {
-        name: "an option of a command",
-        command: "crdx sample --help",
-        wanted: "Usage: crdx sample [OPTIONS] <CRD> <VERSION>\n",
-    },
-    CommandLine {
-        name: "a command of a command",
-        command: "crdx help sample",
-        wanted: "Usage: crdx sample [OPTIONS] <CRD> <VERSION>\n",
-    },
-    CommandLine {
-        name: "another name of the program",
-        command: "bin/crdx_cli sample --help",
-        wanted: "Usage: crdx sample [OPTIONS] <CRD> <VERSION>\n",
-    },
-    CommandLine {
-        name: "a short option",
-        command: "crdx check -h",
-        wanted: "Usage: crdx check [OPTIONS] <CRD> <VERSION>\n",
-    },
-    CommandLine {
-        name: "an option of another command",
-        command: "crdx validate --help",
-        wanted: "Usage: crdx validate [OPTIONS] <CRD> <VERSION> [OBJECT]\n",
-    },
-    CommandLine {
-        name: "a command of another command",
-        command: "crdx help prune",
-        wanted: "Usage: crdx prune [OPTIONS] <CRD> <VERSION> [OBJECT]\n",
-    },
-    CommandLine {
-        name: "a short option of another command",
-        command: "crdx default -h",
-        wanted: "Usage: crdx default [OPTIONS] <CRD> <VERSION> [OBJECT]\n",
-    },
-    CommandLine {
-        name: "a short option alone",
-        command: "crdx -h",
-        wanted: "Usage: crdx <COMMAND>\n",
-    },
-    CommandLine {
-        name: "a short option of a sample",
-        command: "crdx sample -h",
-        wanted: "Usage: crdx sample [OPTIONS] <CRD> <VERSION>\n",
-    },
-    CommandLine {
-        name: "an option of a check",
-        command: "crdx check --help",
-        wanted: "Usage: crdx check [OPTIONS] <CRD> <VERSION>\n",
-    },
-];
+static HELP: &str = r#"
+13 rows: name | command | lines
+an option of a cover | crdx cover --help | Usage: crdx cover [OPTIONS] <CRD> <VERSION>
+an option | crdx --help | Usage: crdx <COMMAND>
+a command | crdx help | Usage: crdx <COMMAND>
+an option of a command | crdx sample --help | Usage: crdx sample [OPTIONS] <CRD> <VERSION>
+a command of a command | crdx help sample | Usage: crdx sample [OPTIONS] <CRD> <VERSION>
+another name of the program | bin/crdx_cli sample --help | Usage: crdx sample [OPTIONS] <CRD> <VERSION>
+a short option | crdx check -h | Usage: crdx check [OPTIONS] <CRD> <VERSION>
+an option of another command | crdx validate --help | Usage: crdx validate [OPTIONS] <CRD> <VERSION> [OBJECT]
+a command of another command | crdx help prune | Usage: crdx prune [OPTIONS] <CRD> <VERSION> [OBJECT]
+a short option of another command | crdx default -h | Usage: crdx default [OPTIONS] <CRD> <VERSION> [OBJECT]
+a short option alone | crdx -h | Usage: crdx <COMMAND>
+a short option of a sample | crdx sample -h | Usage: crdx sample [OPTIONS] <CRD> <VERSION>
+an option of a check | crdx check --help | Usage: crdx check [OPTIONS] <CRD> <VERSION>
+"#;
 
-static HELP_OF_OBJECTS: [CommandLine; 12] = [
-    CommandLine {
-        name: "a short option of a validation",
-        command: "crdx validate -h",
-        wanted: "Usage: crdx validate [OPTIONS] <CRD> <VERSION> [OBJECT]\n",
-    },
-    CommandLine {
-        name: "an option of pruning",
-        command: "crdx prune --help",
-        wanted: "Usage: crdx prune [OPTIONS] <CRD> <VERSION> [OBJECT]\n",
-    },
-    CommandLine {
-        name: "a short option of pruning",
-        command: "crdx prune -h",
-        wanted: "Usage: crdx prune [OPTIONS] <CRD> <VERSION> [OBJECT]\n",
-    },
-    CommandLine {
-        name: "an option of defaulting",
-        command: "crdx default --help",
-        wanted: "Usage: crdx default [OPTIONS] <CRD> <VERSION> [OBJECT]\n",
-    },
-    CommandLine {
-        name: "an option of leaves",
-        command: "crdx leaves --help",
-        wanted: "Usage: crdx leaves [OPTIONS] <CRD> <VERSION> [OBJECT]\n",
-    },
-    CommandLine {
-        name: "a short option of leaves",
-        command: "crdx leaves -h",
-        wanted: "Usage: crdx leaves [OPTIONS] <CRD> <VERSION> [OBJECT]\n",
-    },
-    CommandLine {
-        name: "an option of fields",
-        command: "crdx explain --help",
-        wanted: "Usage: crdx explain [OPTIONS] <CRD> <VERSION> [PATH]\n",
-    },
-    CommandLine {
-        name: "a short option of fields",
-        command: "crdx explain -h",
-        wanted: "Usage: crdx explain [OPTIONS] <CRD> <VERSION> [PATH]\n",
-    },
-    CommandLine {
-        name: "an option of pools",
-        command: "crdx pools --help",
-        wanted: "Usage: crdx pools [OPTIONS] <CRD> <VERSION>\n",
-    },
-    CommandLine {
-        name: "a short option of pools",
-        command: "crdx pools -h",
-        wanted: "Usage: crdx pools [OPTIONS] <CRD> <VERSION>\n",
-    },
-    CommandLine {
-        name: "the version",
-        command: "crdx --version",
-        wanted: "crdx 0.2.0\n",
-    },
-    CommandLine {
-        name: "the version, for short",
-        command: "bin/crdx_cli -V",
-        wanted: "crdx 0.2.0\n",
-    },
-];
+static HELP_OF_OBJECTS: &str = r#"
+12 rows: name | command | lines
+a short option of a validation | crdx validate -h | Usage: crdx validate [OPTIONS] <CRD> <VERSION> [OBJECT]
+an option of pruning | crdx prune --help | Usage: crdx prune [OPTIONS] <CRD> <VERSION> [OBJECT]
+a short option of pruning | crdx prune -h | Usage: crdx prune [OPTIONS] <CRD> <VERSION> [OBJECT]
+an option of defaulting | crdx default --help | Usage: crdx default [OPTIONS] <CRD> <VERSION> [OBJECT]
+an option of leaves | crdx leaves --help | Usage: crdx leaves [OPTIONS] <CRD> <VERSION> [OBJECT]
+a short option of leaves | crdx leaves -h | Usage: crdx leaves [OPTIONS] <CRD> <VERSION> [OBJECT]
+an option of fields | crdx explain --help | Usage: crdx explain [OPTIONS] <CRD> <VERSION> [PATH]
+a short option of fields | crdx explain -h | Usage: crdx explain [OPTIONS] <CRD> <VERSION> [PATH]
+an option of pools | crdx pools --help | Usage: crdx pools [OPTIONS] <CRD> <VERSION>
+a short option of pools | crdx pools -h | Usage: crdx pools [OPTIONS] <CRD> <VERSION>
+the version | crdx --version | crdx 0.2.0
+the version, for short | bin/crdx_cli -V | crdx 0.2.0
+"#;
 
 // What a run can answer, and the codes that it can print: each begins a line of the help.
 static ANSWERS: [&str; 20] = [
@@ -423,50 +147,47 @@ fn is_helped(report: &mut Report, output: &Output, wanted: &str) {
     report.is_number("the status", u64::from(output.status), 0);
 }
 
-fn try_mistake(report: &mut Report, alloc: Global, row: &CommandLine) -> Result<(), Fail> {
-    let output = run_of(alloc, row.command)?;
-    is_mistaken(report, &output, row.wanted);
-    Ok(())
-}
+/// A command line, and the first line of what is said of it.
+struct MistakeRow;
 
-fn all_mistakes(report: &mut Report, alloc: Global, rows: &[CommandLine]) {
-    for row in rows {
-        let ended = try_mistake(report, alloc, row);
-        report.row(row.name, ended);
+impl Kind for MistakeRow {
+    fn attempt(&self, report: &mut Report, alloc: Global, row: &Row) -> Result<(), Fail> {
+        let output = run_of(alloc, row.text("command"))?;
+        is_mistaken(report, &output, row.out());
+        Ok(())
     }
 }
 
 #[test]
 fn mistakes(rt: HostRuntime) -> Result<(), Fail> {
-    let mut report = Report::new(rt.alloc());
-    all_mistakes(&mut report, rt.alloc(), &COVERS_AND_INPUTS);
-    all_mistakes(&mut report, rt.alloc(), &POOLS);
-    all_mistakes(&mut report, rt.alloc(), &WORDS);
-    all_mistakes(&mut report, rt.alloc(), &NUMBERS_OF_SAMPLES);
-    all_mistakes(&mut report, rt.alloc(), &ALL_AND_LINES);
-    report.end(&rt)
+    try_tables(
+        &rt,
+        rt.alloc(),
+        &MistakeRow,
+        &[
+            COVERS_AND_INPUTS,
+            POOLS,
+            WORDS,
+            NUMBERS_OF_SAMPLES,
+            ALL_AND_LINES,
+        ],
+    )
 }
 
-fn try_help(report: &mut Report, alloc: Global, row: &CommandLine) -> Result<(), Fail> {
-    let output = run_of(alloc, row.command)?;
-    is_helped(report, &output, row.wanted);
-    Ok(())
-}
+/// A command line, and a line of the help.
+pub struct HelpRow;
 
-/// Tries what each command line writes of the help.
-pub fn all_helped(report: &mut Report, alloc: Global, rows: &[CommandLine]) {
-    for row in rows {
-        let ended = try_help(report, alloc, row);
-        report.row(row.name, ended);
+impl Kind for HelpRow {
+    fn attempt(&self, report: &mut Report, alloc: Global, row: &Row) -> Result<(), Fail> {
+        let output = run_of(alloc, row.text("command"))?;
+        is_helped(report, &output, row.out());
+        Ok(())
     }
 }
 
 #[test]
 fn help(rt: HostRuntime) -> Result<(), Fail> {
-    let mut report = Report::new(rt.alloc());
-    all_helped(&mut report, rt.alloc(), &HELP);
-    all_helped(&mut report, rt.alloc(), &HELP_OF_OBJECTS);
-    report.end(&rt)
+    try_tables(&rt, rt.alloc(), &HelpRow, &[HELP, HELP_OF_OBJECTS])
 }
 
 fn is_explained(text: &str, answer: &str) -> bool {

@@ -3,6 +3,7 @@ use crate::support::documents::{MAP_LIST, TWO_TEXTS, WIDGET, ZERO_AND_ONE};
 use crate::support::fakes::{FailingSink, FakeInputs};
 use crate::support::harness::{Run, definition, is_answer, run_on, try_run};
 use crate::support::report::Report;
+use crate::support::rows::{Kind, Row, try_tables};
 use crate::support::texts::{beginning, nested, padded};
 use std::alloc::Global;
 use std::test::Fail;
@@ -16,7 +17,6 @@ fn try_refused<'a>(
     err: &'a str,
 ) -> Result<(), Fail> {
     let run = Run {
-        name: "a refusal",
         command: "crdx sample crd.json v1 --pools pools.json",
         crd,
         second: pools,
@@ -84,89 +84,53 @@ fn pools_that_are_no_text(rt: HostRuntime) -> Result<(), Fail> {
     report.end(&rt)
 }
 
-/// What `sample` is to go on from, a node limit, and what is said of it.
-struct Place {
-    place: &'static str,
-    limit: u32,
-    err: &'static str,
-    status: u8,
+static PLACES: &str = r#"
+8 rows: place | limit | status
+{"m":[{"k":"a"},{"k":"a"}]} | 8 | 1
+    ! crdx: after: not a sample
+{"m":[{"k":"c"}]} | 8 | 1
+    ! crdx: after: not a sample
+{"m":[{"v":0}]} | 8 | 1
+    ! crdx: after: not a sample
+{"m":[],"z":1} | 8 | 1
+    ! crdx: after: not a sample
+[] | 8 | 1
+    ! crdx: after: not a sample
+{"m":[{"k":"a"},{"k":"b"}]} | 4 | 1
+    ! crdx: after: not a sample
+{"m":[ | 8 | 3
+    ! crdx: after: J3
+{"m":1.5} | 8 | 3
+    ! crdx: after: J1
+"#;
+
+/// A tree to go on from, a limit, and what is said of it.
+#[derive(Drop)]
+struct Place<'a> {
+    crd: &'a str,
 }
 
-static PLACES: [Place; 8] = [
-    Place {
-        place: r#"{"m":[{"k":"a"},{"k":"a"}]}"#,
-        limit: 8,
-        err: "crdx: after: not a sample\n",
-        status: 1,
-    },
-    Place {
-        place: r#"{"m":[{"k":"c"}]}"#,
-        limit: 8,
-        err: "crdx: after: not a sample\n",
-        status: 1,
-    },
-    Place {
-        place: r#"{"m":[{"v":0}]}"#,
-        limit: 8,
-        err: "crdx: after: not a sample\n",
-        status: 1,
-    },
-    Place {
-        place: r#"{"m":[],"z":1}"#,
-        limit: 8,
-        err: "crdx: after: not a sample\n",
-        status: 1,
-    },
-    Place {
-        place: "[]",
-        limit: 8,
-        err: "crdx: after: not a sample\n",
-        status: 1,
-    },
-    Place {
-        place: r#"{"m":[{"k":"a"},{"k":"b"}]}"#,
-        limit: 4,
-        err: "crdx: after: not a sample\n",
-        status: 1,
-    },
-    Place {
-        place: r#"{"m":["#,
-        limit: 8,
-        err: "crdx: after: J3\n",
-        status: 3,
-    },
-    Place {
-        place: r#"{"m":1.5}"#,
-        limit: 8,
-        err: "crdx: after: J1\n",
-        status: 3,
-    },
-];
-
-fn try_place(report: &mut Report, alloc: Global, crd: &str, row: &Place) -> Result<(), Fail> {
-    let (place, limit) = (row.place, row.limit);
-    let command = format!(in alloc;
-        "crdx sample crd.json v1 --pools pools.json --limit {limit} --after {place}"
-    )?;
-    let run = Run {
-        name: place,
-        command: command.as_str(),
-        crd,
-        second: TWO_TEXTS,
-        out: "",
-        err: row.err,
-        status: row.status,
-    };
-    try_run(report, alloc, &run)
+impl Kind for Place<'_> {
+    fn attempt(&self, report: &mut Report, alloc: Global, row: &Row) -> Result<(), Fail> {
+        let (place, limit) = (row.name(), row.text("limit"));
+        let command = format!(in alloc;
+            "crdx sample crd.json v1 --pools pools.json --limit {limit} --after {place}"
+        )?;
+        let run = Run {
+            command: command.as_str(),
+            crd: self.crd,
+            second: TWO_TEXTS,
+            out: "",
+            err: row.err(),
+            status: row.number("status"),
+        };
+        try_run(report, alloc, &run)
+    }
 }
 
 #[test]
 fn places_that_are_no_samples(rt: HostRuntime) -> Result<(), Fail> {
-    let mut report = Report::new(rt.alloc());
     let crd = definition(rt.alloc(), MAP_LIST)?;
-    for row in &PLACES {
-        let ended = try_place(&mut report, rt.alloc(), crd.as_str(), row);
-        report.row(row.place, ended);
-    }
-    report.end(&rt)
+    let kind = Place { crd: crd.as_str() };
+    try_tables(&rt, rt.alloc(), &kind, &[PLACES])
 }

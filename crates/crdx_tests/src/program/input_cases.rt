@@ -1,8 +1,9 @@
 //! Documents in files, and which inputs a run reads.
-use crate::support::documents::{BROKEN, WIDGET, ZERO_AND_ONE};
+use crate::support::documents::{WIDGET, ZERO_AND_ONE};
 use crate::support::fakes::{FailingSink, FakeInputs, Reads};
 use crate::support::harness::{Run, is_answer, is_said, run_on, try_run};
 use crate::support::report::Report;
+use crate::support::rows::{Kind, Row, all_rows, rows_of, try_tables};
 use crate::support::texts::padded;
 use crdx::inputs::{HostInputs, InFault, InputName, Inputs};
 use jtree::Tree;
@@ -12,34 +13,12 @@ use std::rt::Files;
 use std::test::Fail;
 use std::{env, fs, process};
 
-/// The beginning of a file, how many spaces follow it, and the text or the code of what is read.
-struct Document {
-    name: &'static str,
-    head: &'static str,
-    spaces: usize,
-    wanted: &'static str,
-}
-
-static FILES: [Document; 3] = [
-    Document {
-        name: "a document of 1,048,576 bytes",
-        head: "7",
-        spaces: 1_048_575,
-        wanted: "7",
-    },
-    Document {
-        name: "a document of 1,048,577 bytes",
-        head: "7",
-        spaces: 1_048_576,
-        wanted: "J4",
-    },
-    Document {
-        name: "a list that is cut",
-        head: "[1,",
-        spaces: 0,
-        wanted: "J3",
-    },
-];
+static FILES: &str = r#"
+3 rows: name | head | spaces | wanted
+a document of 1,048,576 bytes | 7 | 1048575 | 7
+a document of 1,048,577 bytes | 7 | 1048576 | J4
+a list that is cut | [1, | 0 | J3
+"#;
 
 // Where no file is.
 static NO_FILES: [&str; 2] = ["no such file", "/"];
@@ -71,11 +50,11 @@ fn try_file(
     rt: &(impl Files + Input + AllocGlobal),
     report: &mut Report,
     path: &str,
-    row: &Document,
+    row: &Row,
 ) -> Result<(), Fail> {
-    let text = padded(rt.alloc(), row.head, row.spaces)?;
+    let text = padded(rt.alloc(), row.text("head"), row.count("spaces"))?;
     let found = said_of_text(rt, path, text.as_str());
-    is_said(report, "what is read", found, row.wanted)
+    is_said(report, "what is read", found, row.text("wanted"))
 }
 
 fn path_of(rt: &(impl Env + AllocGlobal), id: u32) -> Result<String, Fail> {
@@ -92,259 +71,99 @@ fn files(rt: HostRuntime) -> Result<(), Fail> {
         report.row(path, ended);
     }
     let path = path_of(&rt, process::id(rt.process()))?;
-    for row in &FILES {
+    for row in &rows_of(rt.alloc(), &[FILES])? {
         let ended = try_file(&rt, &mut report, path.as_str(), row);
-        report.row(row.name, ended);
+        report.row(row.name(), ended);
     }
     report.end(&rt)
 }
 
+static READS: &str = r#"
+14 rows: name | command | crd | crds | pools | objects | others
+a check | crdx check crd.json v1 | @WIDGET | 1 | 0 | 0 | 0
+a sample without pools | crdx sample crd.json v1 | @WIDGET | 1 | 0 | 0 | 0
+a sample with pools | crdx sample crd.json v1 --pools pools.json | @WIDGET | 1 | 1 | 0 | 0
+a sample of a definition that is refused | crdx sample crd.json v1 --pools pools.json | {} | 1 | 0 | 0 | 0
+an object in a file | crdx prune crd.json v1 object.json | @WIDGET | 1 | 0 | 1 | 0
+an object on the standard input | crdx default crd.json v1 | @WIDGET | 1 | 0 | 0 | 1
+an object of a schema that breaks rules | crdx validate crd.json v1 object.json | @BROKEN | 1 | 0 | 0 | 0
+a definition on the standard input | crdx check - v1 | @WIDGET | 0 | 0 | 0 | 1
+pools on the standard input | crdx sample crd.json v1 --pools - | @WIDGET | 1 | 0 | 0 | 1
+an object that is named as the standard input | crdx prune crd.json v1 - | @WIDGET | 1 | 0 | 0 | 1
+a file with the name - | crdx pools ./- v1 | @WIDGET | 0 | 0 | 0 | 1
+the standard input for two inputs | crdx validate - v1 | @WIDGET | 0 | 0 | 0 | 0
+help | crdx --help | @WIDGET | 0 | 0 | 0 | 0
+no command | crdx | @WIDGET | 0 | 0 | 0 | 0
+"#;
+
+fn is_read(report: &mut Report, reads: Reads, row: &Row) {
+    report.is_number("the reads of the definition", reads.crd, row.number("crds"));
+    report.is_number("the reads of the pools", reads.pools, row.number("pools"));
+    report.is_number(
+        "the reads of the object",
+        reads.object,
+        row.number("objects"),
+    );
+    report.is_number("the other reads", reads.other, row.number("others"));
+}
+
 /// How often the definition, the pools, the object and any other input are read.
-struct ReadCounts {
-    name: &'static str,
-    command: &'static str,
-    crd: &'static str,
-    crds: u64,
-    pools: u64,
-    objects: u64,
-    others: u64,
-}
+struct ReadCounts;
 
-static READS: [ReadCounts; 14] = [
-    ReadCounts {
-        name: "a check",
-        command: "crdx check crd.json v1",
-        crd: WIDGET,
-        crds: 1,
-        pools: 0,
-        objects: 0,
-        others: 0,
-    },
-    ReadCounts {
-        name: "a sample without pools",
-        command: "crdx sample crd.json v1",
-        crd: WIDGET,
-        crds: 1,
-        pools: 0,
-        objects: 0,
-        others: 0,
-    },
-    ReadCounts {
-        name: "a sample with pools",
-        command: "crdx sample crd.json v1 --pools pools.json",
-        crd: WIDGET,
-        crds: 1,
-        pools: 1,
-        objects: 0,
-        others: 0,
-    },
-    ReadCounts {
-        name: "a sample of a definition that is refused",
-        command: "crdx sample crd.json v1 --pools pools.json",
-        crd: "{}",
-        crds: 1,
-        pools: 0,
-        objects: 0,
-        others: 0,
-    },
-    ReadCounts {
-        name: "an object in a file",
-        command: "crdx prune crd.json v1 object.json",
-        crd: WIDGET,
-        crds: 1,
-        pools: 0,
-        objects: 1,
-        others: 0,
-    },
-    ReadCounts {
-        name: "an object on the standard input",
-        command: "crdx default crd.json v1",
-        crd: WIDGET,
-        crds: 1,
-        pools: 0,
-        objects: 0,
-        others: 1,
-    },
-    ReadCounts {
-        name: "an object of a schema that breaks rules",
-        command: "crdx validate crd.json v1 object.json",
-        crd: BROKEN,
-        crds: 1,
-        pools: 0,
-        objects: 0,
-        others: 0,
-    },
-    ReadCounts {
-        name: "a definition on the standard input",
-        command: "crdx check - v1",
-        crd: WIDGET,
-        crds: 0,
-        pools: 0,
-        objects: 0,
-        others: 1,
-    },
-    ReadCounts {
-        name: "pools on the standard input",
-        command: "crdx sample crd.json v1 --pools -",
-        crd: WIDGET,
-        crds: 1,
-        pools: 0,
-        objects: 0,
-        others: 1,
-    },
-    ReadCounts {
-        name: "an object that is named as the standard input",
-        command: "crdx prune crd.json v1 -",
-        crd: WIDGET,
-        crds: 1,
-        pools: 0,
-        objects: 0,
-        others: 1,
-    },
-    ReadCounts {
-        name: "a file with the name -",
-        command: "crdx pools ./- v1",
-        crd: WIDGET,
-        crds: 0,
-        pools: 0,
-        objects: 0,
-        others: 1,
-    },
-    ReadCounts {
-        name: "the standard input for two inputs",
-        command: "crdx validate - v1",
-        crd: WIDGET,
-        crds: 0,
-        pools: 0,
-        objects: 0,
-        others: 0,
-    },
-    ReadCounts {
-        name: "help",
-        command: "crdx --help",
-        crd: WIDGET,
-        crds: 0,
-        pools: 0,
-        objects: 0,
-        others: 0,
-    },
-    ReadCounts {
-        name: "no command",
-        command: "crdx",
-        crd: WIDGET,
-        crds: 0,
-        pools: 0,
-        objects: 0,
-        others: 0,
-    },
-];
-
-fn is_read(report: &mut Report, reads: Reads, row: &ReadCounts) {
-    report.is_number("the reads of the definition", reads.crd, row.crds);
-    report.is_number("the reads of the pools", reads.pools, row.pools);
-    report.is_number("the reads of the object", reads.object, row.objects);
-    report.is_number("the other reads", reads.other, row.others);
-}
-
-fn try_reads(report: &mut Report, alloc: Global, row: &ReadCounts) -> Result<(), Fail> {
-    let inputs = FakeInputs::new(alloc, row.crd, ZERO_AND_ONE);
-    let output = run_on(alloc, row.command, inputs, FailingSink::endless(alloc))?;
-    is_read(report, output.reads, row);
-    Ok(())
+impl Kind for ReadCounts {
+    fn attempt(&self, report: &mut Report, alloc: Global, row: &Row) -> Result<(), Fail> {
+        let inputs = FakeInputs::new(alloc, row.text("crd"), ZERO_AND_ONE);
+        let output = run_on(
+            alloc,
+            row.text("command"),
+            inputs,
+            FailingSink::endless(alloc),
+        )?;
+        is_read(report, output.reads, row);
+        Ok(())
+    }
 }
 
 #[test]
 fn reads(rt: HostRuntime) -> Result<(), Fail> {
-    let mut report = Report::new(rt.alloc());
-    for row in &READS {
-        let ended = try_reads(&mut report, rt.alloc(), row);
-        report.row(row.name, ended);
-    }
-    report.end(&rt)
+    try_tables(&rt, rt.alloc(), &ReadCounts, &[READS])
 }
+
+static STANDARD_INPUTS: &str = r#"
+6 rows: name | command | input | status | out
+a definition | crdx check - v1 | @WIDGET | 0 | structural
+pools | crdx sample crd.json v1 --limit 2 --pools - | {"integers":[0,1]} | 0 | {}
+    > {"spec":{}}
+    ! crdx: end
+an object | crdx prune crd.json v1 - | {"other":1} | 0 | {}
+a definition that is no JSON | crdx explain - v1 | spec: {} | 3 | -
+    ! crdx: crd: J3
+pools that are no JSON | crdx sample crd.json v1 --pools - | integers: [] | 3 | -
+    ! crdx: pools: J3
+a file with the name - | crdx check ./- v1 | @WIDGET | 4 | -
+    ! crdx: crd: read failed
+"#;
 
 /// A run on the standard input.
-struct StandardInput {
-    name: &'static str,
-    command: &'static str,
-    input: &'static str,
-    out: &'static str,
-    err: &'static str,
-    status: u8,
-}
+struct StandardInput;
 
-static STANDARD_INPUTS: [StandardInput; 6] = [
-    StandardInput {
-        name: "a definition",
-        command: "crdx check - v1",
-        input: WIDGET,
-        out: "structural\n",
-        err: "",
-        status: 0,
-    },
-    StandardInput {
-        name: "pools",
-        command: "crdx sample crd.json v1 --limit 2 --pools -",
-        input: ZERO_AND_ONE,
-        out: "{}\n{\"spec\":{}}\n",
-        err: "crdx: end\n",
-        status: 0,
-    },
-    StandardInput {
-        name: "an object",
-        command: "crdx prune crd.json v1 -",
-        input: r#"{"other":1}"#,
-        out: "{}\n",
-        err: "",
-        status: 0,
-    },
-    StandardInput {
-        name: "a definition that is no JSON",
-        command: "crdx explain - v1",
-        input: "spec: {}",
-        out: "",
-        err: "crdx: crd: J3\n",
-        status: 3,
-    },
-    StandardInput {
-        name: "pools that are no JSON",
-        command: "crdx sample crd.json v1 --pools -",
-        input: "integers: []",
-        out: "",
-        err: "crdx: pools: J3\n",
-        status: 3,
-    },
-    StandardInput {
-        name: "a file with the name -",
-        command: "crdx check ./- v1",
-        input: WIDGET,
-        out: "",
-        err: "crdx: crd: read failed\n",
-        status: 4,
-    },
-];
-
-fn try_standard_input(report: &mut Report, alloc: Global, row: &StandardInput) -> Result<(), Fail> {
-    let run = Run {
-        name: row.name,
-        command: row.command,
-        crd: WIDGET,
-        second: row.input,
-        out: row.out,
-        err: row.err,
-        status: row.status,
-    };
-    try_run(report, alloc, &run)
+impl Kind for StandardInput {
+    fn attempt(&self, report: &mut Report, alloc: Global, row: &Row) -> Result<(), Fail> {
+        let run = Run {
+            command: row.text("command"),
+            crd: WIDGET,
+            second: row.text("input"),
+            out: row.out(),
+            err: row.err(),
+            status: row.number("status"),
+        };
+        try_run(report, alloc, &run)
+    }
 }
 
 #[test]
 fn standard_inputs(rt: HostRuntime) -> Result<(), Fail> {
-    let mut report = Report::new(rt.alloc());
-    for row in &STANDARD_INPUTS {
-        let ended = try_standard_input(&mut report, rt.alloc(), row);
-        report.row(row.name, ended);
-    }
-    report.end(&rt)
+    try_tables(&rt, rt.alloc(), &StandardInput, &[STANDARD_INPUTS])
 }
 
 fn try_failing_definition(
@@ -363,40 +182,30 @@ fn try_failing_definition(
 fn try_failing_second(
     report: &mut Report,
     alloc: Global,
-    row: &Second,
+    row: &Row,
     left: usize,
 ) -> Result<(), AllocError> {
     let mut inputs = FakeInputs::new(alloc, WIDGET, ZERO_AND_ONE);
     inputs.second_left = left;
-    let output = run_on(alloc, row.command, inputs, FailingSink::endless(alloc))?;
-    is_answer(report, &output, "", row.err, 4);
+    let output = run_on(
+        alloc,
+        row.text("command"),
+        inputs,
+        FailingSink::endless(alloc),
+    )?;
+    is_answer(report, &output, "", row.err(), 4);
     Ok(())
 }
 
-/// What is said where the second document cannot be read whole.
-struct Second {
-    name: &'static str,
-    command: &'static str,
-    err: &'static str,
-}
-
-static SECONDS: [Second; 3] = [
-    Second {
-        name: "pools",
-        command: "crdx sample crd.json v1 --pools pools.json",
-        err: "crdx: pools: read failed\n",
-    },
-    Second {
-        name: "an object of a file",
-        command: "crdx validate crd.json v1 object.json",
-        err: "crdx: object: read failed\n",
-    },
-    Second {
-        name: "an object of the standard input",
-        command: "crdx default crd.json v1",
-        err: "crdx: object: read failed\n",
-    },
-];
+static SECONDS: &str = r#"
+3 rows: name | command
+pools | crdx sample crd.json v1 --pools pools.json
+    ! crdx: pools: read failed
+an object of a file | crdx validate crd.json v1 object.json
+    ! crdx: object: read failed
+an object of the standard input | crdx default crd.json v1
+    ! crdx: object: read failed
+"#;
 
 fn try_definitions(report: &mut Report, alloc: Global) -> Result<(), Fail> {
     for left in 0..WIDGET.len() + 1 {
@@ -405,11 +214,16 @@ fn try_definitions(report: &mut Report, alloc: Global) -> Result<(), Fail> {
     Ok(())
 }
 
-fn try_seconds(report: &mut Report, alloc: Global, row: &Second) -> Result<(), Fail> {
-    for left in 0..ZERO_AND_ONE.len() + 1 {
-        try_failing_second(report, alloc, row, left)?;
+/// What is said where the second document cannot be read whole.
+struct Second;
+
+impl Kind for Second {
+    fn attempt(&self, report: &mut Report, alloc: Global, row: &Row) -> Result<(), Fail> {
+        for left in 0..ZERO_AND_ONE.len() + 1 {
+            try_failing_second(report, alloc, row, left)?;
+        }
+        Ok(())
     }
-    Ok(())
 }
 
 /// Reading fails after each number of bytes, also after the last one.
@@ -418,9 +232,6 @@ fn failing_reads(rt: HostRuntime) -> Result<(), Fail> {
     let mut report = Report::new(rt.alloc());
     let ended = try_definitions(&mut report, rt.alloc());
     report.row("a definition", ended);
-    for row in &SECONDS {
-        let ended = try_seconds(&mut report, rt.alloc(), row);
-        report.row(row.name, ended);
-    }
+    all_rows(&mut report, rt.alloc(), &Second, &[SECONDS]);
     report.end(&rt)
 }

@@ -1,287 +1,99 @@
 //! `pools`: a document to start with, with the values of objects, and around an object.
 use crate::support::fakes::{FailingSink, FakeInputs};
-use crate::support::harness::{Output, SchemaRun, all_schema_runs, definition, is_answer, run_on};
+use crate::support::harness::{Output, SchemaRunRow, definition, is_answer, run_on};
 use crate::support::report::Report;
+use crate::support::rows::try_tables;
 use crate::support::texts::padded;
 use jtree::MOST_BYTES;
 use std::alloc::Global;
 use std::test::Fail;
 
-/// The pools with the integer of an object.
-const SEVEN_AT_A_PATH: &str =
-    r#"{"any":["a",{}],"integers":[0,1],"names":["a","b"],"paths":{"/spec/a":[7]},"strings":["a"]}
+// What the tables name.
+static NAMED: &str = r#"
+// An object with an integer and a text, and one with a truth value.
+@SCHEMA
+    | {"type":"object","properties":{"spec":{"type":"object","properties":{"a":{"type":"integer"},"b":{"type":"string"}}},
+    "status":{"type":"object","properties":{"c":{"type":"boolean"}}}}}
+// A list of objects, and a map of integers.
+@PARTS
+    | {"type":"object","properties":{"l":{"type":"array","items":{"type":"object","properties":{"a":{"type":"integer"}}}},
+    "m":{"type":"object","additionalProperties":{"type":"integer"}}}}
 "#;
 
-/// An object with an integer and a text, and one with a truth value.
-const SCHEMA: &str = r#"{"type":"object","properties":{
-    "spec":{"type":"object","properties":{"a":{"type":"integer"},"b":{"type":"string"}}},
-    "status":{"type":"object","properties":{"c":{"type":"boolean"}}}
-}}"#;
-
-/// A list of objects, and a map of integers.
-const PARTS: &str = r#"{"type":"object","properties":{
-    "l":{"type":"array","items":{"type":"object","properties":{"a":{"type":"integer"}}}},
-    "m":{"type":"object","additionalProperties":{"type":"integer"}}
-}}"#;
-
-/// A schema without a type.
-const NO_TYPE: &str = r#"{"properties":{"a":{"type":"integer"}}}"#;
-
-/// A date and a text with a default.
-const HINTS: &str =
-    r#"{"type":"object","properties":{"d":{"type":"string","format":"date"},"t":{"type":"string","default":"x"}}}"#;
-
 // The second document has the objects.
-static VALUES: [SchemaRun<'static>; 10] = [
-    SchemaRun {
-        name: "no objects",
-        command: "crdx pools crd.json v1",
-        schema: SCHEMA,
-        second: "",
-        out: r#"{"any":["a",{}],"integers":[0,1],"names":["a","b"],"strings":["a"]}
-"#,
-        err: "",
-        status: 0,
-    },
-    SchemaRun {
-        name: "a format and a default",
-        command: "crdx pools crd.json v1",
-        schema: HINTS,
-        second: "",
-        out: r#"{"any":["a",{}],"integers":[0,1],"names":["a","b"],"paths":{"/d":["1970-01-01","2030-12-31"],"/t":["x","a"]},"strings":["a"]}
-"#,
-        err: "",
-        status: 0,
-    },
-    SchemaRun {
-        name: "the values of an object",
-        command: "crdx pools crd.json v1 --from object.json",
-        schema: SCHEMA,
-        second: r#"{"spec":{"a":7,"b":"x"}}"#,
-        out: r#"{"any":["a",{}],"integers":[0,1],"names":["a","b"],"paths":{"/spec/a":[7],"/spec/b":["x"]},"strings":["a"]}
-"#,
-        err: "",
-        status: 0,
-    },
-    SchemaRun {
-        name: "of two objects on lines, one of them with an envelope",
-        command: "crdx pools crd.json v1 --from object.json",
-        schema: SCHEMA,
-        second: "{\"spec\":{\"a\":7}}\n{\"kind\":\"K\",\"metadata\":{},\"spec\":{\"a\":8,\"b\":\"y\"}}\n",
-        out: r#"{"any":["a",{}],"integers":[0,1],"names":["a","b"],"paths":{"/spec/a":[7,8],"/spec/b":["y"]},"strings":["a"]}
-"#,
-        err: "",
-        status: 0,
-    },
-    SchemaRun {
-        name: "of an object over several lines",
-        command: "crdx pools crd.json v1 --from object.json",
-        schema: SCHEMA,
-        second: "{\n  \"spec\": {\n    \"a\": 7\n  }\n}\n",
-        out: SEVEN_AT_A_PATH,
-        err: "",
-        status: 0,
-    },
-    SchemaRun {
-        name: "of two inputs",
-        command: "crdx pools crd.json v1 --from - --from object.json",
-        schema: SCHEMA,
-        second: r#"{"spec":{"a":7}}"#,
-        out: SEVEN_AT_A_PATH,
-        err: "",
-        status: 0,
-    },
-    SchemaRun {
-        name: "a value that is not stored at its path",
-        command: "crdx pools crd.json v1 --from object.json",
-        schema: SCHEMA,
-        second: r#"{"spec":{"a":"t","b":null}}"#,
-        out: r#"{"any":["a",{}],"integers":[0,1],"names":["a","b"],"strings":["a"]}
-"#,
-        err: "",
-        status: 0,
-    },
-    SchemaRun {
-        name: "items of a list and members of a map",
-        command: "crdx pools crd.json v1 --from object.json",
-        schema: PARTS,
-        second: r#"{"l":[{"a":1},{"a":2},{},{"a":1}],"m":{"k":3,"b":4}}"#,
-        out: r#"{"any":["a",{}],"integers":[0,1],"names":["b","k","a"],"paths":{"/l/[]/a":[1,2],"/m/{}":[4,3]},"strings":["a"]}
-"#,
-        err: "",
-        status: 0,
-    },
-    SchemaRun {
-        name: "a field that never occurs",
-        command: "crdx pools crd.json v1 --without /status",
-        schema: SCHEMA,
-        second: "",
-        out: r#"{"any":["a",{}],"fixed":{"/status":[]},"integers":[0,1],"names":["a","b"],"strings":["a"]}
-"#,
-        err: "",
-        status: 0,
-    },
-    SchemaRun {
-        name: "the values of a map that never occur",
-        command: "crdx pools crd.json v1 --from object.json --without /m/{}",
-        schema: PARTS,
-        second: r#"{"l":[{"a":1}],"m":{"k":3}}"#,
-        out: r#"{"any":["a",{}],"fixed":{"/m/{}":[]},"integers":[0,1],"names":["a","b"],"paths":{"/l/[]/a":[1]},"strings":["a"]}
-"#,
-        err: "",
-        status: 0,
-    },
-];
+static VALUES: &str = r#"
+10 rows: name | command | schema | second | status
+no objects | crdx pools crd.json v1 | @SCHEMA | - | 0
+    > {"any":["a",{}],"integers":[0,1],"names":["a","b"],"strings":["a"]}
+a format and a default | crdx pools crd.json v1
+    | {"type":"object","properties":{"d":{"type":"string","format":"date"},"t":{"type":"string","default":"x"}}} | - | 0
+    > {"any":["a",{}],"integers":[0,1],"names":["a","b"],"paths":{"/d":["1970-01-01","2030-12-31"],"/t":["x","a"]},"strings":["a"]}
+the values of an object | crdx pools crd.json v1 --from object.json | @SCHEMA | {"spec":{"a":7,"b":"x"}} | 0
+    > {"any":["a",{}],"integers":[0,1],"names":["a","b"],"paths":{"/spec/a":[7],"/spec/b":["x"]},"strings":["a"]}
+of two objects on lines, one of them with an envelope | crdx pools crd.json v1 --from object.json | @SCHEMA
+    | {"spec":{"a":7}}␊{"kind":"K","metadata":{},"spec":{"a":8,"b":"y"}}␊ | 0
+    > {"any":["a",{}],"integers":[0,1],"names":["a","b"],"paths":{"/spec/a":[7,8],"/spec/b":["y"]},"strings":["a"]}
+of an object over several lines | crdx pools crd.json v1 --from object.json | @SCHEMA | {␊  "spec": {␊    "a": 7␊  }␊}␊ | 0
+    > {"any":["a",{}],"integers":[0,1],"names":["a","b"],"paths":{"/spec/a":[7]},"strings":["a"]}
+of two inputs | crdx pools crd.json v1 --from - --from object.json | @SCHEMA | {"spec":{"a":7}} | 0
+    > {"any":["a",{}],"integers":[0,1],"names":["a","b"],"paths":{"/spec/a":[7]},"strings":["a"]}
+a value that is not stored at its path | crdx pools crd.json v1 --from object.json | @SCHEMA | {"spec":{"a":"t","b":null}} | 0
+    > {"any":["a",{}],"integers":[0,1],"names":["a","b"],"strings":["a"]}
+items of a list and members of a map | crdx pools crd.json v1 --from object.json | @PARTS | {"l":[{"a":1},{"a":2},{},{"a":1}],"m":{"k":3,"b":4}} | 0
+    > {"any":["a",{}],"integers":[0,1],"names":["b","k","a"],"paths":{"/l/[]/a":[1,2],"/m/{}":[4,3]},"strings":["a"]}
+a field that never occurs | crdx pools crd.json v1 --without /status | @SCHEMA | - | 0
+    > {"any":["a",{}],"fixed":{"/status":[]},"integers":[0,1],"names":["a","b"],"strings":["a"]}
+the values of a map that never occur | crdx pools crd.json v1 --from object.json --without /m/{} | @PARTS | {"l":[{"a":1}],"m":{"k":3}} | 0
+    > {"any":["a",{}],"fixed":{"/m/{}":[]},"integers":[0,1],"names":["a","b"],"paths":{"/l/[]/a":[1]},"strings":["a"]}
+"#;
 
-static VARIED: [SchemaRun<'static>; 9] = [
-    SchemaRun {
-        name: "around an object",
-        command: "crdx pools crd.json v1 --from object.json --vary /spec/a",
-        schema: SCHEMA,
-        second: r#"{"spec":{"a":7,"b":"x"}}"#,
-        out: concat!(
-            r#"{"any":["a",{}],"fixed":{"/spec/b":["x"],"/status":[]},"integers":[0,1],"names":["a","b"],"#,
-            r#""paths":{"/spec/a":[7,0,1]},"present":["/spec","/spec/b"],"strings":["a"]}"#,
-            "\n",
-        ),
-        err: "",
-        status: 0,
-    },
-    SchemaRun {
-        name: "around an object, at two paths, one of them absent",
-        command: "crdx pools crd.json v1 --vary /spec/b --from object.json --vary /status",
-        schema: SCHEMA,
-        second: r#"{"spec":{"a":7}}"#,
-        out: r#"{"any":["a",{}],"fixed":{"/spec/a":[7]},"integers":[0,1],"names":["a","b"],"present":["/spec","/spec/a"],"strings":["a"]}
-"#,
-        err: "",
-        status: 0,
-    },
-    SchemaRun {
-        name: "around an object, without a field of it",
-        command: "crdx pools crd.json v1 --from object.json --vary /spec/a --without /spec/b",
-        schema: SCHEMA,
-        second: r#"{"spec":{"a":7,"b":"x"}}"#,
-        out: concat!(
-            r#"{"any":["a",{}],"fixed":{"/spec/b":[],"/status":[]},"integers":[0,1],"names":["a","b"],"#,
-            r#""paths":{"/spec/a":[7,0,1]},"present":["/spec"],"strings":["a"]}"#,
-            "\n",
-        ),
-        err: "",
-        status: 0,
-    },
-    SchemaRun {
-        name: "a list is varied as a whole",
-        command: "crdx pools crd.json v1 --from object.json --vary /l",
-        schema: PARTS,
-        second: r#"{"l":[{"a":5}],"m":{"k":3}}"#,
-        out: r#"{"any":["a",{}],"fixed":{"/m":[{"k":3}]},"integers":[0,1],"names":["a","b"],"paths":{"/l/[]/a":[5,0,1]},"present":["/m"],"strings":["a"]}
-"#,
-        err: "",
-        status: 0,
-    },
-    SchemaRun {
-        name: "a path through a list",
-        command: "crdx pools crd.json v1 --from object.json --vary /l/[]/a",
-        schema: PARTS,
-        second: r#"{"l":[{"a":5}]}"#,
-        out: "",
-        err: "crdx: pools: P5 \"/l/[]/a\"\n",
-        status: 3,
-    },
-    SchemaRun {
-        name: "a path that is not declared",
-        command: "crdx pools crd.json v1 --from object.json --vary /status --vary /spec/z",
-        schema: SCHEMA,
-        second: "{}",
-        out: "",
-        err: "crdx: pools: P5 \"/spec/z\"\n",
-        status: 3,
-    },
-    SchemaRun {
-        name: "a path whose object is missing",
-        command: "crdx pools crd.json v1 --from object.json --vary /spec/a",
-        schema: SCHEMA,
-        second: "{}",
-        out: "",
-        err: "crdx: pools: P6 \"/spec/a\"\n",
-        status: 3,
-    },
-    SchemaRun {
-        name: "two objects cannot be varied",
-        command: "crdx pools crd.json v1 --from object.json --vary /spec",
-        schema: SCHEMA,
-        second: "{}\n{}\n",
-        out: "",
-        err: "crdx: pools: P6 \"/spec\"\n",
-        status: 3,
-    },
-    SchemaRun {
-        name: "a text that is no path",
-        command: "crdx pools crd.json v1 --without spec",
-        schema: SCHEMA,
-        second: "",
-        out: "",
-        err: "crdx: pools: P5 \"spec\"\n",
-        status: 3,
-    },
-];
+static VARIED: &str = r#"
+9 rows: name | command | schema | second | status
+around an object | crdx pools crd.json v1 --from object.json --vary /spec/a | @SCHEMA | {"spec":{"a":7,"b":"x"}} | 0
+    > {"any":["a",{}],"fixed":{"/spec/b":["x"],"/status":[]},"integers":[0,1],"names":["a","b"],"paths":{"/spec/a":[7,0,1]},␄
+    > "present":["/spec","/spec/b"],"strings":["a"]}
+around an object, at two paths, one of them absent | crdx pools crd.json v1 --vary /spec/b --from object.json --vary /status | @SCHEMA
+    | {"spec":{"a":7}} | 0
+    > {"any":["a",{}],"fixed":{"/spec/a":[7]},"integers":[0,1],"names":["a","b"],"present":["/spec","/spec/a"],"strings":["a"]}
+around an object, without a field of it | crdx pools crd.json v1 --from object.json --vary /spec/a --without /spec/b | @SCHEMA
+    | {"spec":{"a":7,"b":"x"}} | 0
+    > {"any":["a",{}],"fixed":{"/spec/b":[],"/status":[]},"integers":[0,1],"names":["a","b"],"paths":{"/spec/a":[7,0,1]},"present":["/spec"],"strings":["a"]}
+a list is varied as a whole | crdx pools crd.json v1 --from object.json --vary /l | @PARTS | {"l":[{"a":5}],"m":{"k":3}} | 0
+    > {"any":["a",{}],"fixed":{"/m":[{"k":3}]},"integers":[0,1],"names":["a","b"],"paths":{"/l/[]/a":[5,0,1]},"present":["/m"],"strings":["a"]}
+a path through a list | crdx pools crd.json v1 --from object.json --vary /l/[]/a | @PARTS | {"l":[{"a":5}]} | 3
+    ! crdx: pools: P5 "/l/[]/a"
+a path that is not declared | crdx pools crd.json v1 --from object.json --vary /status --vary /spec/z | @SCHEMA | {} | 3
+    ! crdx: pools: P5 "/spec/z"
+a path whose object is missing | crdx pools crd.json v1 --from object.json --vary /spec/a | @SCHEMA | {} | 3
+    ! crdx: pools: P6 "/spec/a"
+two objects cannot be varied | crdx pools crd.json v1 --from object.json --vary /spec | @SCHEMA | {}␊{}␊ | 3
+    ! crdx: pools: P6 "/spec"
+a text that is no path | crdx pools crd.json v1 --without spec | @SCHEMA | - | 3
+    ! crdx: pools: P5 "spec"
+"#;
 
-static REFUSALS: [SchemaRun<'static>; 5] = [
-    SchemaRun {
-        name: "a line that is no document",
-        command: "crdx pools crd.json v1 --from object.json",
-        schema: SCHEMA,
-        second: "{}\n{\"a\":1.5}\n{",
-        out: "",
-        err: "crdx: object: 2: J1\n",
-        status: 3,
-    },
-    SchemaRun {
-        name: "no document over several lines",
-        command: "crdx pools crd.json v1 --from object.json",
-        schema: SCHEMA,
-        second: "{\n\"a\":1.5}\n",
-        out: "",
-        err: "crdx: object: J1\n",
-        status: 3,
-    },
-    SchemaRun {
-        name: "an empty input",
-        command: "crdx pools crd.json v1 --from -",
-        schema: SCHEMA,
-        second: "",
-        out: "",
-        err: "crdx: object: J3\n",
-        status: 3,
-    },
-    SchemaRun {
-        name: "an input that cannot be opened",
-        command: "crdx pools crd.json v1 --from other.json",
-        schema: SCHEMA,
-        second: "{}",
-        out: "",
-        err: "crdx: object: read failed\n",
-        status: 4,
-    },
-    SchemaRun {
-        name: "a schema that breaks a rule, before an object is read",
-        command: "crdx pools crd.json v1 --from other.json",
-        schema: NO_TYPE,
-        second: "",
-        out: "",
-        err: "V01 \"\"\n",
-        status: 1,
-    },
-];
+static REFUSALS: &str = r#"
+5 rows: name | command | schema | second | status
+a line that is no document | crdx pools crd.json v1 --from object.json | @SCHEMA | {}␊{"a":1.5}␊{ | 3
+    ! crdx: object: 2: J1
+no document over several lines | crdx pools crd.json v1 --from object.json | @SCHEMA | {␊"a":1.5}␊ | 3
+    ! crdx: object: J1
+an empty input | crdx pools crd.json v1 --from - | @SCHEMA | - | 3
+    ! crdx: object: J3
+an input that cannot be opened | crdx pools crd.json v1 --from other.json | @SCHEMA | {} | 4
+    ! crdx: object: read failed
+a schema that breaks a rule, before an object is read | crdx pools crd.json v1 --from other.json | {"properties":{"a":{"type":"integer"}}} | - | 1
+    ! V01 ""
+"#;
 
 #[test]
 fn pools_of_objects(rt: HostRuntime) -> Result<(), Fail> {
-    let mut report = Report::new(rt.alloc());
-    all_schema_runs(&mut report, rt.alloc(), &VALUES);
-    all_schema_runs(&mut report, rt.alloc(), &VARIED);
-    all_schema_runs(&mut report, rt.alloc(), &REFUSALS);
-    report.end(&rt)
+    try_tables(
+        &rt,
+        rt.alloc(),
+        &SchemaRunRow,
+        &[NAMED, VALUES, VARIED, REFUSALS],
+    )
 }
 
 /// The pools for an object whose text has so many spaces.

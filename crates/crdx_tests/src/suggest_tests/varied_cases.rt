@@ -1,5 +1,7 @@
 //! The pools document that is suggested around an object, and why there is none.
+use crate::support::pools::limits_of;
 use crate::support::report::Report;
+use crate::support::rows::{Kind, Row, try_tables};
 use crate::support::suggestions::{has_member, suggested};
 use jtree::Tree;
 use plan::PoolLimits;
@@ -16,105 +18,32 @@ const NESTED: &str =
         "properties":{"c":{"type":"string","format":"date"},"d":{"type":"boolean"}}},"e":{"type":"string"}}},
         "status":{"type":"object","properties":{"g":{"type":"boolean"}}}}}"#;
 
-const OBJECT: &str = r#"[{"list":[{"k":"p"}],"spec":{"a":5,"b":{"c":"x"},"e":"y"}}]"#;
+// What the tables name.
+static NAMED: &str = r#"
+@OBJECT | [{"list":[{"k":"p"}],"spec":{"a":5,"b":{"c":"x"},"e":"y"}}]
+"#;
 
-/// Objects of `NESTED`, the varied paths, those that never occur, and the members `fixed`, `present` and `paths`.
-struct VariedRow {
-    name: &'static str,
-    objects: &'static str,
-    varied: &'static str,
-    without: &'static str,
-    fixed: &'static str,
-    present: &'static str,
-    paths: &'static str,
-}
-
-static VARIED: [VariedRow; 9] = [
-    VariedRow {
-        name: "siblings that are there and one that is not",
-        objects: OBJECT,
-        varied: "/spec/a",
-        without: "",
-        fixed: r#"{"/list":[[{"k":"p"}]],"/spec/b":[{"c":"x"}],"/spec/e":["y"],"/status":[]}"#,
-        present: r#"["/list","/spec","/spec/b","/spec/e"]"#,
-        paths: r#"{"/spec/a":[5,0,1]}"#,
-    },
-    VariedRow {
-        name: "all below a path",
-        objects: OBJECT,
-        varied: "/spec/b",
-        without: "",
-        fixed: r#"{"/list":[[{"k":"p"}]],"/spec/a":[5],"/spec/e":["y"],"/status":[]}"#,
-        present: r#"["/list","/spec","/spec/a","/spec/e"]"#,
-        paths: r#"{"/spec/b/c":["x","1970-01-01","2030-12-31"]}"#,
-    },
-    VariedRow {
-        name: "two levels down, where nothing stands",
-        objects: OBJECT,
-        varied: "/spec/b/d",
-        without: "",
-        fixed: r#"{"/list":[[{"k":"p"}]],"/spec/a":[5],"/spec/b/c":["x"],"/spec/e":["y"],"/status":[]}"#,
-        present: r#"["/list","/spec","/spec/a","/spec/b","/spec/b/c","/spec/e"]"#,
-        paths: "",
-    },
-    VariedRow {
-        name: "two paths",
-        objects: OBJECT,
-        varied: "/status /spec/a",
-        without: "",
-        fixed: r#"{"/list":[[{"k":"p"}]],"/spec/b":[{"c":"x"}],"/spec/e":["y"]}"#,
-        present: r#"["/list","/spec","/spec/b","/spec/e"]"#,
-        paths: r#"{"/spec/a":[5,0,1]}"#,
-    },
-    VariedRow {
-        name: "a path that is left out besides",
-        objects: OBJECT,
-        varied: "/spec/a",
-        without: "/spec/e",
-        fixed: r#"{"/list":[[{"k":"p"}]],"/spec/b":[{"c":"x"}],"/spec/e":[],"/status":[]}"#,
-        present: r#"["/list","/spec","/spec/b"]"#,
-        paths: r#"{"/spec/a":[5,0,1]}"#,
-    },
-    VariedRow {
-        name: "a part of a value beside a varied path is left out",
-        objects: OBJECT,
-        varied: "/spec/a",
-        without: "/spec/b/c",
-        fixed: r#"{"/list":[[{"k":"p"}]],"/spec/b":[{}],"/spec/b/c":[],"/spec/e":["y"],"/status":[]}"#,
-        present: r#"["/list","/spec","/spec/b","/spec/e"]"#,
-        paths: r#"{"/spec/a":[5,0,1]}"#,
-    },
-    VariedRow {
-        name: "an object with nothing in it",
-        objects: "[{}]",
-        varied: "/spec",
-        without: "",
-        fixed: r#"{"/list":[],"/status":[]}"#,
-        present: "",
-        paths: r#"{"/spec/b/c":["1970-01-01","2030-12-31"]}"#,
-    },
-    VariedRow {
-        name: "no varied path",
-        objects: OBJECT,
-        varied: "",
-        without: "/status /list/[]/k",
-        fixed: r#"{"/list/[]/k":[],"/status":[]}"#,
-        present: "",
-        paths: r#"{"/spec/a":[5],"/spec/b/c":["x"],"/spec/e":["y"]}"#,
-    },
-    VariedRow {
-        name: "no object",
-        objects: "[]",
-        varied: "",
-        without: "/status",
-        fixed: r#"{"/status":[]}"#,
-        present: "",
-        paths: r#"{"/spec/b/c":["1970-01-01","2030-12-31"]}"#,
-    },
-];
+static VARIED: &str = r#"
+9 rows: name | objects | varied | without | fixed | present | paths
+siblings that are there and one that is not | @OBJECT | /spec/a | - | {"/list":[[{"k":"p"}]],"/spec/b":[{"c":"x"}],"/spec/e":["y"],"/status":[]}
+    | ["/list","/spec","/spec/b","/spec/e"] | {"/spec/a":[5,0,1]}
+all below a path | @OBJECT | /spec/b | - | {"/list":[[{"k":"p"}]],"/spec/a":[5],"/spec/e":["y"],"/status":[]} | ["/list","/spec","/spec/a","/spec/e"]
+    | {"/spec/b/c":["x","1970-01-01","2030-12-31"]}
+two levels down, where nothing stands | @OBJECT | /spec/b/d | - | {"/list":[[{"k":"p"}]],"/spec/a":[5],"/spec/b/c":["x"],"/spec/e":["y"],"/status":[]}
+    | ["/list","/spec","/spec/a","/spec/b","/spec/b/c","/spec/e"] | -
+two paths | @OBJECT | /status /spec/a | - | {"/list":[[{"k":"p"}]],"/spec/b":[{"c":"x"}],"/spec/e":["y"]} | ["/list","/spec","/spec/b","/spec/e"]
+    | {"/spec/a":[5,0,1]}
+a path that is left out besides | @OBJECT | /spec/a | /spec/e | {"/list":[[{"k":"p"}]],"/spec/b":[{"c":"x"}],"/spec/e":[],"/status":[]}
+    | ["/list","/spec","/spec/b"] | {"/spec/a":[5,0,1]}
+a part of a value beside a varied path is left out | @OBJECT | /spec/a | /spec/b/c
+    | {"/list":[[{"k":"p"}]],"/spec/b":[{}],"/spec/b/c":[],"/spec/e":["y"],"/status":[]} | ["/list","/spec","/spec/b","/spec/e"] | {"/spec/a":[5,0,1]}
+an object with nothing in it | [{}] | /spec | - | {"/list":[],"/status":[]} | - | {"/spec/b/c":["1970-01-01","2030-12-31"]}
+no varied path | @OBJECT | - | /status /list/[]/k | {"/list/[]/k":[],"/status":[]} | - | {"/spec/a":[5],"/spec/b/c":["x"],"/spec/e":["y"]}
+no object | [] | - | /status | {"/status":[]} | - | {"/spec/b/c":["1970-01-01","2030-12-31"]}
+"#;
 
 /// What is answered: a document, or why there is none.
-#[derive(Clone, Copy, Debug, PartialEq)]
+#[derive(Clone, Copy, Debug)]
 enum Answer<'a> {
     Suggested,
     BadPath(&'a str),
@@ -123,125 +52,45 @@ enum Answer<'a> {
     NoMemory,
 }
 
-/// Objects of `NESTED`, the varied paths, those that never occur, and why there is no document.
-struct Refused {
-    name: &'static str,
-    objects: &'static str,
-    varied: &'static str,
-    without: &'static str,
-    answer: Answer<'static>,
-}
+static FAULTS: &str = r#"
+13 rows: name | objects | varied | without | answer | phrase
+no such field | @OBJECT | /spec/x | - | BadPath("/spec/x") | bad path /spec/x
+through a list | @OBJECT | /list/[]/k | - | BadPath("/list/[]/k") | bad path /list/[]/k
+the beginning of a name | @OBJECT | /spe | - | BadPath("/spe") | bad path /spe
+no name | @OBJECT | / | - | BadPath("/") | bad path /
+nothing that the field belongs to | [{"spec":{"a":5}}] | /spec/b/c | - | NotInObject("/spec/b/c") | not in the object: /spec/b/c
+a null that the field would belong to | [{"spec":null}] | /spec/a | - | NotInObject("/spec/a") | not in the object: /spec/a
+below a path that is left out | @OBJECT | /spec/b/c | /spec/b | NotInObject("/spec/b/c") | not in the object: /spec/b/c
+no object | [] | /spec/a | - | NotInObject("/spec/a") | not in the object: /spec/a
+two objects | [{},{}] | /spec | - | NotInObject("/spec") | not in the object: /spec
+the first of two | [{"spec":{}}] | /spec/b/c /x | - | NotInObject("/spec/b/c") | not in the object: /spec/b/c
+an item of a map list | @OBJECT | - | /list/[] | BadPath("/list/[]") | bad path /list/[]
+no such path | [] | - | /status /none | BadPath("/none") | bad path /none
+a varied path first | @OBJECT | /q | /none | BadPath("/q") | bad path /q
+"#;
 
-static FAULTS: [Refused; 13] = [
-    Refused {
-        name: "no such field",
-        objects: OBJECT,
-        varied: "/spec/x",
-        without: "",
-        answer: Answer::BadPath("/spec/x"),
-    },
-    Refused {
-        name: "through a list",
-        objects: OBJECT,
-        varied: "/list/[]/k",
-        without: "",
-        answer: Answer::BadPath("/list/[]/k"),
-    },
-    Refused {
-        name: "the beginning of a name",
-        objects: OBJECT,
-        varied: "/spe",
-        without: "",
-        answer: Answer::BadPath("/spe"),
-    },
-    Refused {
-        name: "no name",
-        objects: OBJECT,
-        varied: "/",
-        without: "",
-        answer: Answer::BadPath("/"),
-    },
-    Refused {
-        name: "nothing that the field belongs to",
-        objects: r#"[{"spec":{"a":5}}]"#,
-        varied: "/spec/b/c",
-        without: "",
-        answer: Answer::NotInObject("/spec/b/c"),
-    },
-    Refused {
-        name: "a null that the field would belong to",
-        objects: r#"[{"spec":null}]"#,
-        varied: "/spec/a",
-        without: "",
-        answer: Answer::NotInObject("/spec/a"),
-    },
-    Refused {
-        name: "below a path that is left out",
-        objects: OBJECT,
-        varied: "/spec/b/c",
-        without: "/spec/b",
-        answer: Answer::NotInObject("/spec/b/c"),
-    },
-    Refused {
-        name: "no object",
-        objects: "[]",
-        varied: "/spec/a",
-        without: "",
-        answer: Answer::NotInObject("/spec/a"),
-    },
-    Refused {
-        name: "two objects",
-        objects: "[{},{}]",
-        varied: "/spec",
-        without: "",
-        answer: Answer::NotInObject("/spec"),
-    },
-    Refused {
-        name: "the first of two",
-        objects: r#"[{"spec":{}}]"#,
-        varied: "/spec/b/c /x",
-        without: "",
-        answer: Answer::NotInObject("/spec/b/c"),
-    },
-    Refused {
-        name: "an item of a map list",
-        objects: OBJECT,
-        varied: "",
-        without: "/list/[]",
-        answer: Answer::BadPath("/list/[]"),
-    },
-    Refused {
-        name: "no such path",
-        objects: "[]",
-        varied: "",
-        without: "/status /none",
-        answer: Answer::BadPath("/none"),
-    },
-    Refused {
-        name: "a varied path first",
-        objects: OBJECT,
-        varied: "/q",
-        without: "/none",
-        answer: Answer::BadPath("/q"),
-    },
-];
+/// Objects of `NESTED`, the varied paths, those that never occur, and the members `fixed`, `present` and `paths`.
+struct VariedRow;
 
-fn try_varied(report: &mut Report, alloc: Global, row: &VariedRow) -> Result<(), Fail> {
-    let asked = (row.varied, row.without);
-    let document = suggested(alloc, NESTED, row.objects, asked, PoolLimits::STANDARD)??;
-    has_member(report, alloc, &document, "fixed", row.fixed)?;
-    has_member(report, alloc, &document, "present", row.present)?;
-    has_member(report, alloc, &document, "paths", row.paths)
+impl Kind for VariedRow {
+    fn attempt(&self, report: &mut Report, alloc: Global, row: &Row) -> Result<(), Fail> {
+        let asked = (row.text("varied"), row.text("without"));
+        let document = suggested(
+            alloc,
+            NESTED,
+            row.text("objects"),
+            asked,
+            PoolLimits::STANDARD,
+        )??;
+        has_member(report, alloc, &document, "fixed", row.text("fixed"))?;
+        has_member(report, alloc, &document, "present", row.text("present"))?;
+        has_member(report, alloc, &document, "paths", row.text("paths"))
+    }
 }
 
 #[test]
 fn varied(rt: HostRuntime) -> Result<(), Fail> {
-    let mut report = Report::new(rt.alloc());
-    for row in &VARIED {
-        let ended = try_varied(&mut report, rt.alloc(), row);
-        report.row(row.name, ended);
-    }
-    report.end(&rt)
+    try_tables(&rt, rt.alloc(), &VariedRow, &[NAMED, VARIED])
 }
 
 fn answer_of(document: &Result<Tree, SuggestFault>) -> Answer<'_> {
@@ -251,17 +100,6 @@ fn answer_of(document: &Result<Tree, SuggestFault>) -> Answer<'_> {
         Err(SuggestFault::NotInObject(path)) => Answer::NotInObject(path.as_str()),
         Err(SuggestFault::TooLarge) => Answer::TooLarge,
         Err(SuggestFault::NoMemory) => Answer::NoMemory,
-    }
-}
-
-/// What a fault prints: each phrase once.
-fn phrase_of(alloc: Global, answer: Answer<'_>) -> Result<String, AllocError> {
-    match answer {
-        Answer::Suggested => String::from_str(alloc, "no fault"),
-        Answer::BadPath(path) => format!(in alloc; "bad path {path}"),
-        Answer::NotInObject(path) => format!(in alloc; "not in the object: {path}"),
-        Answer::TooLarge => String::from_str(alloc, "too large"),
-        Answer::NoMemory => String::from_str(alloc, "out of memory"),
     }
 }
 
@@ -276,28 +114,34 @@ fn is_answer(
     report: &mut Report,
     alloc: Global,
     document: &Result<Tree, SuggestFault>,
-    wanted: Answer<'_>,
+    row: &Row,
 ) -> Result<(), Fail> {
-    report.is_value("the answer", &answer_of(document), &wanted);
-    let phrase = phrase_of(alloc, wanted)?;
-    report.is_text("what is printed", &said_of(alloc, document)?, &phrase);
+    report.is_shown("the answer", &answer_of(document), row.text("answer"))?;
+    let found = said_of(alloc, document)?;
+    report.is_text("what is printed", found.as_str(), row.text("phrase"));
     Ok(())
 }
 
-fn try_fault(report: &mut Report, alloc: Global, row: &Refused) -> Result<(), Fail> {
-    let asked = (row.varied, row.without);
-    let document = suggested(alloc, NESTED, row.objects, asked, PoolLimits::STANDARD)?;
-    is_answer(report, alloc, &document, row.answer)
+/// Objects of `NESTED`, the varied paths, those that never occur, and why there is no document.
+struct Refused;
+
+impl Kind for Refused {
+    fn attempt(&self, report: &mut Report, alloc: Global, row: &Row) -> Result<(), Fail> {
+        let asked = (row.text("varied"), row.text("without"));
+        let document = suggested(
+            alloc,
+            NESTED,
+            row.text("objects"),
+            asked,
+            PoolLimits::STANDARD,
+        )?;
+        is_answer(report, alloc, &document, row)
+    }
 }
 
 #[test]
 fn faults(rt: HostRuntime) -> Result<(), Fail> {
-    let mut report = Report::new(rt.alloc());
-    for row in &FAULTS {
-        let ended = try_fault(&mut report, rt.alloc(), row);
-        report.row(row.name, ended);
-    }
-    report.end(&rt)
+    try_tables(&rt, rt.alloc(), &Refused, &[NAMED, FAULTS])
 }
 
 /// Adds so many members with this value, each after a comma but the first.
@@ -337,48 +181,27 @@ fn many_fields(alloc: Global, count: u32) -> Result<(String, String), AllocError
     Ok((schema, objects))
 }
 
-/// How many fields each of the objects has, the limits, and what is answered.
-struct ManyFields {
-    name: &'static str,
-    fields: u32,
-    limits: PoolLimits,
-    answer: Answer<'static>,
-}
-
 /// With so many fields three times, as many are present beside the varied one, and the two objects on the way.
-static MANY_FIELDS: [ManyFields; 3] = [
-    ManyFields {
-        name: "64 present",
-        fields: 21,
-        limits: PoolLimits::STANDARD,
-        answer: Answer::Suggested,
-    },
-    ManyFields {
-        name: "67 present",
-        fields: 22,
-        limits: PoolLimits::STANDARD,
-        answer: Answer::TooLarge,
-    },
-    ManyFields {
-        name: "67 present of 1,024",
-        fields: 22,
-        limits: PoolLimits::LARGE,
-        answer: Answer::Suggested,
-    },
-];
+static MANY_FIELDS: &str = r#"
+3 rows: name | fields | limits | answer | phrase
+64 present | 21 | standard | Suggested | no fault
+67 present | 22 | standard | TooLarge | too large
+67 present of 1,024 | 22 | large | Suggested | no fault
+"#;
 
-fn try_many(report: &mut Report, alloc: Global, row: &ManyFields) -> Result<(), Fail> {
-    let (schema, objects) = many_fields(alloc, row.fields)?;
-    let document = suggested(alloc, &schema, &objects, ("/p/p/f0", ""), row.limits)?;
-    is_answer(report, alloc, &document, row.answer)
+/// How many fields each of the objects has, the limits, and what is answered.
+struct ManyFields;
+
+impl Kind for ManyFields {
+    fn attempt(&self, report: &mut Report, alloc: Global, row: &Row) -> Result<(), Fail> {
+        let (schema, objects) = many_fields(alloc, row.small("fields"))?;
+        let limits = limits_of(row.text("limits"))?;
+        let document = suggested(alloc, &schema, &objects, ("/p/p/f0", ""), limits)?;
+        is_answer(report, alloc, &document, row)
+    }
 }
 
 #[test]
 fn many_siblings(rt: HostRuntime) -> Result<(), Fail> {
-    let mut report = Report::new(rt.alloc());
-    for row in &MANY_FIELDS {
-        let ended = try_many(&mut report, rt.alloc(), row);
-        report.row(row.name, ended);
-    }
-    report.end(&rt)
+    try_tables(&rt, rt.alloc(), &ManyFields, &[MANY_FIELDS])
 }

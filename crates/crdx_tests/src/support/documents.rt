@@ -198,8 +198,40 @@ pub const ONE_OF_TWO_AT_THE_ROOT: &str = r#"{
     "oneOf":[{"required":["a"]},{"required":["b"]}]
 }"#;
 
-/// Pools with a number that is no integer.
-pub const FRACTION_IN_POOLS: &str = r#"{"integers":[1.5]}"#;
+/// An integer of 1 at least, and a text with a default.
+pub const BOUND_AND_DEFAULT: &str =
+    r#"{"type":"object","properties":{"a":{"type":"integer","minimum":1},"b":{"type":"string","default":"x"}}}"#;
 
-/// What `cover` says where each path is in some sample.
-pub const ALL_PATHS: &str = "crdx: all paths are in some sample\n";
+/// The document that a table names so.
+pub fn document(name: &str) -> Option<&'static str> {
+    match name {
+        "@WIDGET" => Some(WIDGET),
+        "@TEN_LINES" => Some(TEN_LINES),
+        "@LAST_LINES" => Some(LAST_LINES),
+        "@TRUTHS" => Some(TRUTHS),
+        "@ONE_OF_TWO" => Some(ONE_OF_TWO),
+        "@MAP_LIST" => Some(MAP_LIST),
+        "@LONG_MAP_LIST" => Some(LONG_MAP_LIST),
+        "@SPEC" => Some(SPEC),
+        "@FIFTEEN" => Some(FIFTEEN),
+        "@THIRTY_ONE" => Some(THIRTY_ONE),
+        "@SET" => Some(SET),
+        "@SIX_SETS" => Some(SIX_SETS),
+        "@NULLABLE" => Some(NULLABLE),
+        "@DEFAULTED" => Some(DEFAULTED),
+        "@LABELS" => Some(LABELS),
+        "@OPEN" => Some(OPEN),
+        "@OPEN_NULLABLE" => Some(OPEN_NULLABLE),
+        "@BROKEN" => Some(BROKEN),
+        "@BROKEN_LINES" => Some(BROKEN_LINES),
+        "@REQUIRED_LONG_MAP_LIST" => Some(REQUIRED_LONG_MAP_LIST),
+        "@TWO_DEFAULTS" => Some(TWO_DEFAULTS),
+        "@LIST_OF_OBJECTS" => Some(LIST_OF_OBJECTS),
+        "@AT_MOST_ONE" => Some(AT_MOST_ONE),
+        "@ONE_BOUND" => Some(ONE_BOUND),
+        "@NULL_OR_TRUTH" => Some(NULL_OR_TRUTH),
+        "@ONE_OF_TWO_AT_THE_ROOT" => Some(ONE_OF_TWO_AT_THE_ROOT),
+        "@BOUND_AND_DEFAULT" => Some(BOUND_AND_DEFAULT),
+        _ => None,
+    }
+}

@@ -3,10 +3,11 @@ ghost use Rattle.std.specs.Prelude.{IfOk};
 ghost use Rattle.plan.specs.Pools.PlanFault.{HasGoodPaths};
 
 use crate::support::documents::{
-    DEFAULTED, FIFTEEN, LABELS, MAP_LIST, NAMES, NULLABLE, ONE_OF_TWO, OPEN, REPEATED, SET, SPEC,
-    TRUTHS, TWO_INTEGER_KEYS, TWO_TEXTS, ZERO_AND_ONE, ZERO_AND_SEVEN,
+    DEFAULTED, FIFTEEN, MAP_LIST, REPEATED, SET, SPEC, TWO_INTEGER_KEYS, TWO_TEXTS, ZERO_AND_ONE,
+    ZERO_AND_SEVEN,
 };
 use crate::support::harness::{pools_of, schema_of};
+use crate::support::rows::Row;
 use plan::Plan;
 use std::alloc::Global;
 use std::test::Fail;
@@ -17,6 +18,15 @@ pub struct Given<'a> {
     pub schema: &'a str,
     pub pools: &'a str,
     pub limit: u32,
+}
+
+/// What a row says that a plan is made of.
+pub fn given_of(row: &Row) -> Given<'_> {
+    Given {
+        schema: row.text("schema"),
+        pools: row.text("pools"),
+        limit: row.small("limit"),
+    }
 }
 
 /// The plan of what is given.
@@ -32,20 +42,6 @@ pub fn made(alloc: Global, given: Given<'_>) -> Result<Plan<u64>, Fail>
 pub const TWO_FIELDS: Given<'static> = Given {
     schema: SPEC,
     pools: ZERO_AND_ONE,
-    limit: 4,
-};
-
-/// At least two of three truth values.
-pub const TWO_OF_THREE: Given<'static> = Given {
-    schema: TRUTHS,
-    pools: "{}",
-    limit: 4,
-};
-
-/// Exactly one of two truth values, and a third one.
-pub const ONE_OF_TWO_FIELDS: Given<'static> = Given {
-    schema: ONE_OF_TWO,
-    pools: "{}",
     limit: 4,
 };
 
@@ -77,37 +73,9 @@ pub const SETS: Given<'static> = Given {
     limit: 4,
 };
 
-/// The same with the highest limit of a plan over 64 bits.
-pub const SETS_OF_63_NODES: Given<'static> = Given {
-    schema: SET,
-    pools: REPEATED,
-    limit: 63,
-};
-
 /// A field with a default.
 pub const DEFAULTS: Given<'static> = Given {
     schema: DEFAULTED,
     pools: ZERO_AND_SEVEN,
     limit: 3,
-};
-
-/// A map over two names, one of which is listed twice.
-pub const LABELLED: Given<'static> = Given {
-    schema: LABELS,
-    pools: NAMES,
-    limit: 4,
-};
-
-/// An object that may be null.
-pub const NULLABLE_OBJECTS: Given<'static> = Given {
-    schema: NULLABLE,
-    pools: "{}",
-    limit: 2,
-};
-
-/// A value of four nodes, which is more than a sample may have.
-pub const LARGE_VALUES: Given<'static> = Given {
-    schema: OPEN,
-    pools: r#"{"any":[[1,2,3],[4,5,6]]}"#,
-    limit: 2,
 };

@@ -2,6 +2,7 @@
 use crate::support::fakes::{FailingSink, FakeInputs, Reads};
 use crate::support::phrases::with_phrases;
 use crate::support::report::Report;
+use crate::support::rows::{Kind, Row};
 use jtree::Tree;
 use plan::Pools;
 use schema::{Crd, SFault, read_crd};
@@ -75,10 +76,10 @@ pub fn is_tree(
 }
 
 /// Notes it unless a run wrote these texts and ended with this status.
-pub fn is_answer(report: &mut Report, output: &Output, out: &str, err: &str, status: u8) {
+pub fn is_answer(report: &mut Report, output: &Output, out: &str, err: &str, status: u64) {
     report.is_text("standard output", output.out.text(), out);
     report.is_text("standard error", output.err.text(), err);
-    report.is_number("the status", u64::from(output.status), u64::from(status));
+    report.is_number("the status", u64::from(output.status), status);
 }
 
 /// A CustomResourceDefinition whose one version, `v1`, has this schema.
@@ -94,14 +95,13 @@ pub fn definition(alloc: Global, schema: &str) -> Result<String, AllocError> {
 /// and in the other tables.
 #[derive(Clone, Copy)]
 pub struct Run<'a> {
-    pub name: &'a str,
     pub command: &'a str,
     pub crd: &'a str,
     /// The pools or the object.
     pub second: &'a str,
     pub out: &'a str,
     pub err: &'a str,
-    pub status: u8,
+    pub status: u64,
 }
 
 /// Tries a run.
@@ -114,32 +114,39 @@ pub fn try_run(report: &mut Report, alloc: Global, run: &Run<'_>) -> Result<(), 
     Ok(())
 }
 
-/// Tries each run.
-pub fn all_runs(report: &mut Report, alloc: Global, runs: &[Run<'_>]) {
-    for run in runs {
-        let ended = try_run(report, alloc, run);
-        report.row(run.name, ended);
+/// Runs: a command line, a definition, a second document, and the status.
+pub struct RunRow;
+
+impl Kind for RunRow {
+    fn attempt(&self, report: &mut Report, alloc: Global, row: &Row) -> Result<(), Fail> {
+        let run = Run {
+            command: row.text("command"),
+            crd: row.text("definition"),
+            second: row.text("second"),
+            out: row.out(),
+            err: row.err(),
+            status: row.number("status"),
+        };
+        try_run(report, alloc, &run)
     }
 }
 
 /// As `Run`, with a schema in place of the definition that has it.
 #[derive(Clone, Copy)]
 pub struct SchemaRun<'a> {
-    pub name: &'a str,
     pub command: &'a str,
     pub schema: &'a str,
     /// The pools or the object.
     pub second: &'a str,
     pub out: &'a str,
     pub err: &'a str,
-    pub status: u8,
+    pub status: u64,
 }
 
 /// Tries a run by a schema.
 pub fn try_schema_run(report: &mut Report, alloc: Global, run: &SchemaRun<'_>) -> Result<(), Fail> {
     let crd = definition(alloc, run.schema)?;
     let run = Run {
-        name: run.name,
         command: run.command,
         crd: crd.as_str(),
         second: run.second,
@@ -150,11 +157,20 @@ pub fn try_schema_run(report: &mut Report, alloc: Global, run: &SchemaRun<'_>) -
     try_run(report, alloc, &run)
 }
 
-/// Tries each run by a schema.
-pub fn all_schema_runs(report: &mut Report, alloc: Global, runs: &[SchemaRun<'_>]) {
-    for run in runs {
-        let ended = try_schema_run(report, alloc, run);
-        report.row(run.name, ended);
+/// As `RunRow`, with a schema in place of the definition that has it.
+pub struct SchemaRunRow;
+
+impl Kind for SchemaRunRow {
+    fn attempt(&self, report: &mut Report, alloc: Global, row: &Row) -> Result<(), Fail> {
+        let run = SchemaRun {
+            command: row.text("command"),
+            schema: row.text("schema"),
+            second: row.text("second"),
+            out: row.out(),
+            err: row.err(),
+            status: row.number("status"),
+        };
+        try_schema_run(report, alloc, &run)
     }
 }
 
@@ -241,128 +257,81 @@ pub fn try_schema(
     is_said(report, "what is read", said_of(alloc, schema), wanted)
 }
 
-/// A schema, and what is said of it.
-pub struct SchemaSaid {
-    pub name: &'static str,
-    pub schema: &'static str,
-    pub wanted: &'static str,
-}
+/// A schema, and what reading it says.
+pub struct SchemaSaidRow;
 
-/// As `try_schema`, of each row.
-pub fn all_schemas(report: &mut Report, alloc: Global, rows: &[SchemaSaid]) {
-    for row in rows {
-        let ended = try_schema(report, alloc, row.schema, row.wanted);
-        report.row(row.name, ended);
+impl Kind for SchemaSaidRow {
+    fn attempt(&self, report: &mut Report, alloc: Global, row: &Row) -> Result<(), Fail> {
+        try_schema(report, alloc, row.text("schema"), row.text("wanted"))
     }
 }
 
-/// A schema, or that of a field, and what `check` writes: `structural` with the status 0, or the lines of all that is broken with the
-/// status 1.
-#[derive(Clone, Copy)]
-pub struct Checked<'a> {
-    pub name: &'a str,
-    pub schema: &'a str,
-    pub out: &'a str,
+/// A schema, and what `check` writes: `structural` with the status 0, or the lines of all that is broken with the status 1.
+#[derive(Drop)]
+pub struct CheckedRow {
+    pub command: &'static str,
 }
 
-fn try_checked<'a>(
+/// Rows of `check` without options.
+pub const CHECKED: CheckedRow = CheckedRow { command: CHECK };
+
+const CHECK: &str = "crdx check crd.json v1";
+
+fn try_checked(
     report: &mut Report,
     alloc: Global,
-    command: &'a str,
-    row: &Checked<'a>,
+    command: &str,
+    schema: &str,
+    out: &str,
 ) -> Result<(), Fail> {
     let run = SchemaRun {
-        name: row.name,
         command,
-        schema: row.schema,
+        schema,
         second: "",
-        out: row.out,
+        out,
         err: "",
-        status: if row.out == "structural\n" { 0 } else { 1 },
+        status: if out == "structural\n" { 0 } else { 1 },
     };
     try_schema_run(report, alloc, &run)
 }
 
-/// Tries what a command writes of each schema, which is `check` with its options.
-pub fn all_checked_by<'a>(
-    report: &mut Report,
-    alloc: Global,
-    command: &'a str,
-    rows: &[Checked<'a>],
-) {
-    for row in rows {
-        let ended = try_checked(report, alloc, command, row);
-        report.row(row.name, ended);
+impl Kind for CheckedRow {
+    fn attempt(&self, report: &mut Report, alloc: Global, row: &Row) -> Result<(), Fail> {
+        try_checked(report, alloc, self.command, row.text("schema"), row.out())
     }
 }
 
-const CHECK: &str = "crdx check crd.json v1";
+/// As `CHECKED`, of an object with one field, `x`, of this schema.
+pub struct FieldRow;
 
-/// Tries what `check` writes of each schema.
-pub fn all_checked(report: &mut Report, alloc: Global, rows: &[Checked<'_>]) {
-    all_checked_by(report, alloc, CHECK, rows);
-}
-
-/// As `try_checked`, of an object with one field, `x`, of this schema.
-fn try_field(report: &mut Report, alloc: Global, row: &Checked<'_>) -> Result<(), Fail> {
-    let schema = object_with_field(alloc, row.schema)?;
-    let row = Checked {
-        name: row.name,
-        schema: schema.as_str(),
-        out: row.out,
-    };
-    try_checked(report, alloc, CHECK, &row)
-}
-
-/// Tries what `check` writes of each schema of a field.
-pub fn all_fields(report: &mut Report, alloc: Global, rows: &[Checked<'_>]) {
-    for row in rows {
-        let ended = try_field(report, alloc, row);
-        report.row(row.name, ended);
+impl Kind for FieldRow {
+    fn attempt(&self, report: &mut Report, alloc: Global, row: &Row) -> Result<(), Fail> {
+        let schema = object_with_field(alloc, row.text("field"))?;
+        try_checked(report, alloc, CHECK, schema.as_str(), row.out())
     }
 }
 
 /// An object by a schema, and what `validate` writes: `valid` with the status 0, or the lines of all faults with the status 1.
-#[derive(Clone, Copy)]
-pub struct Validated<'a> {
-    pub name: &'a str,
-    pub schema: &'a str,
-    pub object: &'a str,
-    pub out: &'a str,
+#[derive(Drop)]
+pub struct ValidatedRow {
+    pub command: &'static str,
 }
 
-fn try_validated<'a>(
-    report: &mut Report,
-    alloc: Global,
-    command: &'a str,
-    row: &Validated<'a>,
-) -> Result<(), Fail> {
-    let run = SchemaRun {
-        name: row.name,
-        command,
-        schema: row.schema,
-        second: row.object,
-        out: row.out,
-        err: "",
-        status: if row.out == "valid\n" { 0 } else { 1 },
-    };
-    try_schema_run(report, alloc, &run)
-}
+/// Rows of `validate` without options.
+pub const VALIDATED: ValidatedRow = ValidatedRow {
+    command: "crdx validate crd.json v1",
+};
 
-/// Tries what a command writes of each object, which is `validate` with its options.
-pub fn all_validated_by<'a>(
-    report: &mut Report,
-    alloc: Global,
-    command: &'a str,
-    rows: &[Validated<'a>],
-) {
-    for row in rows {
-        let ended = try_validated(report, alloc, command, row);
-        report.row(row.name, ended);
+impl Kind for ValidatedRow {
+    fn attempt(&self, report: &mut Report, alloc: Global, row: &Row) -> Result<(), Fail> {
+        let run = SchemaRun {
+            command: self.command,
+            schema: row.text("schema"),
+            second: row.text("object"),
+            out: row.out(),
+            err: "",
+            status: if row.out() == "valid\n" { 0 } else { 1 },
+        };
+        try_schema_run(report, alloc, &run)
     }
-}
-
-/// Tries what `validate` writes of each object.
-pub fn all_validated(report: &mut Report, alloc: Global, rows: &[Validated<'_>]) {
-    all_validated_by(report, alloc, "crdx validate crd.json v1", rows);
 }

@@ -56,6 +56,21 @@ pub fn are_sizes<S: SizeSet>(
     Ok(())
 }
 
+/// As `are_sizes`, of a text with the numbers.
+pub fn are_sizes_of<S: SizeSet>(
+    report: &mut Report,
+    alloc: Global,
+    what: &str,
+    set: S,
+    wanted: &str,
+) -> Result<(), Fail> {
+    let mut sizes = Vec::new(alloc);
+    for size in wanted.split_whitespace() {
+        sizes.push(size.parse::<u32>()?)?;
+    }
+    are_sizes(report, alloc, what, set, sizes.as_slice())
+}
+
 /// The sizes that the slots of a row from a place on can take; none where there is no such place.
 pub fn rest_of(
     plan: &Plan<u64>,
@@ -103,26 +118,25 @@ pub fn more_of(plan: &Plan<u64>, node: PlanNode, taken: u32) -> Option<u64>
     }
 }
 
-/// A node of a plan: the root, the root's first slot, a slot of this one, or its items.
-#[derive(Clone, Copy)]
-pub enum At {
-    Root,
-    First,
-    Slot(u64),
-    Item,
+fn place_in(text: &str) -> Option<u64> {
+    match text.strip_prefix("slot ") {
+        Some(place) => place.parse::<u64>().ok(),
+        None => None,
+    }
 }
 
-pub fn node_at(plan: &Plan<u64>, at: At, meter: &mut Meter) -> Option<PlanNode>
+/// A node of a plan: the root, the root's first slot, a slot of this one, or its items, by their names.
+pub fn node_at(plan: &Plan<u64>, at: &str, meter: &mut Meter) -> Option<PlanNode>
     ensures { IfSome result (λ n. n < length (sites_of plan.now.pools plan.now.root)) }
 {
     let root = plan.root();
-    if let At::Root = at {
+    if at == "root" {
         return Some(root);
     }
     let first = slot_of(plan, root, 0, meter)?;
     match at {
-        At::Root | At::First => Some(first),
-        At::Slot(place) => slot_of(plan, first, place, meter),
-        At::Item => item_of(plan, first, 0, meter),
+        "first" => Some(first),
+        "item" => item_of(plan, first, 0, meter),
+        _ => slot_of(plan, first, place_in(at)?, meter),
     }
 }

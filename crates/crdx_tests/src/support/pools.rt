@@ -1,6 +1,7 @@
 //! What is read of documents of pools.
 use crate::support::harness::is_said;
 use crate::support::report::Report;
+use crate::support::rows::{Kind, Row};
 use jtree::Tree;
 use plan::{Oversized, PFault, PoolLimits, PoolName, Pools, oversized_pool};
 use std::alloc::{AllocError, Global};
@@ -65,25 +66,23 @@ pub fn outcome(alloc: Global, document: &str, limits: PoolLimits) -> Result<Stri
 }
 
 /// A document, and how many entries there are in each pool, or the fault.
-pub struct Document {
-    pub name: &'static str,
-    pub document: &'static str,
-    pub wanted: &'static str,
+#[derive(Drop)]
+pub struct DocumentRow {
+    pub limits: PoolLimits,
 }
 
-fn try_document(
-    report: &mut Report,
-    alloc: Global,
-    limits: PoolLimits,
-    row: &Document,
-) -> Result<(), Fail> {
-    let found = outcome(alloc, row.document, limits);
-    is_said(report, "what is read", found, row.wanted)
+impl Kind for DocumentRow {
+    fn attempt(&self, report: &mut Report, alloc: Global, row: &Row) -> Result<(), Fail> {
+        let found = outcome(alloc, row.text("document"), self.limits);
+        is_said(report, "what is read", found, row.text("wanted"))
+    }
 }
 
-pub fn all_documents(report: &mut Report, alloc: Global, limits: PoolLimits, rows: &[Document]) {
-    for row in rows {
-        let ended = try_document(report, alloc, limits, row);
-        report.row(row.name, ended);
+/// The limits of this name.
+pub fn limits_of(name: &str) -> Result<PoolLimits, Fail> {
+    match name {
+        "standard" => Ok(PoolLimits::STANDARD),
+        "large" => Ok(PoolLimits::LARGE),
+        _ => Err(Fail::from("no such limits")),
     }
 }

@@ -50,6 +50,18 @@ impl Report {
         self.is_value(what, &found, &wanted);
     }
 
+    /// Notes it unless the value is shown so.
+    pub fn is_shown<T: Debug>(
+        &mut self,
+        what: &str,
+        found: &T,
+        wanted: &str,
+    ) -> Result<(), AllocError> {
+        let found = format!(in self.alloc; "{found:?}")?;
+        self.is_text(what, found.as_str(), wanted);
+        Ok(())
+    }
+
     /// Notes it unless the number is the one that is wanted.
     pub fn is_number(&mut self, what: &str, found: u64, wanted: u64) {
         self.is_value(what, &found, &wanted);

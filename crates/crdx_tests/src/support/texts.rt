@@ -1,21 +1,12 @@
 //! Long texts, and beginnings of texts.
+use crate::support::rows::Row;
 use std::alloc::{AllocError, Global};
 use std::test::Fail;
 
-/// A row of long texts: a text so many times, a text between, another text as often, and what is said of the whole.
-pub struct Border {
-    pub name: &'static str,
-    pub before: &'static str,
-    pub times: usize,
-    pub middle: &'static str,
-    pub after: &'static str,
-    pub wanted: &'static str,
-}
-
-impl Border {
-    pub fn text(&self, alloc: Global) -> Result<String, AllocError> {
-        nested(alloc, self.before, self.times, self.middle, self.after)
-    }
+/// The long text of a row: a text so many times, a text between, and another text as often.
+pub fn border_of(alloc: Global, row: &Row) -> Result<String, AllocError> {
+    let (before, middle, after) = (row.text("before"), row.text("middle"), row.text("after"));
+    nested(alloc, before, row.count("times"), middle, after)
 }
 
 fn push_times(text: &mut String, part: &str, times: usize) -> Result<(), AllocError> {
