@@ -10,10 +10,11 @@ use std::test::Fail;
 fn set_of<S: SizeSet>(members: &str) -> Result<S, Fail> {
     let mut set = S::empty();
     for member in members.split_whitespace() {
-        match member.parse::<u32>() {
-            Ok(n) if n < S::BITS => set = set.union(S::one(n)),
-            _ => return Err(Fail::from("no size")),
+        let n = member.parse::<u32>()?;
+        if n >= S::BITS {
+            return Err(Fail::from("no size"));
         }
+        set = set.union(S::one(n));
     }
     Ok(set)
 }

@@ -355,13 +355,22 @@ impl Tables {
     }
 }
 
+fn are_whole(rows: &[Row]) -> bool {
+    for row in rows {
+        if !row.is_whole() {
+            return false;
+        }
+    }
+    true
+}
+
 /// The rows of these tables, where there are as many as the heads say, and each has as many cells.
 pub fn rows_of(alloc: Global, tables: &[&str]) -> Result<Vec<Row>, Fail> {
     let mut all = Tables::new(alloc);
     for table in tables {
         all.push_table(table)?;
     }
-    if all.rows.len() != all.promised || !all.rows.iter().all(Row::is_whole) {
+    if all.rows.len() != all.promised || !are_whole(all.rows.as_slice()) {
         return Err(Fail::from("not the rows or the cells that the heads say"));
     }
     Ok(all.rows)
