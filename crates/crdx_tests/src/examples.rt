@@ -30,7 +30,10 @@ fn jtree(rt: HostRuntime) -> Result<(), Fail> {
 fn go_text_of_a_pattern(rt: HostRuntime) -> Result<(), Fail> {
     let alloc = rt.alloc();
     let written = go_text::in_kit_syntax(alloc, r"\d+[a&&b]")?;
-    assert!(rt; written.is_some_and(|text| text.as_str() == r"[0-9]+[a\&\&b]"), "written");
+    assert!(rt;
+        written.is_some_and(|text| text.as_str() == r"[0-9]+[a\&\&b]"),
+        "written"
+    );
     Ok(())
 }
 
