@@ -8,11 +8,13 @@ use crdx::run;
 use enumerate::page;
 use explain::Listing;
 use jtree::Tree;
+use patterns::{Pattern, PatternTests};
 use plan::{Plan, PoolLimits, Pools};
 use schema::{breaks, read_crd};
 use std::test::Fail;
 use stored::{accept, complete};
 use suggest::{Wanted, suggested_pools};
+use text_tests::TextTests;
 
 #[test]
 fn jtree(rt: HostRuntime) -> Result<(), Fail> {
@@ -21,6 +23,27 @@ fn jtree(rt: HostRuntime) -> Result<(), Fail> {
     let text = tree.to_text(alloc)?;
     assert_eq!(rt; text.as_str(), r#"{"a":null,"b":[1,2]}"#);
     assert_eq!(rt; tree.nodes(), 5);
+    Ok(())
+}
+
+#[test]
+fn go_text_of_a_pattern(rt: HostRuntime) -> Result<(), Fail> {
+    let alloc = rt.alloc();
+    let written = go_text::in_kit_syntax(alloc, r"\d+[a&&b]")?;
+    assert!(rt;
+        written.is_some_and(|text| text.as_str() == r"[0-9]+[a\&\&b]"),
+        "written"
+    );
+    Ok(())
+}
+
+#[test]
+fn patterns_and_text_tests(rt: HostRuntime) -> Result<(), Fail> {
+    let alloc = rt.alloc();
+    let patterns = [Pattern::new(alloc, "^[a-z]+$")?];
+    let mut tests = PatternTests::new(alloc, &patterns)?;
+    let is_word = tests.test("^[a-z]+$", "widget")?;
+    assert!(rt; is_word, "a word");
     Ok(())
 }
 

@@ -22,6 +22,7 @@
 //! | `stored_tests/value_cases` | values of a field that are valid or not, stored or not |
 //! | `stored_tests/bound_cases` | numbers of parts within bounds, and junctors by any test of a branch |
 //! | `explain_tests/field_cases` | the fields of a listing, and the field and the node of a path |
+//! | `patterns_tests/pattern_cases` | patterns: what they match, what is none or too big, how they are written for the kit, and matchers that are kept |
 //! | `plan_tests/pools_cases`, `pool_limit_cases` | documents of pools, and how many entries they may have |
 //! | `plan_tests/size_set_cases` | sets of sizes |
 //! | `plan_tests/plan_cases`, `size_cases` | plans: their nodes, slots and limits, and the sizes of what may be there |
@@ -63,6 +64,8 @@ mod examples;
 mod explain_tests;
 #[cfg(test)]
 mod jtree_tests;
+#[cfg(test)]
+mod patterns_tests;
 #[cfg(test)]
 mod plan_tests;
 #[cfg(test)]

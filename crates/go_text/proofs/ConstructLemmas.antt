@@ -1,5 +1,5 @@
 -- How the reading of the constructs of a pattern goes on.
-use Rattle.std.proofs.Common.{◌≡◌, ◌≤◌, ◌∙◌, ℕ, zero, suc, List, [], ◌∷◌, ◌++◌, length, Bool, false, Option, Some, None, option_map, refl, sym, ap, append_assoc, append-nil, arith}
+use Rattle.std.proofs.Common.{◌≡◌, ◌≤◌, ◌∙◌, ℕ, zero, suc, [], ◌∷◌, ◌++◌, length, Bool, false, Option, Some, None, option_map, refl, sym, ap, append_assoc, append-nil, arith}
 use Rattle.go_text.specs.Texts.{Text, Reading}
 use Rattle.go_text.specs.KitSyntax.{Construct, construct, constructs, and_then, read_once}
 use Rattle.go_text.specs.Internal.Written.{behind, construct_behind}

@@ -1,5 +1,5 @@
 -- How the reading of the members of a class goes on.
-use Rattle.std.proofs.Common.{◌≡◌, ◌≤◌, ◌<◌, ◌+◌, ◌∙◌, ℕ, zero, suc, List, [], ◌∷◌, ◌++◌, length, Bool, true, false, Option, Some, None, option_map, refl, sym, ap, codes, append_assoc, arith, String, Bor}
+use Rattle.std.proofs.Common.{◌≡◌, ◌≤◌, ◌∙◌, ℕ, zero, suc, [], ◌∷◌, ◌++◌, length, Bool, true, false, Option, Some, None, option_map, refl, sym, ap, codes, append_assoc, arith, String, Bor}
 use Rattle.std.specs.Global.{Global}
 use Rattle.go_text.specs.Texts.{Text, Reading}
 use Rattle.go_text.specs.Brackets.{member, members, closes, class_of, then_more}

@@ -1,8 +1,7 @@
 -- How a text is cut, split and compared, one character more.
-use Rattle.std.proofs.Common.{◌≡◌, ◌+◌, ◌<◌, ℕ, List, [], ◌∷◌, ◌++◌, length, take, drop, get_or, nat_eq, Bool, true, false, cond, Option, Some, None, option_map, refl, sym, ap, ◌∙◌, append_assoc, append-nil}
-use Rattle.std.proofs.lemmas.List.{drop_more, take_more, at_drop_more}
+use Rattle.std.proofs.Common.{◌≡◌, ◌+◌, ◌<◌, ℕ, [], ◌∷◌, ◌++◌, length, take, drop, get_or, nat_eq, true, false, Option, Some, None, option_map, refl, sym, ap, ◌∙◌, append_assoc, append-nil}
+use Rattle.std.proofs.lemmas.List.{drop_more, take_more}
 use Rattle.std.specs.List.{starts_with}
-use lib.Pointwise.{pointwise}
 use Rattle.go_text.specs.Texts.{Text, with_first, cut}
 use Rattle.go_text.specs.Groups.{is_flag, split_flags}
 

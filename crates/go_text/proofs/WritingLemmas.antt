@@ -1,5 +1,5 @@
 -- The characters of a text with more at its end.
-use Rattle.std.proofs.Common.{◌≡◌, ◌<◌, ◌∙◌, ℕ, List, [], ◌∷◌, ◌++◌, Bool, true, ap, sym, refl, chars, encode_utf8, string_bytes, append-nil, String, IsTrue, zero, suc, false, ◌&&◌, arith}
+use Rattle.std.proofs.Common.{◌≡◌, ◌∙◌, ℕ, List, [], ◌∷◌, ◌++◌, Bool, true, ap, sym, refl, chars, encode_utf8, string_bytes, append-nil, String, IsTrue, zero, suc, false, ◌&&◌, arith}
 use Rattle.std.proofs.lemmas.Bool.Decides.{nat_tests}
 use Rattle.std.specs.Global.{Global}
 use Rattle.std.proofs.lemmas.Str.{chars-append, chars-nil, chars_past_char, chars-IsAscii, IsUtf8-string_bytes, IsUtf8-encode}

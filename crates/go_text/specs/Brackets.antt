@@ -1,9 +1,9 @@
 -- Classes in brackets. Go's documentation of regexp/syntax: "Character classes", "ASCII character classes".
-use Rattle.std.specs.Prelude.{ℕ, zero, suc, Bool, true, false, not, ◌&&◌, ◌||◌, [], ◌∷◌, ◌++◌, length, Option, Some, None, option_map, if◌then◌else◌, codes}
+use Rattle.std.specs.Prelude.{ℕ, zero, suc, Bool, true, false, not, ◌&&◌, ◌||◌, [], ◌∷◌, ◌++◌, length, Option, Some, None, if◌then◌else◌, codes}
 use Rattle.go_text.specs.Texts.{Text, Reading, ◌∈◌, spells, cut}
 use Rattle.go_text.specs.Literals.{literal}
 use Rattle.go_text.specs.Escapes.{perl_class, character_escape}
-use Rattle.go_text.specs.Properties.{before, property}
+use Rattle.go_text.specs.Properties.{property}
 
 -- `[:alpha:]`, and with a caret before the name its negation
 abbrev pub is_posix_name : Text → Bool

@@ -1,6 +1,6 @@
 -- The text of a pattern in Go's syntax, written in the syntax of the kit's crate `regex`. Go's documentation of regexp/syntax, construct by
 -- construct; what a text means then is what the kit's grammar says of the text that is written.
-use Rattle.std.specs.Prelude.{ℕ, zero, suc, Bool, true, false, not, ◌&&◌, ◌||◌, [], ◌∷◌, ◌++◌, length, ◌==◌, Option, Some, None, option_map, if◌then◌else◌, codes}
+use Rattle.std.specs.Prelude.{ℕ, zero, suc, Bool, true, false, not, ◌&&◌, [], ◌∷◌, ◌++◌, length, ◌==◌, Option, Some, None, option_map, if◌then◌else◌, codes}
 use Rattle.go_text.specs.Texts.{Text, Reading, ◌∈◌, cut}
 use Rattle.go_text.specs.Literals.{escaped, literal, literals}
 use Rattle.go_text.specs.Escapes.{perl_class, character_escape}

@@ -1,6 +1,6 @@
 -- Classes of Unicode, after `\p` or `\P`. Go's documentation of regexp/syntax: "Unicode character class"; the names are the keys of
 -- unicode.Categories and unicode.Scripts.
-use Rattle.std.specs.Prelude.{ℕ, Bool, true, false, not, ◌&&◌, ◌||◌, ◌==◌, [], ◌∷◌, ◌++◌, length, Option, Some, None, if◌then◌else◌, codes}
+use Rattle.std.specs.Prelude.{ℕ, Bool, false, not, ◌&&◌, ◌||◌, ◌==◌, [], ◌∷◌, ◌++◌, length, Option, Some, None, if◌then◌else◌, codes}
 use Rattle.std.specs.List.{list_all}
 use Rattle.std.specs.Char.{is_ascii_alphabetic, is_ascii_uppercase}
 use Rattle.go_text.specs.Texts.{Text, Reading, ◌∈◌, spells, cut}

@@ -1,9 +1,9 @@
 -- Repetitions. Go's documentation of regexp/syntax: "Repetitions", and "the counting forms x{n,m}, x{n,}, and x{n} reject forms that create
 -- a minimum or maximum repetition count above 1000".
-use Rattle.std.specs.Prelude.{ℕ, ◌&&◌, ◌||◌, ◌==◌, not, Bool, true, false, [], ◌∷◌, ◌++◌, length, nat_lt, nat_le, Option, Some, None, if◌then◌else◌, codes}
+use Rattle.std.specs.Prelude.{◌&&◌, ◌||◌, ◌==◌, not, Bool, false, [], ◌∷◌, length, nat_lt, nat_le, Option, Some, None, codes}
 use Rattle.std.specs.List.{list_all}
 use Rattle.std.specs.Char.{is_ascii_digit}
-use Rattle.go_text.specs.Texts.{Text, Reading, ◌∈◌, spells, cut}
+use Rattle.go_text.specs.Texts.{Text, ◌∈◌, spells, cut}
 
 abbrev pub begins_with_zero : Text → Bool
 begins_with_zero [] = false

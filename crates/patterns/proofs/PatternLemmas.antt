@@ -1,8 +1,8 @@
 -- What a text is read as, and that a compiled pattern matches so.
-use Rattle.std.proofs.Common.{◌≡◌, ◌≢◌, ℕ, ◌<◌, ◌≤◌, List, All, Bool, true, false, Option, Some, None, option_and_then, IsSomeAnd, IfSome, ◌⊎◌, inl, inr, is_some, refl, sym, ap, ◌∙◌, arith, chars}
+use Rattle.std.proofs.Common.{◌≡◌, ◌≢◌, ℕ, ◌<◌, ◌≤◌, List, All, true, false, Option, Some, None, option_and_then, IsSomeAnd, IfSome, ◌⊎◌, inl, inr, is_some, refl, sym, ap, ◌∙◌, chars}
 use Rattle.std.proofs.lemmas.Bool.{le-leb, lt-leb, cond-true, cond-false}
 use Rattle.std.proofs.lemmas.List.{get_or_default}
-use Rattle.regex.specs.Patterns.{Re, find_str, SameCaptures, default_config, Reads, Refuses}
+use Rattle.regex.specs.Patterns.{Re, SameCaptures, default_config, Reads, Refuses}
 use Rattle.regex.specs.Strings.{regex_pattern, regex_source, regex_config, IsReadFromSource}
 use Rattle.regex.specs.Failures.{IsPattern, IsRightKind}
 use Rattle.regex.specs.Sources.{IsRefusal}

@@ -6,8 +6,8 @@
 //! ```
 //! let patterns = [Pattern::new(alloc, "^[a-z]+$")?];
 //! let mut tests = PatternTests::new(alloc, &patterns)?;
-//! let yes = tests.test("^[a-z]+$", "widget")?;
-//! assert!(rt; yes, "a word");
+//! let is_word = tests.test("^[a-z]+$", "widget")?;
+//! assert!(rt; is_word, "a word");
 //! ```
 //!
 //! What a pattern means is what the kit's grammar of regular expressions says of the text that `go_text` writes for it. That this is what

@@ -2,8 +2,8 @@
 use Rattle.std.specs.Global.{Global}
 use Rattle.std.specs.Prelude.{String}
 use Rattle.std.specs.Borrow.{Bor}
-use Rattle.std.specs.Prelude.{ℕ, List, [], ◌∷◌, ◌++◌, Option, Some, None, option_map, codes, chars, string_bytes}
-use Rattle.go_text.specs.Texts.{Text, Reading}
+use Rattle.std.specs.Prelude.{[], ◌∷◌, ◌++◌, Option, Some, None, codes, chars, string_bytes}
+use Rattle.go_text.specs.Texts.{Text}
 use Rattle.go_text.specs.Literals.{escaped, literals}
 use Rattle.go_text.specs.declared.piece.Piece.{Piece}
 use Rattle.go_text.specs.declared.piece.Piece.TheVariants.{Fixed, Plain, Escaped, Lazy, Literals, Copied}

@@ -1,4 +1,4 @@
-use Rattle.std.proofs.Common.{◌≡◌, ◌≤◌, length, ◌++◌, ◌∷◌, [], ◌∙◌, sym, ap, Some, None, option_map, codes, rules, arith, true, false}
+use Rattle.std.proofs.Common.{◌≡◌, ◌≤◌, length, ◌++◌, ◌∷◌, [], ◌∙◌, sym, ap, Some, None, option_map, codes, rules, arith}
 use Rattle.go_text.specs.Brackets as spec
 use Rattle.go_text.specs.Internal.View.{text_of, member_of}
 use Rattle.go_text.proofs.MemberLemmas.{ahead_more, ahead_closed, ahead_refused, ahead_end, none_behind}

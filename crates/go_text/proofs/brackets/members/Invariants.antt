@@ -1,4 +1,4 @@
-use Rattle.std.proofs.Common.{ℕ, ◌≤◌, length, true, option_map}
+use Rattle.std.proofs.Common.{◌≤◌, length, true, option_map}
 use Rattle.go_text.specs.Brackets.{members}
 use Rattle.go_text.specs.Internal.View.{text_of}
 use Rattle.go_text.specs.Internal.Written.{behind}

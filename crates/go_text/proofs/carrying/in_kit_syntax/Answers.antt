@@ -1,4 +1,4 @@
-use Rattle.std.proofs.Common.{◌≡◌, ◌≤◌, ◌∷◌, ◌∙◌, [], length, sym, ap, refl, false, chars, Some, None, option_map, rules, arith, List, ℕ}
+use Rattle.std.proofs.Common.{◌≡◌, ◌≤◌, ◌∷◌, ◌∙◌, [], length, sym, ap, chars, Some, None, option_map, rules, arith}
 use Rattle.std.proofs.lemmas.Str.{chars_from_encodes, chars-nil}
 use Rattle.go_text.specs.KitSyntax as spec
 use Rattle.go_text.specs.Internal.View.{text_of}

@@ -1,4 +1,4 @@
-use Rattle.std.proofs.Common.{ℕ, length, chars}
+use Rattle.std.proofs.Common.{length, chars}
 use Rattle.go_text.specs.KitSyntax.{in_kit_syntax}
 use Rattle.go_text.specs.Internal.View.{text_of}
 use Rattle.go_text.proofs.ConstructLemmas.{IsAhead}

@@ -1,7 +1,6 @@
-use Rattle.std.proofs.Common.{◌≡◌, ◌∙◌, ap, sym, rules, arith, true, false, get_or}
+use Rattle.std.proofs.Common.{◌≡◌, ◌∙◌, ap, sym, rules, true, false, get_or}
 use Rattle.std.proofs.lemmas.List.{get_or_default}
-use Rattle.go_text.specs.Groups.{is_flag, split_flags}
-use Rattle.go_text.specs.Internal.View.{parts_of}
+use Rattle.go_text.specs.Groups.{is_flag}
 use Rattle.go_text.proofs.TextLemmas.{flags_more, flags_end}
 use Rattle.go_text.proofs.groups.split_flags.Goals as goal
 

@@ -1,4 +1,4 @@
-use Rattle.std.proofs.Common.{◌∙◌, rules, arith}
+use Rattle.std.proofs.Common.{◌∙◌, rules}
 use Rattle.go_text.proofs.TextLemmas.{cut_more, cut_found}
 use Rattle.go_text.proofs.texts.cut.Goals as goal
 

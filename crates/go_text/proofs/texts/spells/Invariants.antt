@@ -1,4 +1,4 @@
-use Rattle.std.proofs.Common.{◌≡◌, drop, nat_eq, length}
+use Rattle.std.proofs.Common.{◌≡◌, drop, nat_eq}
 use lib.Pointwise.{pointwise}
 use Rattle.go_text.proofs.texts.spells.Given as goal
 

@@ -1,4 +1,4 @@
-use Rattle.std.proofs.Common.{◌≡◌, ◌∙◌, sym, ap, subst, rules, chars, string_bytes}
+use Rattle.std.proofs.Common.{◌≡◌, sym, subst, rules, string_bytes}
 use Rattle.regex.specs.Strings.{regex_pattern, regex_source}
 use Rattle.patterns.specs.Internal.Compiled.{MatchesAs}
 use Rattle.patterns.proofs.PatternLemmas.{IsWritten, matches_as, compiled_is_pattern, syntax_is_none, big_is_pattern}
