@@ -2,7 +2,8 @@
 use crate::support::fakes::FailingSource;
 use crate::support::harness::is_said;
 use crate::support::report::Report;
-use crate::support::texts::{Border, repeated};
+use crate::support::rows::{Kind, Row, all_rows, try_tables};
+use crate::support::texts::{border_of, repeated};
 use jtree::lines::{LineFeed, LineSource};
 use jtree::{JFault, Number, Numbers, Tree};
 use std::alloc::{AllocError, Global};
@@ -17,252 +18,97 @@ fn said_of(alloc: Global, read: Result<Tree, JFault>) -> Result<String, Fail> {
     }
 }
 
+// Where integers alone are read, and where all numbers are.
+static WHOLE: &str = r#"
+15 rows: name | document | integers | all
+an integer | 7 | 7 | 7
+a point | 1.0 | J1 | 1
+an exponent | 1e2 | J1 | 100
+no number below zero | -0 | J1 | 0
+no fraction below zero | -0.0 | J1 | 0
+a point that the exponent moves | 2.50e1 | J1 | 25
+one that it moves back | -30E-1 | J1 | -3
+zero with an exponent | 0e999 | J1 | 0
+the greatest integer | 9223372036854775807 | 9223372036854775807 | 9223372036854775807
+the least integer | -9223372036854775808 | -9223372036854775808 | -9223372036854775808
+the greatest with a point | 9007199254740991.0 | J1 | 9007199254740991
+the least with a point | -9007199254740991.0 | J1 | -9007199254740991
+2^53 with a point | 9007199254740992.0 | J1 | 9007199254740992.0
+-2^53 with a point | -9007199254740992.0 | J1 | -9007199254740992.0
+past 2^53 | 1e16 | J1 | 1e16
+"#;
+
+static OTHERS: &str = r#"
+14 rows: name | document | integers | all
+a half | 0.5 | J1 | 0.5
+the same in three digits, between spaces | ␠0.50␠ | J1 | 0.50
+the text as it is written | 25E-1 | J1 | 25E-1
+the nearest float is 0 | 1e-999 | J1 | 1e-999
+past the integers | 9223372036854775808 | J1 | 9223372036854775808
+before the integers | -9223372036854775809 | J1 | -9223372036854775809
+beyond the floats | 1e999 | J3 | J3
+one of a list | [0.5,-1e999] | J3 | J3
+two points | 0.5. | J3 | J3
+a zero before digits | 01.5 | J3 | J3
+a plus | +0.5 | J3 | J3
+no digit before the point | .5 | J3 | J3
+two numbers | 0.5 0.5 | J3 | J3
+members and items | {"b":0.5,"a":[1.0,{"c":1e2},null,"é"],"b":0.25,"":[]} | J1 | {"":[],"a":[1,{"c":100},null,"é"],"b":0.25}
+"#;
+
 /// A document, and its text or the fault: where integers alone are read, and where all numbers are.
-struct Read {
-    document: &'static str,
-    integers: &'static str,
-    all: &'static str,
-}
+struct ReadRow;
 
-static WHOLE: [Read; 15] = [
-    Read {
-        document: "7",
-        integers: "7",
-        all: "7",
-    },
-    Read {
-        document: "1.0",
-        integers: "J1",
-        all: "1",
-    },
-    Read {
-        document: "1e2",
-        integers: "J1",
-        all: "100",
-    },
-    Read {
-        document: "-0",
-        integers: "J1",
-        all: "0",
-    },
-    Read {
-        document: "-0.0",
-        integers: "J1",
-        all: "0",
-    },
-    Read {
-        document: "2.50e1",
-        integers: "J1",
-        all: "25",
-    },
-    Read {
-        document: "-30E-1",
-        integers: "J1",
-        all: "-3",
-    },
-    Read {
-        document: "0e999",
-        integers: "J1",
-        all: "0",
-    },
-    Read {
-        document: "9223372036854775807",
-        integers: "9223372036854775807",
-        all: "9223372036854775807",
-    },
-    Read {
-        document: "-9223372036854775808",
-        integers: "-9223372036854775808",
-        all: "-9223372036854775808",
-    },
-    Read {
-        document: "9007199254740991.0",
-        integers: "J1",
-        all: "9007199254740991",
-    },
-    Read {
-        document: "-9007199254740991.0",
-        integers: "J1",
-        all: "-9007199254740991",
-    },
-    Read {
-        document: "9007199254740992.0",
-        integers: "J1",
-        all: "9007199254740992.0",
-    },
-    Read {
-        document: "-9007199254740992.0",
-        integers: "J1",
-        all: "-9007199254740992.0",
-    },
-    Read {
-        document: "1e16",
-        integers: "J1",
-        all: "1e16",
-    },
-];
-
-static OTHERS: [Read; 14] = [
-    Read {
-        document: "0.5",
-        integers: "J1",
-        all: "0.5",
-    },
-    Read {
-        document: " 0.50 ",
-        integers: "J1",
-        all: "0.50",
-    },
-    Read {
-        document: "25E-1",
-        integers: "J1",
-        all: "25E-1",
-    },
-    Read {
-        document: "1e-999",
-        integers: "J1",
-        all: "1e-999",
-    },
-    Read {
-        document: "9223372036854775808",
-        integers: "J1",
-        all: "9223372036854775808",
-    },
-    Read {
-        document: "-9223372036854775809",
-        integers: "J1",
-        all: "-9223372036854775809",
-    },
-    Read {
-        document: "1e999",
-        integers: "J3",
-        all: "J3",
-    },
-    Read {
-        document: "[0.5,-1e999]",
-        integers: "J3",
-        all: "J3",
-    },
-    Read {
-        document: "0.5.",
-        integers: "J3",
-        all: "J3",
-    },
-    Read {
-        document: "01.5",
-        integers: "J3",
-        all: "J3",
-    },
-    Read {
-        document: "+0.5",
-        integers: "J3",
-        all: "J3",
-    },
-    Read {
-        document: ".5",
-        integers: "J3",
-        all: "J3",
-    },
-    Read {
-        document: "0.5 0.5",
-        integers: "J3",
-        all: "J3",
-    },
-    Read {
-        document: r#"{"b":0.5,"a":[1.0,{"c":1e2},null,"é"],"b":0.25,"":[]}"#,
-        integers: "J1",
-        all: r#"{"":[],"a":[1,{"c":100},null,"é"],"b":0.25}"#,
-    },
-];
-
-fn try_read(report: &mut Report, alloc: Global, row: &Read) -> Result<(), Fail> {
-    let bytes = row.document.as_bytes();
-    let integers = Tree::from_bytes_with(alloc, bytes, Numbers::Integers);
-    is_said(
-        report,
-        "integers alone",
-        said_of(alloc, integers),
-        row.integers,
-    )?;
-    is_said(
-        report,
-        "by default",
-        said_of(alloc, Tree::from_bytes(alloc, bytes)),
-        row.integers,
-    )?;
-    for step in [1, 3, usize::MAX] {
-        let mut source = FailingSource::new(bytes, step, usize::MAX);
-        let all = Tree::from_reader_with(alloc, &mut source, Numbers::All);
-        is_said(report, "all numbers", said_of(alloc, all), row.all)?;
+impl Kind for ReadRow {
+    fn attempt(&self, report: &mut Report, alloc: Global, row: &Row) -> Result<(), Fail> {
+        let bytes = row.text("document").as_bytes();
+        let integers = row.text("integers");
+        let read = Tree::from_bytes_with(alloc, bytes, Numbers::Integers);
+        is_said(report, "integers alone", said_of(alloc, read), integers)?;
+        let read = Tree::from_bytes(alloc, bytes);
+        is_said(report, "by default", said_of(alloc, read), integers)?;
+        for step in [1, 3, usize::MAX] {
+            let mut source = FailingSource::new(bytes, step, usize::MAX);
+            let read = Tree::from_reader_with(alloc, &mut source, Numbers::All);
+            is_said(report, "all numbers", said_of(alloc, read), row.text("all"))?;
+        }
+        Ok(())
     }
-    Ok(())
 }
 
 #[test]
 fn readings(rt: HostRuntime) -> Result<(), Fail> {
     jtree::laws::readings_agree();
-    let mut report = Report::new(rt.alloc());
-    for rows in [WHOLE.as_slice(), OTHERS.as_slice()] {
-        for row in rows {
-            let ended = try_read(&mut report, rt.alloc(), row);
-            report.row(row.document, ended);
-        }
-    }
-    report.end(&rt)
+    try_tables(&rt, rt.alloc(), &ReadRow, &[WHOLE, OTHERS])
 }
 
-static BORDERS: [Border; 4] = [
-    Border {
-        name: "127 lists",
-        before: "[",
-        times: 127,
-        middle: "",
-        after: "]",
-        wanted: "read",
-    },
-    Border {
-        name: "128 lists",
-        before: "[",
-        times: 128,
-        middle: "",
-        after: "]",
-        wanted: "J3",
-    },
-    Border {
-        name: "1,048,576 bytes",
-        before: " ",
-        times: 1_048_573,
-        middle: "0.5",
-        after: "",
-        wanted: "read",
-    },
-    Border {
-        name: "1,048,577 bytes",
-        before: " ",
-        times: 1_048_574,
-        middle: "0.5",
-        after: "",
-        wanted: "J4",
-    },
-];
+static BORDERS: &str = r#"
+4 rows: name | before | times | middle | after | wanted
+127 lists | [ | 127 | - | ] | read
+128 lists | [ | 128 | - | ] | J3
+1,048,576 bytes | ␠ | 1048573 | 0.5 | - | read
+1,048,577 bytes | ␠ | 1048574 | 0.5 | - | J4
+"#;
 
-fn try_border(report: &mut Report, alloc: Global, row: &Border) -> Result<(), Fail> {
-    let text = row.text(alloc)?;
-    let found = match Tree::from_bytes_with(alloc, text.as_bytes(), Numbers::All) {
-        Ok(_) => String::from_str(alloc, "read")?,
-        Err(fault) => fault.to_string(alloc)?,
-    };
-    report.is_text("what is read", found.as_str(), row.wanted);
-    Ok(())
+/// A long text, and whether it is read.
+struct BorderRow;
+
+impl Kind for BorderRow {
+    fn attempt(&self, report: &mut Report, alloc: Global, row: &Row) -> Result<(), Fail> {
+        let text = border_of(alloc, row)?;
+        let found = match Tree::from_bytes_with(alloc, text.as_bytes(), Numbers::All) {
+            Ok(_) => String::from_str(alloc, "read")?,
+            Err(fault) => fault.to_string(alloc)?,
+        };
+        report.is_text("what is read", found.as_str(), row.text("wanted"));
+        Ok(())
+    }
 }
 
 #[test]
 fn borders(rt: HostRuntime) -> Result<(), Fail> {
     let mut report = Report::new(rt.alloc());
-    for row in &BORDERS {
-        let ended = try_border(&mut report, rt.alloc(), row);
-        report.row(row.name, ended);
-    }
+    all_rows(&mut report, rt.alloc(), &BorderRow, &[BORDERS]);
     let mut source = FailingSource::new(b"[0.5", 1, 4);
     let failed = Tree::from_reader_with(rt.alloc(), &mut source, Numbers::All);
     report.holds(
@@ -304,126 +150,48 @@ fn lines(rt: HostRuntime) -> Result<(), Fail> {
     report.end(&rt)
 }
 
+// By value: whether the two are the same where numbers compare by their values.
+static ORDERED: &str = r#"
+14 rows: name | earlier | later | by value
+an integer before another number | 5 | 0.5 | no
+another number before a string | 0.5 | "" | no
+values | 0.25 | 0.5 | no
+not the bytes | 2.5 | 10.5 | no
+below zero | -2.5 | -0.25 | no
+one value, by the text | 0.5 | 0.50 | yes
+one value, with an exponent | 0.5 | 5e-1 | yes
+beyond integers | 9223372036854775808 | 1e20 | no
+the nearest float | 9223372036854775808 | 9223372036854775809 | yes
+an integer and a number | 9223372036854775807 | 9223372036854775808 | no
+fewer nodes | 10.5 | [0.5] | no
+items | [0.5,1,0.50] | [0.50,1,0.5] | yes
+members | {"a":0.5,"b":[]} | {"a":5e-1,"b":[]} | yes
+other names | {"b":0.5} | {"a":0.50} | no
+"#;
+
 /// Two trees of which the first is before the second, and whether they are the same by the values of their numbers.
-struct Pair {
-    name: &'static str,
-    earlier: &'static str,
-    later: &'static str,
-    same_value: bool,
-}
+struct PairRow;
 
-static ORDERED: [Pair; 14] = [
-    Pair {
-        name: "an integer before another number",
-        earlier: "5",
-        later: "0.5",
-        same_value: false,
-    },
-    Pair {
-        name: "another number before a string",
-        earlier: "0.5",
-        later: r#""""#,
-        same_value: false,
-    },
-    Pair {
-        name: "by value",
-        earlier: "0.25",
-        later: "0.5",
-        same_value: false,
-    },
-    Pair {
-        name: "not by the bytes",
-        earlier: "2.5",
-        later: "10.5",
-        same_value: false,
-    },
-    Pair {
-        name: "below zero",
-        earlier: "-2.5",
-        later: "-0.25",
-        same_value: false,
-    },
-    Pair {
-        name: "one value, by the text",
-        earlier: "0.5",
-        later: "0.50",
-        same_value: true,
-    },
-    Pair {
-        name: "one value, with an exponent",
-        earlier: "0.5",
-        later: "5e-1",
-        same_value: true,
-    },
-    Pair {
-        name: "beyond integers",
-        earlier: "9223372036854775808",
-        later: "1e20",
-        same_value: false,
-    },
-    Pair {
-        name: "the nearest float",
-        earlier: "9223372036854775808",
-        later: "9223372036854775809",
-        same_value: true,
-    },
-    Pair {
-        name: "an integer and a number",
-        earlier: "9223372036854775807",
-        later: "9223372036854775808",
-        same_value: false,
-    },
-    Pair {
-        name: "fewer nodes",
-        earlier: "10.5",
-        later: "[0.5]",
-        same_value: false,
-    },
-    Pair {
-        name: "items",
-        earlier: "[0.5,1,0.50]",
-        later: "[0.50,1,0.5]",
-        same_value: true,
-    },
-    Pair {
-        name: "members",
-        earlier: r#"{"a":0.5,"b":[]}"#,
-        later: r#"{"a":5e-1,"b":[]}"#,
-        same_value: true,
-    },
-    Pair {
-        name: "other names",
-        earlier: r#"{"b":0.5}"#,
-        later: r#"{"a":0.50}"#,
-        same_value: false,
-    },
-];
-
-fn try_pair(report: &mut Report, alloc: Global, row: &Pair) -> Result<(), Fail> {
-    let earlier = Tree::from_bytes_with(alloc, row.earlier.as_bytes(), Numbers::All)?;
-    let later = Tree::from_bytes_with(alloc, row.later.as_bytes(), Numbers::All)?;
-    report.holds("less", earlier.cmp(&later).is_lt());
-    report.holds("greater", later.cmp(&earlier).is_gt());
-    report.holds("two trees", earlier != later);
-    report.holds("equal to a copy", later.copy(alloc)? == later);
-    report.is_value("by value", &earlier.has_value_of(&later), &row.same_value);
-    report.is_value(
-        "by value, turned round",
-        &later.has_value_of(&earlier),
-        &row.same_value,
-    );
-    report.holds("of its own value", later.has_value_of(&later));
-    Ok(())
+impl Kind for PairRow {
+    fn attempt(&self, report: &mut Report, alloc: Global, row: &Row) -> Result<(), Fail> {
+        let earlier = Tree::from_bytes_with(alloc, row.text("earlier").as_bytes(), Numbers::All)?;
+        let later = Tree::from_bytes_with(alloc, row.text("later").as_bytes(), Numbers::All)?;
+        report.holds("less", earlier.cmp(&later).is_lt());
+        report.holds("greater", later.cmp(&earlier).is_gt());
+        report.holds("two trees", earlier != later);
+        report.holds("equal to a copy", later.copy(alloc)? == later);
+        let same = row.is("by value");
+        report.is_value("by value", &earlier.has_value_of(&later), &same);
+        let turned = later.has_value_of(&earlier);
+        report.is_value("by value, turned round", &turned, &same);
+        report.holds("of its own value", later.has_value_of(&later));
+        Ok(())
+    }
 }
 
 #[test]
 fn order(rt: HostRuntime) -> Result<(), Fail> {
-    let mut report = Report::new(rt.alloc());
-    for row in &ORDERED {
-        let ended = try_pair(&mut report, rt.alloc(), row);
-        report.row(row.name, ended);
-    }
-    report.end(&rt)
+    try_tables(&rt, rt.alloc(), &PairRow, &[ORDERED])
 }
 
 fn number_of(tree: &Tree) -> Option<&Number> {
@@ -464,7 +232,8 @@ fn try_many(report: &mut Report, alloc: Global, bytes: &[u8], wanted: &[u8]) -> 
     Ok(())
 }
 
-/// Two documents of 250,000 fractions, which is the most that a document has room for, in thousands: they are read, copied, compared and written.
+/// Two documents of 250,000 fractions, which is the most that a document has room for, in thousands: they are read, copied, compared
+/// and written.
 #[test]
 fn many_fractions(rt: HostRuntime) -> Result<(), Fail> {
     let mut report = Report::new(rt.alloc());
