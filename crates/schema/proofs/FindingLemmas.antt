@@ -99,13 +99,17 @@ listed NotOfOpenPlaces = (29, refl)
 listed AdditionalPropertiesTrue = (30, refl)
 
 pub reason_stands_once : (c : Reason) → (n : ℕ) × StandsAt c n × ((m : ℕ) → StandsAt c m → m ≡ n)
-reason_stands_once c = ((listed c).0, (listed c).1, λ m at.
-    let place = λ (d : Reason). (listed d).0 in
-    let places : map place all_reasons ≡ range_with_len 0 31 = refl in
-    let placed : slice_get (range_with_len 0 31) m ≡ Some (place c) = subst (λ ns. slice_get ns m ≡ Some (place c)) places (slice_get-map place all_reasons m ∙ ap (option_map place) at) in
-    let within : m < 31 = slice_get_within (range_with_len 0 31) m (place c) placed in
-    let found : m ≡ place c = omega (arith, get_or-range_with_len 0 31 m 0 within, get_or_from_slice_get (range_with_len 0 31) m (place c) 0 placed) in
-    found)
+reason_stands_once c = (
+  (listed c).0,
+  (listed c).1,
+  λ m at.
+      let place = λ (d : Reason). (listed d).0 in
+      let places : map place all_reasons ≡ range_with_len 0 31 = refl in
+      let placed : slice_get (range_with_len 0 31) m ≡ Some (place c) = subst (λ ns. slice_get ns m ≡ Some (place c)) places (slice_get-map place all_reasons m ∙ ap (option_map place) at) in
+      let within : m < 31 = slice_get_within (range_with_len 0 31) m (place c) placed in
+      let found : m ≡ place c = omega (arith, get_or-range_with_len 0 31 m 0 within, get_or_from_slice_get (range_with_len 0 31) m (place c) 0 placed) in
+      found,
+)
 
 standing : (reasons : List Reason) (n : ℕ) (c : Reason) → slice_get reasons n ≡ Some c → Among reasons c
 standing reasons n c at = contained reasons c (n, slice_get_within reasons n c at, get_or_from_slice_get reasons n c c at)

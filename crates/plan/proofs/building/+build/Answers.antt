@@ -40,11 +40,14 @@ build_object-returns g t c =
     let ends = c.in_ok-ends.ends.items in
     let right = rw (c.deref-3.ensures.value, built.kept.1, built.kept.0) at c.in_ok-entry.ensures in
     three_ok c.add.result _ _ _ _ c.add.ensures.number c.add.ensures.count c.add.ensures.added
-    (λ n number count added m d takes. record { kept = kept_on c.args.arena.now c.build_fields.new.arena c.add.new.self built.kept c.add.ensures.kept; built = row_built g.Z.SizeSet.holds c.args.arena.now.limit c.args.pools.now v c.args.arena.now.entries.items mid c.add.new.self.entries.items c.args.path.now m d (object o.fields o.preserves o.map_type o.bounds cs) c.args.keys.now o.bounds cs ends c.in_ok-slots.slots.items c.args.nullable n c.in_ok-entry.entry
-    takes c.reveal_invariant.ensures refl refl
-    (λ sound. object_met cs names ends (c.in_ok-named.ensures.names (few_named o.fields cs sound)) (rw c.deref-2.ensures.value at c.in_ok-ends.ensures.whole) (rw c.deref-2.ensures.value at c.in_ok-ends.ensures.each))
-    (number ∙ b.count) count b.right
-    (λ sites values sound placed. subst (λ ns. AreSlots v.names.items sites n c.in_ok-slots.slots.items (field_slots c.args.pools.now c.args.path.now c.args.keys.now ns o.fields)) (c.in_ok-named.ensures.names (few_named o.fields cs sound)) (b.slots_are v.names.items sites n placed (omega arith))) added number right })
+    (λ n number count added m d takes. record {
+      kept = kept_on c.args.arena.now c.build_fields.new.arena c.add.new.self built.kept c.add.ensures.kept;
+      built = row_built g.Z.SizeSet.holds c.args.arena.now.limit c.args.pools.now v c.args.arena.now.entries.items mid c.add.new.self.entries.items c.args.path.now m d (object o.fields o.preserves o.map_type o.bounds cs) c.args.keys.now o.bounds cs ends c.in_ok-slots.slots.items c.args.nullable n c.in_ok-entry.entry
+          takes c.reveal_invariant.ensures refl refl
+          (λ sound. object_met cs names ends (c.in_ok-named.ensures.names (few_named o.fields cs sound)) (rw c.deref-2.ensures.value at c.in_ok-ends.ensures.whole) (rw c.deref-2.ensures.value at c.in_ok-ends.ensures.each))
+          (number ∙ b.count) count b.right
+          (λ sites values sound placed. subst (λ ns. AreSlots v.names.items sites n c.in_ok-slots.slots.items (field_slots c.args.pools.now c.args.path.now c.args.keys.now ns o.fields)) (c.in_ok-named.ensures.names (few_named o.fields cs sound)) (b.slots_are v.names.items sites n placed (omega arith))) added number right;
+    })
 
 pub build_map-returns : goal.build_map-returns
 build_map-returns g t c =
@@ -61,9 +64,12 @@ build_map-returns g t c =
     let bounds : ending_at c.args.pools.now c.args.path.now (node false None (map_sort m.value m.map_type m.bounds)) ≡ record { bounds = c.raised-bounds.result; asked = no_validations } =
     rw (c.raised-bounds.ensures, asked) refl in
     three_ok c.add.result _ _ _ _ c.add.ensures.number c.add.ensures.count c.add.ensures.added
-    (λ n number count added k d takes. record { kept = kept_on c.args.arena.now c.build.new.arena c.add.new.self built.kept c.add.ensures.kept; built = row_built g.Z.SizeSet.holds c.args.arena.now.limit c.args.pools.now v old mid c.add.new.self.entries.items c.args.path.now k d (map_sort m.value m.map_type m.bounds) c.args.keys.now c.raised-bounds.result no_validations _ c.in_ok-slots.slots.items c.args.nullable n c.in_ok-entry.entry
-    takes c.reveal_invariant.ensures refl bounds (λ sound. map_met) (number ∙ b.count) count b.right
-    (λ sites values sound placed. rw (← values.names) (c.in_ok-slots.ensures.slots v.names.items sites n c.args.pools.now c.args.path.now m.value (omega (arith, names)) (omega (arith, b.last, number)) (last_site c.args.pools.now _ sites (length old) p (below c.args.path.now value) m.value [] (omega (arith, b.last, b.count)) placed))) added number right })
+    (λ n number count added k d takes. record {
+      kept = kept_on c.args.arena.now c.build.new.arena c.add.new.self built.kept c.add.ensures.kept;
+      built = row_built g.Z.SizeSet.holds c.args.arena.now.limit c.args.pools.now v old mid c.add.new.self.entries.items c.args.path.now k d (map_sort m.value m.map_type m.bounds) c.args.keys.now c.raised-bounds.result no_validations _ c.in_ok-slots.slots.items c.args.nullable n c.in_ok-entry.entry
+          takes c.reveal_invariant.ensures refl bounds (λ sound. map_met) (number ∙ b.count) count b.right
+          (λ sites values sound placed. rw (← values.names) (c.in_ok-slots.ensures.slots v.names.items sites n c.args.pools.now c.args.path.now m.value (omega (arith, names)) (omega (arith, b.last, number)) (last_site c.args.pools.now _ sites (length old) p (below c.args.path.now value) m.value [] (omega (arith, b.last, b.count)) placed))) added number right;
+    })
 
 pub build_list-returns : goal.build_list-returns
 build_list-returns g t c =
@@ -73,8 +79,11 @@ build_list-returns g t c =
     let asked = rw (c.deref-3.ensures, c.in_ok-below.ensures) at c.is_present.ensures in
     let bounds : bounds_at c.args.pools.now c.args.path.now (node false None (list_sort l.item l.list_type l.keys.items l.bounds)) ≡ c.raised-bounds.result = rw (c.raised-bounds.ensures, asked) refl in
     three_ok c.add.result _ _ _ _ c.add.ensures.number c.add.ensures.count c.add.ensures.added
-    (λ n number count added m d takes. record { kept = kept_on c.args.arena.now c.build.new.arena c.add.new.self built.kept c.add.ensures.kept; built = list_built g.Z.SizeSet.holds c.args.arena.now.limit c.args.pools.now c.args.arena.now.values c.args.arena.now.entries.items c.build.new.arena.entries.items c.add.new.self.entries.items c.args.path.now m d l.item l.list_type l.keys.items l.bounds c.raised-bounds.result c.args.keys.now
-    c.in_ok-item.item c.args.nullable n c.in_ok-entry.entry takes bounds c.reveal_invariant.ensures built.built number count added right })
+    (λ n number count added m d takes. record {
+      kept = kept_on c.args.arena.now c.build.new.arena c.add.new.self built.kept c.add.ensures.kept;
+      built = list_built g.Z.SizeSet.holds c.args.arena.now.limit c.args.pools.now c.args.arena.now.values c.args.arena.now.entries.items c.build.new.arena.entries.items c.add.new.self.entries.items c.args.path.now m d l.item l.list_type l.keys.items l.bounds c.raised-bounds.result c.args.keys.now
+          c.in_ok-item.item c.args.nullable n c.in_ok-entry.entry takes bounds c.reveal_invariant.ensures built.built number count added right;
+    })
 
 pub build_field-returns : goal.build_field-returns
 build_field-returns g t c = record {
