@@ -46,6 +46,10 @@ LIMITED = [
     Row("check with reasons of 16000 places", 0.25, 65536, "check 16000-places v1 --large --why"),
     Row("explain of 16000 places", 0.25, 65536, "explain 16000-places v1 --large"),
     Row("validate of an object of 16000 places", 0.25, 65536, "validate 16000-places v1 object-of-16000-places --large"),
+    # as a cluster judges: patterns are compiled anew in each run
+    Row("validate --profile cluster of an object of 16000 places", 0.25, 65536,
+        "validate 16000-places v1 object-of-16000-places --large --profile cluster"),
+    Row("validate --profile cluster beside 300 patterns", 0.05, 65536, "validate 300-patterns v1 300-texts --large --profile cluster"),
     Row("prune of an object of 16000 places", 0.25, 65536, "prune 16000-places v1 object-of-16000-places --large"),
     Row("default of an object of 16000 places", 0.25, 65536, "default 16000-places v1 object-of-16000-places --large"),
     Row("a sample of 16000 places over pools-of-16000-places", 1, 131072,
@@ -252,7 +256,7 @@ class Figures:
         self.limit(row.name, seconds < row.seconds and kilobytes < row.kilobytes)
 
     def objects_on_lines(self) -> None:
-        """Samples are valid, so of each nothing is written."""
+        """Samples are valid, so of each nothing is written. As a cluster judges, some have texts without their format."""
         command = "sample issuer/crd.json v1 --pools issuer/pools.json --limit 63 --count 10000"
         samples = self.runs.lines("samples of the issuer", [PROGRAM, *command.split()])
         count = len(samples.splitlines())
@@ -262,6 +266,7 @@ class Figures:
         self.row(Row(f"validate --lines of 10,000 samples, {len(samples)} bytes", 0.2, 8192, "validate issuer/crd.json v1 --lines issuers"))
         if said := self.runs.text("output"):
             stop(f"validate --lines of samples: {said.splitlines()[0]}")
+        self.row(Row("the same with --profile cluster", 0.3, 8192, "validate issuer/crd.json v1 --lines issuers --profile cluster"))
 
     def past(self, it: Past) -> None:
         first = self.runs.lines(it.name, it.words(999999)).partition(b"\n")[0]

@@ -104,6 +104,11 @@ def x_of(value: Iterable[Json]) -> Json:
     return {"x": [*value]}
 
 
+def name_of(number: int) -> str:
+    """A pattern of names, each number's its own."""
+    return rf"^a{number}[a-z0-9]([-a-z0-9]{{0,61}}[a-z0-9])?(\.[a-z0-9]+)*$"
+
+
 def digits(number: int, base: int) -> list[int]:
     """The last fifteen digits of a number, the highest first."""
     return [number // base**place % base for place in reversed(range(15))]
@@ -176,11 +181,13 @@ SCHEMAS_OF_OBJECTS: Documents = {
     "preserving": lambda: define({"type": "object", "x-kubernetes-preserve-unknown-fields": True}),
 }
 
-# definitions in the shape of those that operators ship, and an object that has every field
+# definitions in the shape of those that operators ship, with an object that has every field, and one with a pattern at each field
 REAL_SIZE: Documents = {
     "16000-places": lambda: large(16000, 117)[0],
     "object-of-16000-places": lambda: large(16000, 117)[1],
     "2021-places": lambda: large(2021, 117)[0],
+    "300-patterns": lambda: define(object_of({f"p{number}": {"type": "string", "pattern": name_of(number)} for number in range(300)})),
+    "300-texts": lambda: {f"p{number}": f"a{number}b.example.org" for number in range(300)},
 }
 
 SCHEMAS_OF_SAMPLES: Documents = {

@@ -99,6 +99,27 @@ cat >"$folder/broken" <<'LINES'
 V01 "/properties/a" missing type
 V06 "/properties/b" uniqueItems is true
 LINES
+define '{"type":"object","required":["s"],"properties":{"s":{"type":"string"}}}' >"$folder/needs-a-text.json"
+cat >"$folder/no-sample" <<'LINES'
+crdx: end
+    found no value of at most 127 nodes for "/s", which has to be there
+LINES
+# for --profile cluster: a pattern, a format and a junctor with properties
+define '{"type":"object","properties":{"a":{"type":"string","pattern":"^[a-z]+$"},"f":{"type":"string","format":"date"},
+    "o":{"type":"object","oneOf":[{"required":["b"]},{"properties":{"c":{"enum":["x"]}},"required":["c"]}]}}}' >"$folder/written.json"
+echo '{"a":"A1","f":"2023-02-29","o":{"c":"y"}}' >"$folder/written-object.json"
+{ echo '{"a":"a"}' && cat "$folder/written-object.json"; } >"$folder/written-lines"
+cat >"$folder/written-faults" <<'LINES'
+F16 "/a" pattern
+F17 "/f" format
+F14 "/o" junctor
+LINES
+sed 's/^/2: /' "$folder/written-faults" >"$folder/written-line-faults"
+define '{"type":"object","properties":{"a":{"type":"string","pattern":"["},"b":{"type":"string","pattern":"a|b"}}}' >"$folder/bad-patterns.json"
+cat >"$folder/bad-patterns" <<'LINES'
+C01 "/properties/a" bad pattern
+    "pattern": found "["; a pattern is a regular expression of Go's regexp (RE2 syntax)
+LINES
 define '{"type":"object","properties":{"a":{"type":"object","default":{},"properties":{"f":{"type":"integer","maximum":6,"default":7}}}}}' >"$folder/bad-default.json"
 cat >"$folder/bad-default" <<'LINES'
 V14 "/properties/a" bad default
@@ -213,7 +234,7 @@ LINES
 echo '{"s":[0,1.50]}' >"$folder/fraction.json"
 cat >"$folder/fraction" <<'LINES'
 crdx: object: J1
-    found 1.50 at "/s/1"; allowed are integers of 64 bits
+    found 1.50 at "/s/1"; allowed are integers of 64 bits; `--profile cluster` reads other numbers
 LINES
 seq -s , 65 | sed 's/.*/{"integers":[&]}/' >"$folder/many.json"
 cat >"$folder/too-many" <<'LINES'
@@ -241,7 +262,7 @@ LINES
 { cat "$folder/pruned" "$folder/pruned"; } >"$folder/pruned-beside"
 cat >"$folder/broken-line" <<'LINES'
 crdx: object: 2: J1
-    found 1.50 at "/s/1"; allowed are integers of 64 bits
+    found 1.50 at "/s/1"; allowed are integers of 64 bits; `--profile cluster` reads other numbers
 LINES
 sed -n '2,3p;5p' "$folder/map-lists" >"$folder/covering"
 echo 'crdx: all paths are in some sample' >"$folder/covered"
@@ -265,9 +286,12 @@ row 'check of a bad default, with reasons' nothing 1 "$folder/bad-default" /dev/
 row 'check of many fields, explained' nothing 3 /dev/null "$folder/too-wide" check "$folder/wide.json" v1 --why
 row 'check of many fields' nothing 0 "$folder/structural" /dev/null check "$folder/wide.json" v1 --large --why
 row 'validate of a fraction, explained' nothing 3 /dev/null "$folder/fraction" validate "$folder/crd.json" v1 "$folder/fraction.json" --why
+row 'prune of a fraction, as a cluster reads it' nothing 0 "$folder/fraction.json" /dev/null \
+    prune "$folder/crd.json" v1 "$folder/fraction.json" --profile cluster
 row 'leaves of an object that is not stored, explained' nothing 1 /dev/null "$folder/not-stored-explained" \
     leaves "$folder/crd.json" v1 "$folder/object.json" --why
 row 'sample over many integers, explained' nothing 3 /dev/null "$folder/too-many" sample "$folder/crd.json" v1 --pools "$folder/many.json" --why
+row 'no sample, explained' nothing 0 /dev/null "$folder/no-sample" sample "$folder/needs-a-text.json" v1 --why
 row 'sample with a bad path, explained' nothing 3 /dev/null "$folder/bad-path-explained" \
     sample $widget/crd.json v1 --pools examples/issuer/chosen-values.json --why
 row 'pools of the issuer' nothing 0 "$folder/issuer-pools" /dev/null \
@@ -315,6 +339,12 @@ row 'cover of a map list' lines 0 "$folder/covering" "$folder/covered" cover "$f
 row 'cover with missed paths, named' lines 0 "$folder/covering-of-2-nodes" "$folder/missed" \
     cover "$folder/map-list.json" v1 --pools "$folder/pools.json" --limit 2 --why
 row 'validate by a schema that breaks rules' nothing 1 /dev/null "$folder/broken" validate "$folder/broken.json" v1
+row 'validate as a cluster judges' nothing 1 "$folder/written-faults" /dev/null \
+    validate "$folder/written.json" v1 "$folder/written-object.json" --profile cluster
+row 'validate of lines as a cluster judges' lines 1 "$folder/written-line-faults" /dev/null \
+    validate "$folder/written.json" v1 "$folder/written-lines" --lines --profile cluster
+row 'validate beside patterns that are none, explained' nothing 1 /dev/null "$folder/bad-patterns" \
+    validate "$folder/bad-patterns.json" v1 "$folder/written-object.json" --profile cluster --why
 
 printf '%s\n' "${counts[@]}"
 [ "$failures" -eq 0 ] || stop "$failures runs gave another answer"

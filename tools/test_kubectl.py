@@ -34,7 +34,7 @@ CERTIFICATE = ROOT / "examples" / "certificate"
 CRDX = """\
 #!/usr/bin/env python3
 import json, os, re, sys
-OPTIONS = "Options:\\n      --large  Large\\n      --why    Why\\n  -h, --help   Help\\n"
+OPTIONS = "Options:\\n      --large  Large\\n      --why    Why\\n      --profile <NAME>  Profile\\n  -h, --help   Help\\n"
 USAGES = {
     "check": "<CRD> <VERSION>", "explain": "<CRD> <VERSION> [PATH]", "validate": "<CRD> <VERSION> [OBJECT]", "pools": "<CRD> <VERSION>",
     "sample": "<CRD> <VERSION>", "leaves": "<CRD> <VERSION> [OBJECT]", "cover": "<CRD> <VERSION>",
@@ -116,7 +116,7 @@ def needs(*programs: str) -> Callable[[Callable[[Case], None]], Callable[[Case],
 PLAIN, PATTERN = with_field({"type": "string"}), with_field({"type": "string", "pattern": "^a"})
 STORAGE = "version v1, the storage version"
 NOT_JUDGED = "1 keyword at 1 place is not judged: pattern 1; kubectl crdx relax shows them"
-ALWAYS = ["--large", "--why"]
+ALWAYS = ["--large", "--why", "--profile=cluster"]
 
 
 class Runs(unittest.TestCase):
@@ -164,7 +164,7 @@ class Runs(unittest.TestCase):
 
 class Definitions(Runs):
     def test_a_file(self) -> None:
-        """The definition goes to crdx with one version, and --large and --why."""
+        """The definition goes to crdx with one version, --large, --why and the profile of a cluster."""
         self.file("crd.json", definition(PLAIN, PATTERN))
         command, *words, crd, version = self.given("check", "-f", "crd.json")
         self.assertEqual((command, words, version), ("check", ALWAYS, "v1"))
@@ -344,7 +344,7 @@ class Objects(Runs):
         for words, text_in in rows:
             with self.subTest(words):
                 given = self.given("validate", "-f", "crd.json", *words, text=text_in, said=said)
-                self.assertEqual((given[:3], given[-2:]), (["validate", *ALWAYS], ["v1", text]))
+                self.assertEqual((given[:4], given[-2:]), (["validate", *ALWAYS], ["v1", text]))
 
     def test_the_version_that_objects_name(self) -> None:
         rows: list[tuple[Tree, Words, str, list[str]]] = [
@@ -501,8 +501,8 @@ class Values(Runs):
         words = ["--from", "list.json", "--vary", "/x", "--vary=/y"]
         _, out, _ = self.run_plugin("pools", "-f", "crd.json", *words, POOLS="")
         given = json.loads(out)["any"]
-        self.assertEqual([given[:2], given[3:5]], [ALWAYS, ["--vary=/x", "--vary=/y"]])
-        objects = [json.loads(line) for line in given[2].removeprefix("--from=").splitlines()]
+        self.assertEqual([given[:3], given[4:6]], [ALWAYS, ["--vary=/x", "--vary=/y"]])
+        objects = [json.loads(line) for line in given[3].removeprefix("--from=").splitlines()]
         self.assertEqual(objects, [widget(1), widget(2)])
 
     def test_samples_over_these_pools(self) -> None:
@@ -603,6 +603,11 @@ class CommandLine(Runs):
         self.file("crd.json", definition(PLAIN))
         self.assertEqual(self.given("check", "--why", "--large", "-f", "crd.json")[:-2], ["check", *ALWAYS])
 
+    def test_another_profile(self) -> None:
+        self.file("crd.json", definition(PLAIN))
+        words = self.given("check", "--profile", "core", "-f", "crd.json")
+        self.assertEqual(words[:-2], ["check", "--large", "--why", "--profile=core"])
+
     def test_the_status_is_that_of_crdx(self) -> None:
         self.file("crd.json", definition(PLAIN))
         for status in [1, 2, 3, 4, 5]:
@@ -685,7 +690,7 @@ class Completions(Runs):
 
     def test_completions(self) -> None:
         none, files = ":4", ":0"
-        options = ["--filename\tFILE", "--exact", "--context\tNAME", "--kubeconfig\tFILE", "--help", "-f\tFILE"]
+        options = ["--filename\tFILE", "--exact", "--context\tNAME", "--kubeconfig\tFILE", "--help", "-f\tFILE", "--profile\tNAME"]
         for words, offered, directive in [
             (["ch"], ["check\tAbout check"], none), (["re"], ["relax\tPrints a definition with a wider schema, which crdx accepts"], none),
             (["x"], [], none), (["--"], ["--help", "--version"], none), (["help", "le"], ["leaves\tAbout leaves"], none),
@@ -804,7 +809,7 @@ FOLDER = ROOT / "tools" / "test_kubectl"
 FAULTS = {
     "backup": (1, ['F04 "/spec/keep" minimum']),
     "cache": (1, ['1: F07 "/spec/labels/tier" maxLength']),
-    "queue": (1, ['F14 "/spec/retries" junctor', 'F10 "/spec/workers" minProperties']),
+    "queue": (1, ['F05 "/spec/retries" maximum', 'F10 "/spec/workers" minProperties']),
     "route": (1, ['F14 "/spec" junctor', 'F04 "/spec/forward/0/port" minimum', 'F13 "/spec/hosts/2" duplicate']),
 }
 FIELDS = {

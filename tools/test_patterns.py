@@ -24,7 +24,8 @@ from typing import Callable, Iterator, List, Tuple
 
 sys.dont_write_bytecode = True
 
-ROOT = pathlib.Path(__file__).resolve().parent.parent
+from compared_lines import ROOT, of_crates, of_go, word_of
+
 PROGRAMS = ROOT / "tools" / "test_patterns"
 CRATES = """text_tests:
 go_text:
@@ -107,33 +108,7 @@ def cases(pairs: int, draw: random.Random) -> list[Case]:
 
 
 def line_of(case: Case) -> str:
-    return " ".join("x" + text.encode().hex() for text in (case[0], *case[1]))
-
-
-def answers_of(command: list[str], folder: pathlib.Path, lines: str, count: int) -> list[str]:
-    done = subprocess.run(command, cwd=folder, input=lines, capture_output=True, text=True, check=False)
-    answers = done.stdout.split("\n")[:-1]
-    if done.returncode != 0 or len(answers) != count:
-        raise SystemExit(f"test_patterns: {' '.join(command)}: status {done.returncode}, {len(answers)} lines of {count}\n{done.stderr}")
-    return answers
-
-
-def ours(folder: pathlib.Path, lines: str, count: int) -> list[str]:
-    """What the crates answer, compiled from copies of their sources."""
-    for name in ("text_tests", "go_text", "patterns"):
-        shutil.copytree(ROOT / "crates" / name, folder / "crates" / name, ignore=shutil.ignore_patterns("out"))
-    source = folder / "crates" / "pattern_lines" / "src"
-    source.mkdir(parents=True)
-    shutil.copy(PROGRAMS / "main.rt.txt", source / "main.rt")
-    shutil.copy(ROOT / "HANDLES", folder)
-    (folder / "crates.txt").write_text(CRATES, encoding="utf-8")
-    return answers_of(["rt", "try", "--seconds", "600"], source.parent, lines, count)
-
-
-def of_go(folder: pathlib.Path, lines: str, count: int) -> list[str]:
-    program = folder / "go_lines"
-    subprocess.run(["go", "build", "-o", str(program), str(PROGRAMS / "main.go")], check=True)
-    return answers_of([str(program)], folder, lines, count)
+    return " ".join(map(word_of, (case[0], *case[1]))) + "\n"
 
 
 def go_version() -> tuple[int, ...]:
@@ -205,11 +180,11 @@ def main() -> int:
         print("test_patterns: no go here, so the patterns are not compared with Go's")
         return 0
     made = cases(int(chosen.pairs), random.Random(int(chosen.seed)))
-    lines = "".join(line_of(case) + "\n" for case in made)
+    lines = "".join(map(line_of, made))
     with tempfile.TemporaryDirectory() as name:
         folder = pathlib.Path(name)
-        go = of_go(folder, lines, len(made))
-        rt = ours(folder, lines, len(made))
+        go = of_go(folder, PROGRAMS / "main.go", lines)
+        rt = of_crates(folder, ("text_tests", "go_text", "patterns"), PROGRAMS / "main.rt.txt", CRATES, lines)
     return 0 if compare(made, go, rt) else 1
 
 

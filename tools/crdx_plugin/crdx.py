@@ -17,6 +17,12 @@ from .helps import INPUTS, options_in, section
 ALWAYS = ["--large", "--why"]
 
 
+def given(words: list[str]) -> list[str]:
+    """These words behind those that each command is given: documents are read as a cluster reads them, where no profile is named."""
+    profile = [] if any(word.startswith("--profile=") for word in words) else ["--profile=cluster"]
+    return [*ALWAYS, *profile, *words]
+
+
 @contextlib.contextmanager
 def in_memory(text: str) -> Iterator[str]:
     """The name by which crdx can open a file with this text, which is in memory alone."""
@@ -83,4 +89,4 @@ class Command:
 
     def status(self, *words: str) -> int:
         """Runs the command, and answers its status."""
-        return self.crdx.run(self.name, *ALWAYS, *words).returncode
+        return self.crdx.run(self.name, *given([*words])).returncode

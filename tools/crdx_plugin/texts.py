@@ -7,9 +7,10 @@ Runs crdx on a definition from a cluster, or from a file of YAML or JSON
 
 As a plugin of kubectl, which is any program of this name on the path, this is
 `kubectl crdx`. It gets a CustomResourceDefinition, relaxes it as crdx-relax
-does, and runs a command of crdx on it with --large and --why. One line on
-standard error says what was relaxed, and so is not judged. Under check, further
-lines name what a cluster refuses and relaxing hides.
+does, and runs a command of crdx on it with --large, --why and, where no profile
+is named, --profile=cluster. One line on standard error says what was relaxed,
+and so is not judged. Under check, further lines name what a cluster refuses and
+relaxing hides.
 
 Usage: kubectl crdx COMMAND [NAME] [VERSION] [PATH | OBJECT...] [OPTIONS]
 

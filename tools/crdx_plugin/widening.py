@@ -15,7 +15,7 @@ from crdx_schemas.programs import say, write
 from crdx_schemas.relaxing import Relaxed
 
 from .arguments import Arguments
-from .crdx import ALWAYS, Crdx, in_memory
+from .crdx import Crdx, given, in_memory
 from .inputs import check_inputs, counted, definition_of, inputs_of
 from .sources import Document
 from .texts import NAME
@@ -61,7 +61,7 @@ def hidden_rules(crdx: Crdx, definition: Document, version: str) -> list[str]:
     document = without_fractions(parse(definition.text.encode("utf-8")))
     take_version(document, version)
     with in_memory(in_text(document)) as crd:
-        said = crdx.run("check", "--large", crd, version, stdout=subprocess.PIPE, stderr=subprocess.DEVNULL)
+        said = crdx.run("check", "--large", "--profile=cluster", crd, version, stdout=subprocess.PIPE, stderr=subprocess.DEVNULL)
     return [f"as written, and a cluster refuses it too: {line}" for line in re.findall("^V(?:0.|1[013]) .*", said.stdout, re.M)]
 
 
@@ -71,7 +71,7 @@ def values_of(words: list[str], option: str) -> list[str]:
 
 def suggested_pools(crdx: Crdx, words: list[str], schema: Relaxed | None, objects: list[Document]) -> str:
     """The pools that crdx suggests, with two values for each place of which it judges a part alone, but for places that do not vary."""
-    pools = json.loads(crdx.said("pools", *ALWAYS, *words))
+    pools = json.loads(crdx.said("pools", *given(words)))
     varied, never = values_of(words, "--vary"), values_of(words, "--without")
     found = {path: values for path, values in (pool_paths(schema) if schema else {}).items()
              if not varied or any(is_at_or_below(path, top) for top in varied)}

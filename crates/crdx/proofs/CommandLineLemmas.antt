@@ -1,5 +1,5 @@
 -- What the matches of `clap` say of a command and its arguments.
-use Rattle.std.proofs.Common.{◌≡◌, ℕ, List, [], Option, Some, None, Bor, Box, refl, sym, ap, subst, find, ◌∙◌, inl, inr, true, map, codes, length, arith, ◌∷◌, ◌⊎◌}
+use Rattle.std.proofs.Common.{◌≡◌, ℕ, List, [], Option, Some, None, Bor, Box, refl, sym, ap, subst, find, ◌∙◌, inl, inr, true, false, map, codes, length, arith, ◌∷◌, ◌⊎◌}
 use Rattle.std.specs.Prelude.{◌≢◌, ◌<◌, ◌^◌, Result, Ok, Err, option_map, option_and_then, unwrap_or}
 use Rattle.std.specs.Str.{bytes_eq}
 use Rattle.std.specs.Str.Parse.{IsNumeral, ParsesUnsigned, without_leading_plus}
@@ -11,7 +11,7 @@ use Rattle.clap.specs.Faults.{fault_of, is_simple_and_free}
 use Rattle.clap.specs.Kinds.{HasKind}
 use Rattle.clap.specs.Simple.{is_simple, subcommand_of, subcommand_rows}
 use Rattle.clap.specs.Values.{kind_of}
-use Rattle.clap.specs.Walk.{Row, Text, row_of, rows_of}
+use Rattle.clap.specs.Walk.{Row, Text, first_of, row_of, rows_of}
 use Rattle.clap.specs.declared.parser.matches.Found.{Found}
 use Rattle.clap.specs.declared.parser.matches.SubCommand.{SubCommand}
 use Rattle.clap.specs.declared.parser.matches.ArgMatches.TheViews.{out-SubCommand}
@@ -21,7 +21,7 @@ use Rattle.clap.specs.declared.error.kind.ErrorKind.TheVariants.{OutOfMemory}
 use Rattle.std.proofs.lemmas.List.{length-map}
 use Rattle.std.proofs.lemmas.List.Elements.{All-from_recursion}
 use Rattle.clap.proofs.WalkLemmas.{find_row, first_value-rows}
-use Rattle.crdx.specs.Program.CommandLine.{crdx_app, entered, faults, value_of, values_of, crd_input, input_of, standard_inputs, decimal_value, command_names, ReadsObjectsTwice, VariesNoObject, IsCommand, IsHelp, IsRequestOf, IsUsageErrorOrMemory, Asks}
+use Rattle.crdx.specs.Program.CommandLine.{crdx_app, entered, faults, value_of, values_of, crd_input, input_of, standard_inputs, decimal_value, command_names, ReadsObjectsTwice, VariesNoObject, IsCommand, IsHelp, IsRequestOf, IsUsageErrorOrMemory, IsAsked, is_other_profile, Asks}
 use Rattle.crdx.specs.declared.arguments.request.Request.{Request}
 use Rattle.crdx.specs.declared.arguments.request.Request.TheVariants.{Check, Explain, Object, ObjectLines, SuggestPools, Sample, Cover, Help, UsageError, NoMemory}
 
@@ -53,9 +53,28 @@ number_read gives parses t None read numeral fits = absurd (parses t (Err read.0
 
 -- `pools` with objects that do not go together
 pub refused_pools : (rows : List Row) (o : Request) → IsUsageErrorOrMemory o → ReadsObjectsTwice rows ⊎ VariesNoObject rows → IsCommand (Some (codes "pools", rows)) o
-refused_pools rows (UsageError text) is mixes = inr (inr (inr (rows, refl, mixes)))
+refused_pools rows (UsageError text) is mixes = inr (inr (inr (inl (rows, refl, mixes))))
 refused_pools rows NoMemory is mixes = tt
 refused_pools rows _ is mixes = absurd is
+
+-- a profile that there is not
+pub refused_profile : (name : Text) (rows : List Row) (o : Request) → IsUsageErrorOrMemory o → is_other_profile (first_of (codes "profile") rows) ≡ true → IsAsked (Some (name, rows)) o
+refused_profile name rows (UsageError text) is other = (inr (inr (inr (inr (name, rows, refl, other)))), λ _. tt)
+refused_profile name rows NoMemory is other = (tt, λ _. tt)
+refused_profile name rows _ is other = absurd is
+
+-- and one that there is
+pub known_profile : (name : Text) (rows : List Row) (o : Request) → IsCommand (Some (name, rows)) o → is_other_profile (first_of (codes "profile") rows) ≡ false → IsAsked (Some (name, rows)) o
+known_profile name rows o is known = (is, λ other. absurd (not_other rows other.1 (some_rows name other.0 rows other.1 other.2) known other.3))
+  where
+    some_rows : (a b : Text) (r s : List Row) → ◌≡◌ {A = Option (Text × List Row)} (Some (a, r)) (Some (b, s)) → r ≡ s
+    some_rows a b r s e = ap (λ (o : Option (Text × List Row)). unwrap_or (option_map (λ (p : Text × List Row). p.1) o) r) e
+
+    not_other : (r s : List Row) → r ≡ s → is_other_profile (first_of (codes "profile") r) ≡ false → is_other_profile (first_of (codes "profile") s) ≡ true → ⊥
+    not_other r s e f t = false_true (sym (subst (λ q. is_other_profile (first_of (codes "profile") q) ≡ false) e f) ∙ t)
+      where
+        false_true : false ≡ true → ⊥
+        false_true e = cc
 
 -- an object is to be varied, by the rows
 pub varies_by_rows : (rows : List Row) (from varied : List (Bor Text)) → map (λ w. w.now) from ≡ values_of (codes "from") rows → map (λ w. w.now) varied ≡ values_of (codes "vary") rows
@@ -105,16 +124,16 @@ unfolding faults
 faults_are arguments = refl
 
 -- what is asked where `clap` takes the arguments, and where it refuses them
-pub asks_command : (arguments : List Text) (named : Option (Text × List Row)) (o : Request) → named ≡ entered arguments → faults arguments ≡ [] → IsCommand named o → Asks arguments o
-asks_command arguments named (Check w) same none is = (none, subst (λ n. IsCommand n (Check w)) same is)
-asks_command arguments named (Explain w) same none is = (none, subst (λ n. IsCommand n (Explain w)) same is)
-asks_command arguments named (Object w) same none is = (none, subst (λ n. IsCommand n (Object w)) same is)
-asks_command arguments named (ObjectLines w) same none is = (none, subst (λ n. IsCommand n (ObjectLines w)) same is)
-asks_command arguments named (SuggestPools w) same none is = (none, subst (λ n. IsCommand n (SuggestPools w)) same is)
-asks_command arguments named (Sample w) same none is = (none, subst (λ n. IsCommand n (Sample w)) same is)
-asks_command arguments named (Cover w) same none is = (none, subst (λ n. IsCommand n (Cover w)) same is)
-asks_command arguments named (Help text) same none is = absurd is
-asks_command arguments named (UsageError text) same none is = inr (none, subst (λ n. IsCommand n (UsageError text)) same is)
+pub asks_command : (arguments : List Text) (named : Option (Text × List Row)) (o : Request) → named ≡ entered arguments → faults arguments ≡ [] → IsAsked named o → Asks arguments o
+asks_command arguments named (Check w) same none is = (none, subst (λ n. IsAsked n (Check w)) same is)
+asks_command arguments named (Explain w) same none is = (none, subst (λ n. IsAsked n (Explain w)) same is)
+asks_command arguments named (Object w) same none is = (none, subst (λ n. IsAsked n (Object w)) same is)
+asks_command arguments named (ObjectLines w) same none is = (none, subst (λ n. IsAsked n (ObjectLines w)) same is)
+asks_command arguments named (SuggestPools w) same none is = (none, subst (λ n. IsAsked n (SuggestPools w)) same is)
+asks_command arguments named (Sample w) same none is = (none, subst (λ n. IsAsked n (Sample w)) same is)
+asks_command arguments named (Cover w) same none is = (none, subst (λ n. IsAsked n (Cover w)) same is)
+asks_command arguments named (Help text) same none is = absurd is.0
+asks_command arguments named (UsageError text) same none is = inr (none, subst (λ n. IsAsked n (UsageError text)) same is)
 asks_command arguments named NoMemory same none is = tt
 
 no_help : (k : ErrorKind) → k ≡ OutOfMemory → IsHelp k → ⊥

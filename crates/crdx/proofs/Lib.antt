@@ -6,7 +6,7 @@
 -- The envelope: `EnvelopeLemmas` is about what `split` and `join` make of an object, and about a sample in its envelope.
 -- The command line: `CommandLineLemmas` says what the matches of `clap` ask for.
 -- Answers: `CheckLemmas` has those of `check`, `ObjectLemmas` those of `validate`, `prune`, `default` and `leaves`, `LineLemmas` texts
--- and choices as they are printed.
+-- and choices as they are printed, `PatternLemmas` patterns that are refused.
 -- `LineAnswerLemmas` has the answers to lines, one after the other. `ObjectInputLemmas` has the documents on lines, and over lines.
 -- `CoverLemmas` has the lines of a cover that are out.
 -- Runs: `RunLemmas` says, by the documents at hand, why a run has no answer, and which result the run has with each cause; `PoolsLemmas`
@@ -23,5 +23,6 @@ pub mod RunLemmas
 pub mod PoolsLemmas
 pub mod ObjectInputLemmas
 pub mod CheckLemmas
+pub mod PatternLemmas
 pub mod CommandLineLemmas
 pub mod EnvelopeLemmas

@@ -16,7 +16,7 @@ use Rattle.suggest.specs.Suggested.Document.{suggested_document}
 use Rattle.crdx.specs.Output.Line.{line}
 use Rattle.crdx.specs.Program.Documents.{Lines, AreLinesAmong}
 use Rattle.crdx.specs.Program.Objects.{HasInput, IsNoText, IsBrokenAt}
-use Rattle.crdx.specs.Program.Requested.{IsAcceptedSchema, pool_limits_of}
+use Rattle.crdx.specs.Program.Requested.{numbers_of, IsAcceptedSchema, pool_limits_of}
 use Rattle.crdx.specs.Program.RunResult.{Effects, WritesNothing, IsRunResult, IsWanted, IsPoolsRequest, pools_line, suggested, unwritten, unread_objects, not_suggested, on_objects, read_failed}
 use Rattle.crdx.specs.Internal.Cause.{IsObjectInputCause, IsSuggestionCause, IsPoolsRequestCause}
 use Rattle.crdx.specs.Internal.ExitStatus.{status, cause_of_suggestion, IsWritten}
@@ -36,13 +36,13 @@ input_also at_hand words Is Also also (word, among, lines, at, is) = (word, amon
 module _ (run : Effects) (arguments : PoolsArguments) (nothing : WritesNothing run) where
   module _ (raw : Data) (N : Node) (accepted : IsAcceptedSchema run.documents arguments.common raw) (nodes : AreNodesOf true N raw) where
     -- an input that is named has no objects, or could not be read
-    result_of_objects : (cause : Cause) (code : ℕ) → IsObjectInputCause (HasInput run.lines (map (λ s. s.now) arguments.from.items)) run.failed_reads_before run.failed_reads cause
+    result_of_objects : (cause : Cause) (code : ℕ) → IsObjectInputCause (numbers_of arguments.common) (HasInput run.lines (map (λ s. s.now) arguments.from.items)) run.failed_reads_before run.failed_reads cause
         → code ≡ status cause → IsRunResult run (SuggestPools arguments) code
     result_of_objects (Read i) code why e = rw e (read_failed why nothing)
     result_of_objects (Document i fault) code why e =
-        rw e (on_objects arguments 3 refl (unread_objects (raw, accepted) (fault, why.0, input_also run.lines _ (IsNoText fault) _ (λ ls is. inl is) why.1) nothing))
+        rw e (on_objects arguments 3 refl (unread_objects (raw, accepted) (fault, why.0, input_also run.lines _ (IsNoText (numbers_of arguments.common) fault) _ (λ ls is. inl is) why.1) nothing))
     result_of_objects (Line number fault) code why e =
-        rw e (on_objects arguments 3 refl (unread_objects (raw, accepted) (fault, why.0, input_also run.lines _ (IsBrokenAt number fault) _ (λ ls is. inr (number, is)) why.1) nothing))
+        rw e (on_objects arguments 3 refl (unread_objects (raw, accepted) (fault, why.0, input_also run.lines _ (IsBrokenAt (numbers_of arguments.common) number fault) _ (λ ls is. inr (number, is)) why.1) nothing))
     result_of_objects NoMemory code why e = result_of_nothing run (SuggestPools arguments) code nothing e
     result_of_objects _ code why e = absurd why
 
@@ -92,10 +92,10 @@ module _ (run : Effects) (arguments : PoolsArguments) where
 
 module _ (at_hand later : Lines) (among : AreLinesAmong later at_hand) (arguments : PoolsArguments) where
   pub wanted_before : (w : Wanted) → IsWanted later arguments w → IsWanted at_hand arguments w
-  wanted_before w is = record { objects = objects_before at_hand later among _ w.objects is.objects; varied = is.varied; without = is.without }
+  wanted_before w is = record { objects = objects_before (numbers_of arguments.common) at_hand later among _ w.objects is.objects; varied = is.varied; without = is.without }
 
   pub suggestion_before : (unread read : ℕ) (raw : Data) (N : Node) (cause : Cause) → IsSuggestionCause later unread read arguments raw N cause → IsSuggestionCause at_hand unread read arguments raw N cause
-  suggestion_before unread read raw N cause (inl why) = inl (input_cause_as (HasInput later words) (HasInput at_hand words) (inputs_before at_hand later among words) unread read cause why)
+  suggestion_before unread read raw N cause (inl why) = inl (input_cause_as (numbers_of arguments.common) (HasInput later words) (HasInput at_hand words) (inputs_before at_hand later among words) unread read cause why)
     where
       words : List (List ℕ)
       words = map (λ s. s.now) arguments.from.items

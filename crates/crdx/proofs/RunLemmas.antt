@@ -1,6 +1,6 @@
 -- How the causes of a run and its status go together with what is asked of the documents at hand.
-use Rattle.std.proofs.Common.{◌≡◌, ◌≢◌, ◌⊎◌, ◌≤◌, ◌<◌, ℕ, List, [], ◌∷◌, Option, Some, None, Bor, Ok, Err, refl, sym, subst, inl, inr, take, map, string_bytes, IsSomeAnd, Bool, true, arith, length, append-nil, ◌∙◌}
-use Rattle.std.specs.Prelude.{IfSome, IfOk, IfErr, OnErr, Result}
+use Rattle.std.proofs.Common.{◌≡◌, ◌≢◌, ◌⊎◌, ◌≤◌, ◌<◌, ℕ, List, [], ◌∷◌, Option, Some, None, Bor, Ok, Err, refl, sym, subst, inl, inr, take, map, string_bytes, IsSomeAnd, Bool, true, false, arith, length, append-nil, ◌∙◌}
+use Rattle.std.specs.Prelude.{if◌then◌else◌, IfSome, IfOk, IfErr, OnErr, Result}
 use Rattle.cover.specs.Cover.{objects_of}
 use Rattle.std.specs.Io.KnownBytes.{Appends, Keeps}
 use Rattle.jtree.specs.Data.{Data}
@@ -11,7 +11,9 @@ use Rattle.schema.specs.Rules.Breaks.{Break, Breaking, AreViolations, IsUnbroken
 use Rattle.schema.specs.declared.refused.Refused.{Refused}
 use Rattle.schema.specs.declared.refused.Refused.TheVariants as refusal
 use Rattle.stored.specs.Schemas.Accepted.{IsBroken, IsRefusal}
-use Rattle.schema.specs.Document.ReadFault.{IsReadFault}
+use Rattle.schema.specs.Document.Forms.{Form}
+use Rattle.schema.specs.Document.Forms as form
+use Rattle.schema.specs.Document.ReadFault.{IsReadFaultOf}
 use Rattle.schema.specs.declared.fault.SFault.{SFault}
 use Rattle.schema.specs.declared.fault.SFault.TheVariants as s
 use Rattle.schema.specs.declared.violation.Violation.{Violation}
@@ -19,25 +21,27 @@ use Rattle.crdx.specs.Program.RunResult.{Effects, WritesNothing, IsRunResult, an
 use Rattle.crdx.specs.Output.Line.{lines}
 use Rattle.crdx.specs.Output.PartialOutput.{IsPartialOutput}
 use Rattle.crdx.specs.Output.Walk.{WritesPage}
-use Rattle.crdx.specs.Program.Requested.{limits_of, pool_limits_of, total_of, IsRequested, IsRequestedWalk, IsRequestedCrd, IsRequestedSchema, IsRequestedRoot, HasAcceptedSchema, IsCrdRefused, ArePools, AreRootAndPools}
+use Rattle.crdx.specs.Program.Requested.{numbers_of, limits_of, pool_limits_of, total_of, IsRequested, IsRequestedWalk, IsRequestedCrd, IsRequestedSchema, IsRequestedRoot, IsRequestedWritten, IsRequestedStandard, form_asked, HasRefusedPattern, HasAcceptedSchema, IsCrdRefused, IsRefusedAs, ArePools, AreRootAndPools}
+use Rattle.crdx.specs.Program.Standard.{Standard, asks_as_written}
 use Rattle.crdx.specs.declared.inputs.InputName.{InputName}
-use Rattle.crdx.specs.Program.Documents.{Documents, file_name, AreAmong}
+use Rattle.crdx.specs.Program.Documents.{Read as ReadDocuments, Documents, file_name, AreAmong}
 use Rattle.crdx.specs.Internal.ExitStatus.{status, cause_of_reading, cause_of_refusal, cause_of_pools, cause_of_walk, IsWritten}
-use Rattle.crdx.specs.Internal.Cause.{IsReadFailure, IsReadCause, IsBrokenCause, IsSchemaCause, IsPoolsCause, IsPlanCause, IsTextCause, IsAfterCause, IsOfPlan, IsRequestedPlanCause, IsFieldCause, IsObjectCause, IsDocumentCause, IsInputCause, IsSampleCause, IsSampleResult, IsWalkCause, IsCoveringCause, IsCoverCause, IsCoverResult}
+use Rattle.crdx.specs.Internal.Cause.{IsReadFailure, IsReadCauseAs, IsPatternsCause, IsWrittenCause, IsBrokenCause, IsSchemaCause, IsPoolsCause, IsPlanCause, IsTextCause, IsAfterCause, IsOfPlan, IsRequestedPlanCause, IsFieldCause, IsObjectCause, IsDocumentCause, IsInputCause, IsSampleCause, IsSampleResult, IsWalkCause, IsCoveringCause, IsCoverCause, IsCoverResult}
 use Rattle.plan.specs.Pools.Pools.{Pools}
 use Rattle.plan.specs.Pools.PoolsFault.{IsPoolsFault}
 use Rattle.plan.specs.Pools.PlanFault.{IsPlanFault}
 use Rattle.plan.specs.declared.pool_limits.PoolLimits.{PoolLimits}
 use Rattle.plan.specs.Samples.Question.{Question}
 use Rattle.plan.specs.declared.fault.PFault.{PFault}
-use Rattle.plan.specs.declared.fault.PFault.TheVariants.{Form}
+use Rattle.plan.specs.declared.fault.PFault.TheVariants.{Form as PoolsForm}
 use Rattle.plan.specs.declared.fault.PFault.TheVariants as p
 use Rattle.enumerate.specs.Page.{IsSampleOf}
 use Rattle.crdx.specs.declared.walk.line.Envelope.{Envelope}
+use Rattle.jtree.specs.declared.read_with.Numbers.{Numbers}
 use Rattle.crdx.specs.declared.running.causes.Input.TheVariants as input
 use Rattle.crdx.specs.declared.running.causes.PlaceCode.TheVariants as code
 use Rattle.crdx.specs.declared.running.causes.Cause.{Cause}
-use Rattle.crdx.specs.declared.running.causes.Cause.TheVariants.{Read, Document, Line, Crd, Pools as PoolsCause, Place, Violations, NoField, NotStored, NotASample, Write, NoMemory}
+use Rattle.crdx.specs.declared.running.causes.Cause.TheVariants.{Read, Document, Line, Crd, Pools as PoolsCause, Place, Violations, Patterns, NoField, NotStored, NotASample, Write, NoMemory}
 use Rattle.crdx.specs.declared.running.answer.Answer.{Answer}
 use Rattle.crdx.specs.declared.running.ended.Ended.{Ended}
 use Rattle.crdx.specs.declared.running.refusal.Refusal.{Refusal}
@@ -55,25 +59,27 @@ use Rattle.jtree.specs.Failures.{HasFailed, one_more}
 use Rattle.std.proofs.lemmas.Bool.Decides.{nat_tests}
 use Rattle.crdx.proofs.PageLemmas.{PagesAgree}
 use Rattle.crdx.proofs.WalkLemmas.{Appends-nothing}
+use Rattle.crdx.proofs.PatternLemmas.{some_refused}
 
 module _ (has : Documents) (unread read : ℕ) (arguments : CommonArguments) where
-  pub cause_of_fault : (d : Data) (fault : SFault) → has (file_name arguments.crd) (Ok d) → IsReadFault (limits_of arguments) d arguments.version.now fault → IsReadCause has unread read arguments (cause_of_reading fault)
-  cause_of_fault d s.NotACrd at is = (d, at, λ e. cc, is)
-  cause_of_fault d s.NoSuchVersion at is = (d, at, λ e. cc, is)
-  cause_of_fault d (s.KeywordForm p) at is = (d, at, λ e. cc, is)
-  cause_of_fault d (s.TooLarge p) at is = (d, at, λ e. cc, is)
-  cause_of_fault d s.NoMemory at is = tt
+  pub cause_of_fault : (f : Form) (d : Data) (fault : SFault) → has (numbers_of arguments) (file_name arguments.crd) (Ok d) → IsReadFaultOf f (limits_of arguments) d arguments.version.now fault
+      → IsReadCauseAs f has unread read arguments (cause_of_reading fault)
+  cause_of_fault f d s.NotACrd at is = (d, at, λ e. cc, is)
+  cause_of_fault f d s.NoSuchVersion at is = (d, at, λ e. cc, is)
+  cause_of_fault f d (s.KeywordForm p) at is = (d, at, λ e. cc, is)
+  cause_of_fault f d (s.TooLarge p) at is = (d, at, λ e. cc, is)
+  cause_of_fault f d s.NoMemory at is = tt
 
   -- why a request that names the schema has no answer
-  pub input_of_reading : (request : Request) (cause : Cause) → (IsCrdRefused has arguments → IsInputRefused has request)
-      → IsReadCause has unread read arguments cause → IsInputCause has unread read request cause
-  input_of_reading request (Read i) refuse why = why.1
-  input_of_reading request (Document i fault) refuse why = refuse (inl (fault, why.1, why.2))
-  input_of_reading request (Crd fault) refuse why = refuse (inr (fault, why))
-  input_of_reading request (Place input.Crd code.KeywordForm p) refuse why = refuse (inr (s.KeywordForm p, why))
-  input_of_reading request (Place input.Crd code.TooLarge p) refuse why = refuse (inr (s.TooLarge p, why))
-  input_of_reading request NoMemory refuse why = tt
-  input_of_reading request _ refuse why = absurd why
+  pub input_of_reading : (f : Form) (request : Request) (cause : Cause) → (IsRefusedAs f has arguments → IsInputRefused has request)
+      → IsReadCauseAs f has unread read arguments cause → IsInputCause has unread read request cause
+  input_of_reading f request (Read i) refuse why = why.1
+  input_of_reading f request (Document i fault) refuse why = refuse (inl (fault, why.1, why.2))
+  input_of_reading f request (Crd fault) refuse why = refuse (inr (fault, why))
+  input_of_reading f request (Place input.Crd code.KeywordForm p) refuse why = refuse (inr (s.KeywordForm p, why))
+  input_of_reading f request (Place input.Crd code.TooLarge p) refuse why = refuse (inr (s.TooLarge p, why))
+  input_of_reading f request NoMemory refuse why = tt
+  input_of_reading f request _ refuse why = absurd why
 
   some_break : (vs : List Violation) (breaks : List Break) → map reported vs ≡ map reported_of breaks → vs ≢ [] → breaks ≢ []
   some_break [] breaks same some none = some refl
@@ -102,7 +108,7 @@ module _ (has : Documents) (unread read : ℕ) (arguments : CommonArguments) (re
 
   -- why a request that asks for a schema that breaks no rule has no answer
   pub input_of_schema : (cause : Cause) → (IsCrdRefused has arguments → IsInputRefused has request) → IsSchemaCause has unread read arguments cause → IsInputCause has unread read request cause
-  input_of_schema cause refuse (inl why) = input_of_reading has unread read arguments request cause refuse why
+  input_of_schema cause refuse (inl why) = input_of_reading has unread read arguments form.object request cause refuse why
   input_of_schema cause refuse (inr why) = input_of_broken why.0 cause why.1 why.2
 
 -- the root of the schema that was read
@@ -117,27 +123,49 @@ field_input has unread read arguments N (NoField fault) asked why = fields argum
 field_input has unread read arguments N NoMemory asked why = tt
 field_input has unread read arguments N _ asked why = absurd why
 
-module _ (has later : Documents) (unread read : ℕ) (arguments : ObjectArguments) (N : Node) (among : AreAmong later has) (root : IsRequestedRoot has arguments.common N) where
-  -- the object is read of documents that were at hand before, where the schema breaks no rule
-  input_of_object : (cause : Cause) → IsReadFailure later unread read input.Object (file_name arguments.object) cause → IsInputCause has unread read (Object arguments) cause
+-- the form that the schema has to have, by whether objects are judged by it as it is written
+abbrev form_if : Bool → Form
+form_if as_written = if as_written then form.written_schema else form.object
+
+pub refused_by_rules : (has : Documents) (arguments : ObjectArguments) → asks_as_written arguments ≡ false → IsCrdRefused has arguments.common → IsRefusedAs (form_asked arguments) has arguments.common
+refused_by_rules has arguments asks why = subst (λ b. IsRefusedAs (form_if b) has arguments.common) (sym asks) why
+
+refused_as_written : (has : Documents) (arguments : ObjectArguments) → asks_as_written arguments ≡ true → IsRefusedAs form.written_schema has arguments.common → IsRefusedAs (form_asked arguments) has arguments.common
+refused_as_written has arguments asks why = subst (λ b. IsRefusedAs (form_if b) has arguments.common) (sym asks) why
+
+module _ (has : Documents) (unread read : ℕ) (arguments : ObjectArguments) (asks : asks_as_written arguments ≡ true) (request : Request) (no : HasRefusedPattern has arguments → IsAnswer has request 1 []) where
+  input_of_patterns : (raw : Data) (cause : Cause) → IsRequestedWritten has arguments.common raw → IsPatternsCause raw cause → IsInputCause has unread read request cause
+  input_of_patterns raw (Patterns found) asked why = no (asks, (raw, asked, some_refused raw found.items why.0 why.1))
+  input_of_patterns raw NoMemory asked why = tt
+  input_of_patterns raw _ asked why = absurd why
+
+  -- why a request that asks for a schema as it is written has no answer
+  pub input_of_written : (cause : Cause) → (IsRefusedAs (form_asked arguments) has arguments.common → IsInputRefused has request) → IsWrittenCause has unread read arguments.common cause
+      → IsInputCause has unread read request cause
+  input_of_written cause refuse (inl why) = input_of_reading has unread read arguments.common form.written_schema request cause (λ r. refuse (refused_as_written has arguments asks r)) why
+  input_of_written cause refuse (inr (raw, asked, why)) = input_of_patterns raw cause asked why
+
+module _ (has later : Documents) (unread read : ℕ) (arguments : ObjectArguments) (S : Standard) (among : AreAmong later has) (standard : IsRequestedStandard has arguments S) where
+  -- the object is read of documents that were at hand before, where there is something to judge it by
+  input_of_object : (cause : Cause) → IsReadFailure (later (numbers_of arguments.common)) unread read input.Object (file_name arguments.object) cause → IsInputCause has unread read (Object arguments) cause
   input_of_object (Read i) why = why.1
-  input_of_object (Document i fault) why = inr ((root.0, root.1), (fault, why.1, among (file_name arguments.object) (Err fault) why.2))
+  input_of_object (Document i fault) why = inr ((S, standard), (fault, why.1, among (numbers_of arguments.common) (file_name arguments.object) (Err fault) why.2))
   input_of_object NoMemory why = tt
   input_of_object _ why = absurd why
 
-  input_of_document : (document : Data) (cause : Cause) → later (file_name arguments.object) (Ok document) → IsObjectCause N document arguments.command cause → IsInputCause has unread read (Object arguments) cause
-  input_of_document document NotStored at why = object arguments N document 1 [] (record { root = root; at_hand = among (file_name arguments.object) (Ok document) at }) why
+  input_of_document : (document : Data) (cause : Cause) → later (numbers_of arguments.common) (file_name arguments.object) (Ok document) → IsObjectCause S document arguments.command cause → IsInputCause has unread read (Object arguments) cause
+  input_of_document document NotStored at why = object arguments S document 1 [] (record { standard = standard; at_hand = among (numbers_of arguments.common) (file_name arguments.object) (Ok document) at }) why
   input_of_document document NoMemory at why = tt
   input_of_document document _ at why = absurd why
 
   -- why nothing is printed of the object that is asked about
-  pub object_input : (cause : Cause) → IsDocumentCause later unread read N arguments cause → IsInputCause has unread read (Object arguments) cause
+  pub object_input : (cause : Cause) → IsDocumentCause later unread read S arguments cause → IsInputCause has unread read (Object arguments) cause
   object_input cause (inl why) = input_of_object cause why
   object_input cause (inr (document, at, why)) = input_of_document document cause at why
 
-pub cause_of_pools_fault : (has : Documents) (unread read : ℕ) (limits : PoolLimits) (name : InputName) (d : Data) (fault : PFault) → has (file_name name) (Ok d)
+pub cause_of_pools_fault : (has : ReadDocuments) (unread read : ℕ) (limits : PoolLimits) (name : InputName) (d : Data) (fault : PFault) → has (file_name name) (Ok d)
     → IsPoolsFault limits d fault → IsPoolsCause has unread read limits (Some name) (cause_of_pools fault)
-cause_of_pools_fault has unread read limits name d (Form p) at is = (d, at, λ e. cc, is)
+cause_of_pools_fault has unread read limits name d (PoolsForm p) at is = (d, at, λ e. cc, is)
 cause_of_pools_fault has unread read limits name d p.TooLarge at is = (d, at, λ e. cc, is)
 cause_of_pools_fault has unread read limits name d p.NoMemory at is = tt
 cause_of_pools_fault has unread read limits name d p.BadLimit at is = absurd is
@@ -145,16 +173,16 @@ cause_of_pools_fault has unread read limits name d (p.BadPath text) at is = absu
 
 -- of a limit that a plan can have
 pub cause_of_plan_fault : (N : Node) (P : Pools) (limit bits : ℕ) (fault : PFault) → 1 ≤ limit → limit < bits → IsPlanFault N P limit bits fault → IsPlanCause N P (cause_of_pools fault)
-cause_of_plan_fault N P limit bits (Form p) some below is = absurd is
+cause_of_plan_fault N P limit bits (PoolsForm p) some below is = absurd is
 cause_of_plan_fault N P limit bits p.TooLarge some below is = absurd is
 cause_of_plan_fault N P limit bits p.NoMemory some below is = tt
 cause_of_plan_fault N P limit bits p.BadLimit some below (inl zero) = absurd (omega arith)
 cause_of_plan_fault N P limit bits p.BadLimit some below (inr above) = absurd (omega arith)
 cause_of_plan_fault N P limit bits (p.BadPath text) some below is = is.1
 
-among_some : (first second : Documents) (name : Option InputName) (r q : InputName → Type 0) → ((n : InputName) → r n → q n) → IsSomeAnd name r → IsSomeAnd name q
-among_some first second None r q f is = is
-among_some first second (Some n) r q f is = f n is
+among_some : (name : Option InputName) (r q : InputName → Type 0) → ((n : InputName) → r n → q n) → IsSomeAnd name r → IsSomeAnd name q
+among_some None r q f is = is
+among_some (Some n) r q f is = f n is
 
 -- a request of a plan is refused where the plan is
 plan_refused : (has : Documents) (plan : PlanArguments) (request : Request) → IsOfPlan plan request → IsPlanRefused has plan → IsInputRefused has request
@@ -172,26 +200,26 @@ no_plan has plan _ of breaks are = absurd of
 
 -- the pools are read of documents that were at hand before, where the schema is accepted
 pools_refused : (has later : Documents) (unread read : ℕ) (arguments : PlanArguments) (request : Request) (cause : Cause) → IsOfPlan arguments request → AreAmong later has → HasAcceptedSchema has arguments.common
-    → IsPoolsCause later unread read (pool_limits_of arguments.common) arguments.pools cause → IsInputCause has unread read request cause
+    → IsPoolsCause (later (numbers_of arguments.common)) unread read (pool_limits_of arguments.common) arguments.pools cause → IsInputCause has unread read request cause
 pools_refused has later unread read arguments request (Read i) of among accepted why = why.1
 pools_refused has later unread read arguments request (Document i fault) of among accepted why =
-    plan_refused has arguments request of (inr (inl (accepted, inl (fault, why.1, among_some later has arguments.pools _ _ (λ n is. among (file_name n) (Err fault) is) why.2))))
+    plan_refused has arguments request of (inr (inl (accepted, inl (fault, why.1, among_some arguments.pools _ _ (λ n is. among (numbers_of arguments.common) (file_name n) (Err fault) is) why.2))))
 pools_refused has later unread read arguments request (PoolsCause fault) of among accepted why =
-    plan_refused has arguments request of (inr (inl (accepted, inr (fault, among_some later has arguments.pools _ _ (λ n is. (is.0, among (file_name n) (Ok is.0) is.1, is.2, is.3)) why))))
+    plan_refused has arguments request of (inr (inl (accepted, inr (fault, among_some arguments.pools _ _ (λ n is. (is.0, among (numbers_of arguments.common) (file_name n) (Ok is.0) is.1, is.2, is.3)) why))))
 pools_refused has later unread read arguments request (Place input.Pools code.Form p) of among accepted why =
-    plan_refused has arguments request of (inr (inl (accepted, inr (Form p, among_some later has arguments.pools _ _ (λ n is. (is.0, among (file_name n) (Ok is.0) is.1, is.2, is.3)) why))))
+    plan_refused has arguments request of (inr (inl (accepted, inr (PoolsForm p, among_some arguments.pools _ _ (λ n is. (is.0, among (numbers_of arguments.common) (file_name n) (Ok is.0) is.1, is.2, is.3)) why))))
 pools_refused has later unread read arguments request NoMemory of among accepted why = tt
 pools_refused has later unread read arguments request _ of among accepted why = absurd why
 
 pub pools_input : (has later : Documents) (unread read : ℕ) (arguments : PlanArguments) (cause : Cause) → AreAmong later has → HasAcceptedSchema has arguments.common
-    → IsPoolsCause later unread read (pool_limits_of arguments.common) arguments.pools cause → IsRequestedPlanCause has unread read arguments cause
+    → IsPoolsCause (later (numbers_of arguments.common)) unread read (pool_limits_of arguments.common) arguments.pools cause → IsRequestedPlanCause has unread read arguments cause
 pools_input has later unread read arguments cause among accepted why request of = pools_refused has later unread read arguments request cause of among accepted why
 
 -- pools of documents that were at hand before
-pub pools_before : (has later : Documents) (limits : PoolLimits) (name : Option InputName) (P : Pools) → AreAmong later has → ArePools later limits name P
-    → ArePools has limits name P
-pools_before has later limits None P among is = is
-pools_before has later limits (Some n) P among is = (is.0, among (file_name n) (Ok is.0) is.1, is.2, is.3, is.4)
+pub pools_before : (has later : Documents) (numbers : Numbers) (limits : PoolLimits) (name : Option InputName) (P : Pools) → AreAmong later has → ArePools (later numbers) limits name P
+    → ArePools (has numbers) limits name P
+pools_before has later numbers limits None P among is = is
+pools_before has later numbers limits (Some n) P among is = (is.0, among numbers (file_name n) (Ok is.0) is.1, is.2, is.3, is.4)
 
 module _ (has : Documents) (unread read : ℕ) (arguments : PlanArguments) (N : Node) (P : Pools) (are : AreRootAndPools has arguments N P) where
   path_refused : (request : Request) (cause : Cause) → IsOfPlan arguments request → IsPlanCause N P cause → IsInputCause has unread read request cause
@@ -204,7 +232,7 @@ module _ (has : Documents) (unread read : ℕ) (arguments : PlanArguments) (N : 
   plan_input cause why request of = path_refused request cause of why
 
 module _ (has : Documents) (unread read : ℕ) (arguments : SampleArguments) (q : Question) (e : Option Envelope) (asked : IsRequested has arguments.plan q e) where
-  text_input : (text : Bor (List ℕ)) (cause : Cause) → arguments.after ≡ Some text → IsTextCause text.now cause → IsInputCause has unread read (Sample arguments) cause
+  text_input : (text : Bor (List ℕ)) (cause : Cause) → arguments.after ≡ Some text → IsTextCause (numbers_of arguments.plan.common) text.now cause → IsInputCause has unread read (Sample arguments) cause
   text_input text (Document i fault) is why = inr (
     q.root,
     q.pools,
@@ -216,7 +244,7 @@ module _ (has : Documents) (unread read : ℕ) (arguments : SampleArguments) (q 
   text_input text _ is why = absurd why
 
   -- the tree to go on from is read where there is a plan
-  pub after_input : (after : Option (Bor (List ℕ))) (cause : Cause) → arguments.after ≡ after → IsAfterCause after cause → IsInputCause has unread read (Sample arguments) cause
+  pub after_input : (after : Option (Bor (List ℕ))) (cause : Cause) → arguments.after ≡ after → IsAfterCause (numbers_of arguments.plan.common) after cause → IsInputCause has unread read (Sample arguments) cause
   after_input None cause is why = absurd why
   after_input (Some text) cause is why = text_input text cause is why
 
@@ -244,6 +272,7 @@ module _ (run : Effects) (request : Request) where
   result_of_input (PoolsCause fault) code why nothing (inl e) = rw e (refused why nothing)
   result_of_input (Place i c p) code why nothing (inl e) = rw e (refused why nothing)
   result_of_input (Violations vs) code why nothing (inl e) = rw e (answered_no why nothing)
+  result_of_input (Patterns found) code why nothing (inl e) = rw e (answered_no why nothing)
   result_of_input (NoField fault) code why nothing (inl e) = rw e (answered_no why nothing)
   result_of_input NotStored code why nothing (inl e) = rw e (answered_no why nothing)
   result_of_input (Line n fault) code why nothing (inl e) = absurd why

@@ -3,8 +3,10 @@ pub mod Members
 pub mod Block
 pub mod PartialLines
 pub mod Progress
+pub mod RefusedPatterns
 pub mod Cause
 pub mod Found
+pub mod Judge
 pub mod LineProgress
 pub mod ObjectInputs
 pub mod ExitStatus

@@ -3,7 +3,8 @@
 ghost use Rattle.std.specs.Prelude.{◌≡◌, ◌≢◌, ◌⊎◌, ◌<◌, ℕ, List, [], ◌∷◌, true, false, Option, Result, length, Ok, Err, IfOk, IfErr, OnOk, IfSome};
 ghost use Rattle.jtree.specs.Data.{Data};
 ghost use Rattle.jtree.specs.Failures.{one_more};
-ghost use Rattle.jtree.specs.Reads.{Reads};
+ghost use Rattle.jtree.specs.ReadsWith.{ReadsWith};
+ghost use Rattle.jtree.specs.declared.read_with.Numbers.{Numbers as NumbersData};
 ghost use Rattle.jtree.specs.View.{data_of};
 ghost use Rattle.jtree.specs.declared.fault.JFault.TheVariants.{NoMemory, ReadFailed, TooLong};
 ghost use Rattle.crdx.specs.Program.Documents.{file_name, AreAmong, AreLinesAmong};
@@ -13,7 +14,7 @@ ghost use Rattle.crdx.specs.declared.inputs.InFault.TheVariants.{Failed, Documen
 
 use jtree::lines::{LineFeed, LineSource};
 use jtree::source::{Feed, read_bytes};
-use jtree::{JFault, Tree};
+use jtree::{JFault, Numbers, Tree};
 use std::alloc::Global;
 use std::fs::{self, Metadata};
 use std::io::{self, ErrorKind, Read};
@@ -82,8 +83,9 @@ impl From<ErrorKind> for Unread {
 
 /// A place that has documents, and lines with a document each.
 pub trait Inputs {
-    // What the file of this name has, or the standard input where there is no name: a document, or why there is none.
-    ghost has: { Self → Option (List ℕ) → Result Data JFault → Type 0 };
+    // What the file of this name has, or the standard input where there is no name, where these numbers are read: a document, or why there
+    // is none.
+    ghost has: { Self → NumbersData → Option (List ℕ) → Result Data JFault → Type 0 };
 
     // What the lines of the file of this name, or of the standard input where there is no name, can be, as the implementation
     // has it: of known bytes their lines (`AreLines`), of unknown ones any. No clause ties them to bytes.
@@ -97,12 +99,12 @@ pub trait Inputs {
     // How often an input could not be opened or read, up to the greatest count.
     ghost failures: { Self → ℕ };
 
-    /// The document of the input of this name.
+    /// The document of the input of this name, which may have these numbers.
     ///
     /// `Failed` where it cannot be opened or read, and `Document` where it is no document, or out of memory.
-    fn tree(&mut self, name: InputName<'_>) -> Result<Tree, InFault>
-        ensures document { IfOk result (λ t. has self.old (file_name name.entry) (Ok (data_of t))) }
-        ensures refused { IfErr result (IsInputFault (has self.old) (file_name name.entry)) }
+    fn tree(&mut self, name: InputName<'_>, numbers: Numbers) -> Result<Tree, InFault>
+        ensures document { IfOk result (λ t. has self.old numbers (file_name name.entry) (Ok (data_of t))) }
+        ensures refused { IfErr result (IsInputFault (has self.old numbers) (file_name name.entry)) }
         ensures stays { AreAmong (has self.new) (has self.old) }
         ensures lines { AreLinesAmong (lines self.new) (lines self.old) }
         ensures counts { failures self.new ≡ failures_after_read (failures self.old) result };
@@ -200,17 +202,19 @@ impl<R: Files + Input> HostInputs<'_, R> {
 }
 
 impl<R: Files + Input + AllocGlobal> HostInputs<'_, R> {
-    fn read(&mut self, name: InputName<'_>) -> Result<Tree, InFault>
+    fn read(&mut self, name: InputName<'_>, numbers: Numbers) -> Result<Tree, InFault>
         ensures failures { self.new.failures ≡ self.old.failures }
         ensures no_read { IfErr result (λ e. e ≢ Document ReadFailed) }
     {
         let alloc = self.rt.alloc();
         match name {
             InputName::File(name) => match fs::open(self.rt, name) {
-                Ok(file) => read_document(alloc, file, &mut self.refused),
+                Ok(file) => read_document(alloc, file, numbers, &mut self.refused),
                 Err(error) => Err(self.not_opened(error.kind())),
             },
-            InputName::Stdin => read_document(alloc, self.rt.reader(), &mut self.refused),
+            InputName::Stdin => {
+                read_document(alloc, self.rt.reader(), numbers, &mut self.refused)
+            }
         }
     }
 
@@ -234,7 +238,7 @@ impl<R: Files + Input + AllocGlobal> HostInputs<'_, R> {
 
 impl<R: Files + Input + AllocGlobal> Inputs for HostInputs<'_, R> {
     // Nothing is known of files.
-    ghost has = { λ _ _ _. Unit {0} };
+    ghost has = { λ _ _ _ _. Unit {0} };
 
     ghost lines = { λ _ _ _. Unit {0} };
 
@@ -244,8 +248,8 @@ impl<R: Files + Input + AllocGlobal> Inputs for HostInputs<'_, R> {
 
     ghost failures = { λ s. s.failures };
 
-    fn tree(&mut self, name: InputName<'_>) -> Result<Tree, InFault> {
-        match self.read(name) {
+    fn tree(&mut self, name: InputName<'_>, numbers: Numbers) -> Result<Tree, InFault> {
+        match self.read(name, numbers) {
             Ok(tree) => Ok(tree),
             Err(InFault::Failed) => Err(self.count_failure()),
             Err(fault) => Err(fault),
@@ -298,18 +302,19 @@ impl<R: Files + Input + AllocGlobal> Inputs for HostInputs<'_, R> {
     }
 }
 
-/// The document that is all that the reader has left; where the bytes are none, they are kept.
+/// The document with these numbers that is all that the reader has left; where the bytes are none, they are kept.
 fn read_document<R: Read + Drop>(
     alloc: Global,
     reader: R,
+    numbers: Numbers,
     refused: &mut Option<Vec<u8>>,
 ) -> Result<Tree, InFault>
-    ensures ok { IfOk result (λ t. IfSome (R.remaining reader) (λ bytes. Reads bytes (data_of t))) }
-    ensures err { IfErr result (λ e. IfSome (R.remaining reader) (λ bytes. IsFaultOf bytes e)) }
+    ensures ok { IfOk result (λ t. IfSome (R.remaining reader) (λ bytes. ReadsWith numbers bytes (data_of t))) }
+    ensures err { IfErr result (λ e. IfSome (R.remaining reader) (λ bytes. IsFaultOf numbers bytes e)) }
     ensures no_read { IfErr result (λ e. e ≢ Document ReadFailed) }
 {
     let bytes = read_bytes(alloc, &mut Feed::new(reader))?;
-    match Tree::from_bytes(alloc, bytes.as_slice()) {
+    match Tree::from_bytes_with(alloc, bytes.as_slice(), numbers) {
         Ok(tree) => Ok(tree),
         Err(fault) => {
             *refused = Some(bytes);

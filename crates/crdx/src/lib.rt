@@ -17,9 +17,11 @@ pub mod arguments;
 mod envelope;
 pub mod inputs;
 pub mod phrases;
+mod profile;
 mod running;
 pub mod sink;
 pub mod walk;
 
 pub use envelope::{Parts, join, split};
+pub use profile::Profile;
 pub use running::run;

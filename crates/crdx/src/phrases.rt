@@ -96,7 +96,7 @@ pub fn reason_phrase(reason: Reason) -> &'static str
     }
 }
 
-/// What is wrong where an object has the fault of this number, 1 to 15.
+/// What is wrong where an object has the fault of this number, 1 to 18.
 pub fn fault_phrase(number: u8) -> &'static str
     ensures { result.now ≡ fault_phrase_of number }
 {
@@ -116,6 +116,9 @@ pub fn fault_phrase(number: u8) -> &'static str
         13 => "duplicate",
         14 => "junctor",
         15 => "undeclared",
+        16 => "pattern",
+        17 => "format",
+        18 => "multipleOf",
         _ => "",
     }
 }

@@ -6,6 +6,7 @@ ghost use Rattle.crdx.specs.Program.CommandLine.{Asks};
 ghost use Rattle.crdx.specs.declared.arguments.request.Request.{Request};
 
 mod answer;
+mod as_written;
 mod causes;
 mod checking;
 mod covering;
@@ -18,6 +19,7 @@ mod line_answers;
 mod lines;
 mod object_inputs;
 mod objects;
+mod patterns;
 mod refusal;
 mod reporting;
 mod sampling;

@@ -1,4 +1,5 @@
 //! The examples at the heads of the crates, line by line, each a test.
+use crate::judge_tests::fault_cases::OneFormat;
 use crate::support::documents::{SPEC, WIDGET, ZERO_AND_ONE};
 use crate::support::fakes::{FailingSink, FakeInputs};
 use crate::support::given::{TWO_FIELDS, made};
@@ -7,7 +8,9 @@ use cover::cover;
 use crdx::run;
 use enumerate::page;
 use explain::Listing;
+use formats::{Format, is_of};
 use jtree::Tree;
+use judge::faults;
 use patterns::{Pattern, PatternTests};
 use plan::{Plan, PoolLimits, Pools};
 use schema::{breaks, read_crd};
@@ -44,6 +47,29 @@ fn patterns_and_text_tests(rt: HostRuntime) -> Result<(), Fail> {
     let mut tests = PatternTests::new(alloc, &patterns)?;
     let is_word = tests.test("^[a-z]+$", "widget")?;
     assert!(rt; is_word, "a word");
+    Ok(())
+}
+
+#[test]
+fn formats(rt: HostRuntime) -> Result<(), Fail> {
+    let mut tests = PatternTests::new(rt.alloc(), &[])?;
+    let format = Format::named("date-time");
+    assert_eq!(rt; format, Some(Format::DateTime));
+    let is_date = is_of(&mut tests, Format::Date, "2023-02-29")?;
+    assert!(rt; !is_date, "no day of that year");
+    Ok(())
+}
+
+#[test]
+fn judge(rt: HostRuntime) -> Result<(), Fail> {
+    let alloc = rt.alloc();
+    let mut tests = OneFormat::new(alloc)?;
+    let schema = Tree::from_bytes(alloc, r#"{"required":["a"],"maxProperties":1}"#.as_bytes())?;
+    let value = Tree::from_bytes(alloc, r#"{"b":1}"#.as_bytes())?;
+    let found = faults(alloc, &mut tests, &schema, &value)?;
+    assert_eq!(rt; found.len(), 1);
+    assert_eq!(rt; found[0].path.as_str(), "/a");
+    assert_eq!(rt; found[0].test.number(), 12);
     Ok(())
 }
 

@@ -22,7 +22,10 @@
 //! | `stored_tests/value_cases` | values of a field that are valid or not, stored or not |
 //! | `stored_tests/bound_cases` | numbers of parts within bounds, and junctors by any test of a branch |
 //! | `explain_tests/field_cases` | the fields of a listing, and the field and the node of a path |
+//! | `formats_tests/format_cases` | formats: which texts are of them, and names of none |
 //! | `patterns_tests/pattern_cases` | patterns: what they match, what is none or too big, how they are written for the kit, and matchers that are kept |
+//! | `judge_tests/fault_cases` | values judged by schemas as they are written |
+//! | `judge_tests/pattern_cases` | the patterns of a schema, with their pointers |
 //! | `plan_tests/pools_cases`, `pool_limit_cases` | documents of pools, and how many entries they may have |
 //! | `plan_tests/size_set_cases` | sets of sizes |
 //! | `plan_tests/plan_cases`, `size_cases` | plans: their nodes, slots and limits, and the sizes of what may be there |
@@ -46,6 +49,7 @@
 //! | `program/presence_cases`, `presence_sample_cases` | junctors that ask which fields an object has: judged and validated, and listed |
 //! | `program/explain_cases`, `leaf_cases` | what `explain` and `leaves` print, and what they refuse |
 //! | `program/explanation_cases`, `large_cases` | what `--why` says below a refusal, and what `--large` lets through |
+//! | `program/profile_cases` | `--profile`: other numbers than integers of 64 bits |
 //! | `program/refusal_cases`, `sample_refusal_cases` | inputs that are refused, and which is judged first |
 //! | `program/input_cases` | documents in files, reads that fail after each byte, and which inputs a run reads |
 //! | `program/broken_sink_cases` | sinks that fail after each byte |
@@ -63,7 +67,11 @@ mod examples;
 #[cfg(test)]
 mod explain_tests;
 #[cfg(test)]
+mod formats_tests;
+#[cfg(test)]
 mod jtree_tests;
+#[cfg(test)]
+mod judge_tests;
 #[cfg(test)]
 mod patterns_tests;
 #[cfg(test)]

@@ -22,6 +22,7 @@ mod pools_cases;
 mod presence_cases;
 mod presence_sample_cases;
 mod present_path_cases;
+mod profile_cases;
 mod prune_cases;
 mod refusal_cases;
 mod resume_cases;

@@ -7,3 +7,4 @@ mod profile_cases;
 mod reading_cases;
 mod reason_cases;
 mod root_cases;
+mod written_cases;

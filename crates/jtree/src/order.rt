@@ -113,7 +113,6 @@ impl PartialEq for Tree {
         match (self, other) {
             (Tree::Bool(a), Tree::Bool(b)) => a == b,
             (Tree::Int(a), Tree::Int(b)) => a == b,
-            (Tree::Number(a), Tree::Number(b)) => a == b,
             (Tree::Text(a), Tree::Text(b)) => a == b,
             _ => is_same(self, other),
         }
@@ -152,7 +151,6 @@ impl Ord for Tree {
         match (self, other) {
             (Tree::Bool(a), Tree::Bool(b)) => a.cmp(b),
             (Tree::Int(a), Tree::Int(b)) => a.cmp(b),
-            (Tree::Number(a), Tree::Number(b)) => a.cmp(b),
             (Tree::Text(a), Tree::Text(b)) => a.cmp(b),
             _ => compare(self, other).order,
         }

@@ -87,3 +87,23 @@ sums_limited {w = w} {s = s} {limit = limit} h past within n =
       (λ m. let p = low.0 m in (omega arith, h.sound n p.1)),
       (λ (small, (i, (j, (p, q, sum)))). low.1 (omega arith, h.whole i j n (omega (arith, p.0)) p q sum (omega arith))),
     )
+
+-- where the second set has all from its least member up to the limit
+pub sums_full : (w a b n least limit : ℕ) → IsLeastFrom (HasBit w a) 0 n → IsLeastFrom (HasBit w b) 0 least → b / 2 ^ least ≡ (2 ^ w - 1) / 2 ^ (w - 1 - limit) / 2 ^ least → limit < w
+    → (m : ℕ) → HasBit w (bit_and (b * 2 ^ n % 2 ^ w) ((2 ^ w - 1) / 2 ^ (w - 1 - limit))) m ↔ ((m ≤ limit) × IsSum (HasBit w a) (HasBit w b) m)
+sums_full w a b n least limit first lowest same within m =
+    let count : w - (w - 1 - limit) ≡ limit + 1 = omega arith in
+    let fits : w - 1 - limit ≤ w = omega arith in
+    let low = low_bits w (limit + 1) (b * 2 ^ n % 2 ^ w) m in
+    let moved = shifted_left w n b m in
+    let ones : (2 ^ w - 1) / 2 ^ (w - 1 - limit) ≡ 2 ^ (limit + 1) - 1 = rw (ones_shr w (w - 1 - limit) fits, count) refl in
+    rw ones (
+      (λ h. let p = low.0 h in let q = moved.0 p.1 in (omega arith, (n, (m - n, (first.1, q.2, omega arith))))),
+      (λ (small, (i, (j, (p, q, sum)))).
+          let above : n ≤ i = elim (cases_lt i n) [ inl less ↦ absurd (first.2 i (omega arith) less p) | inr more ↦ more ] in
+          let beyond : least ≤ j = elim (cases_lt j least) [ inl less ↦ absurd (lowest.2 j (omega arith) less q) | inr more ↦ more ] in
+          let here = shifted_right b least (m - n) (m - n - least) (omega arith) in
+          let there = shifted_right (2 ^ (limit + 1) - 1) least (m - n) (m - n - least) (omega arith) in
+          let one = bit_at_ones (limit + 1) (m - n) (omega arith) in
+          low.1 (omega arith, moved.1 (omega arith, omega arith, (omega arith, grind (arith, here, there, one, same, ones))))),
+    )

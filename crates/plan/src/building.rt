@@ -77,7 +77,15 @@ fn build_object<Z: SizeSet>(
     let named = named_fields(alloc, &object.junctors)?;
     let slots = build_fields(arena, alloc, pools, path, &object.fields, keys, &named)?;
     let ends = ends_for(alloc, &object.junctors, &named)?;
-    let entry = row_entry(arena, alloc, slots, object.bounds, &ends, nullable)?;
+    let entry = row_entry(
+        arena,
+        alloc,
+        Vec::new(alloc),
+        slots,
+        object.bounds,
+        &ends,
+        nullable,
+    )?;
     arena.add(entry)
 }
 
@@ -163,7 +171,15 @@ fn build_map<Z: SizeSet>(
     )?;
     let slots = value_slots(alloc, arena.values.names.len(), value)?;
     let bounds = raised(map.bounds, pools.is_present(&below));
-    let entry = row_entry(arena, alloc, slots, bounds, &[true], nullable)?;
+    let entry = row_entry(
+        arena,
+        alloc,
+        Vec::new(alloc),
+        slots,
+        bounds,
+        &[true],
+        nullable,
+    )?;
     arena.add(entry)
 }
 

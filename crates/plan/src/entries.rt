@@ -63,10 +63,12 @@ fn later_tuples<Z: SizeSet>(
     Ok(later)
 }
 
-/// The entry of a row with these slots; `ends` has whether its junctors hold for each set of the named fields.
+/// The entry of a row with these slots; `ends` has whether its junctors hold for each set of the named fields. Its tables are made in the
+/// memory of `old`.
 pub(crate) fn row_entry<Z: SizeSet>(
     arena: &Arena<Z>,
     alloc: Global,
+    old: Vec<Vec<Vec<Z>>>,
     slots: Vec<SlotEntry>,
     bounds: Bounds,
     ends: &[bool],
@@ -84,7 +86,7 @@ pub(crate) fn row_entry<Z: SizeSet>(
     laws::parts_one_level();
     let choices = choices_for(arena, alloc, &slots)?;
     let later = later_tuples(arena, alloc, &slots)?;
-    let tables = row_tables(alloc, &choices, bounds, ends, arena.limit)?;
+    let tables = row_tables(alloc, old, &choices, bounds, ends, arena.limit)?;
     let sizes = whole_sizes(tables[slots.len()][0][0], nullable, arena.limit);
     Ok(Entry {
         sizes,

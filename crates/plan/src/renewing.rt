@@ -1,6 +1,6 @@
 //! The entries of the nodes along a path, made anew over pools that were changed there.
 ghost use Rattle.std.specs.Prelude.{◌≡◌, ◌≢◌, ◌<◌, ◌≤◌, ◌+◌, ◌^◌, ◌∷◌, ◌||◌};
-ghost use Rattle.std.specs.Prelude.{ℕ, true, false, Bool, List, None, All, IfOk, IfSome, IfNone, length, is_some, option_map};
+ghost use Rattle.std.specs.Prelude.{ℕ, true, false, Bool, List, [], None, All, IfOk, IfSome, IfNone, length, is_some, option_map};
 ghost use Rattle.jtree.specs.View.{data_of};
 ghost use Rattle.schema.specs.Nodes.ByPlace.{field_at};
 ghost use Rattle.schema.specs.Nodes.Junctors.{most_named};
@@ -267,36 +267,55 @@ fn remake_row<Z: SizeSet>(
     ensures kept { IsKept arena.old arena.new }
     ensures remade { IfOk result (λ _. Remakes Z.holds arena.old arena.new number rules.entry nullable) }
 {
-    let slots = slots_of(alloc, arena.put(number, blank(alloc)));
+    let RowEntry {
+        slots,
+        later: _,
+        tables,
+    } = row_of(alloc, arena.put(number, blank(alloc)));
     if !are_within(&slots, arena.entries.len(), rules.named.len()) {
         return Ok(());
     }
     let slots = with_must(slots, rules.place, rules.must);
-    let entry = row_entry(arena, alloc, slots, rules.bounds, rules.ends, nullable)?;
+    let entry = row_entry(
+        arena,
+        alloc,
+        tables,
+        slots,
+        rules.bounds,
+        rules.ends,
+        nullable,
+    )?;
     arena.put(number, entry);
     Ok(())
 }
 
-/// A row without slots.
+/// The entry of a row without slots.
 fn blank<Z: SizeSet>(alloc: Global) -> Entry<Z> {
     Entry {
         sizes: Z::empty(),
         nullable: false,
-        content: Content::Row(RowEntry {
-            slots: Vec::new(alloc),
-            later: Vec::new(alloc),
-            tables: Vec::new(alloc),
-        }),
+        content: Content::Row(no_slots(alloc)),
     }
 }
 
-/// The slots of a row.
-fn slots_of<Z: SizeSet>(alloc: Global, entry: Entry<Z>) -> Vec<SlotEntry>
-    ensures { result.items ≡ slots_in entry.content }
+/// A row without slots.
+fn no_slots<Z>(alloc: Global) -> RowEntry<Z>
+    ensures { result.slots.items ≡ [] }
+{
+    RowEntry {
+        slots: Vec::new(alloc),
+        later: Vec::new(alloc),
+        tables: Vec::new(alloc),
+    }
+}
+
+/// The row of an entry; one without slots where it has none.
+fn row_of<Z: SizeSet>(alloc: Global, entry: Entry<Z>) -> RowEntry<Z>
+    ensures { result.slots.items ≡ slots_in entry.content }
 {
     match entry.content {
-        Content::Row(row) => row.slots,
-        Content::Leaf(_) | Content::List(_) => Vec::new(alloc),
+        Content::Row(row) => row,
+        Content::Leaf(_) | Content::List(_) => no_slots(alloc),
     }
 }
 

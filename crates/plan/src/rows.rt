@@ -25,6 +25,38 @@ pub(crate) struct Choice<Z> {
     pub bit: Option<u8>,
 }
 
+/// The memory of tables that are no longer asked for, in which others are made.
+#[derive(Drop)]
+struct Room<Z> {
+    alloc: Global,
+    tables: Vec<Vec<Vec<Z>>>,
+    levels: Vec<Vec<Z>>,
+}
+
+impl<Z: SizeSet> Room<Z> {
+    ghost use Rattle.std.specs.Prelude.{◌≡◌, [], IfOk};
+
+    /// An empty table, for so many levels.
+    fn table(&mut self, count: usize) -> Result<Vec<Vec<Z>>, AllocError>
+        ensures { IfOk result (λ table. table.items ≡ []) }
+    {
+        let mut table = self.tables.pop().unwrap_or(Vec::new(self.alloc));
+        self.levels.append(&mut table)?;
+        table.reserve_exact(count)?;
+        Ok(table)
+    }
+
+    /// An empty level, for so many sets.
+    fn level(&mut self, count: usize) -> Result<Vec<Z>, AllocError>
+        ensures { IfOk result (λ level. level.items ≡ []) }
+    {
+        let mut level = self.levels.pop().unwrap_or(Vec::new(self.alloc));
+        level.clear();
+        level.reserve_exact(count)?;
+        Ok(level)
+    }
+}
+
 /// The set of 0 where the bounds admit this number of members, else the empty set.
 pub(crate) fn end_sizes<Z: SizeSet>(count: u64, bounds: Bounds) -> Z
     requires { 0 < Z.BITS }
@@ -85,7 +117,7 @@ fn row_end<Z: SizeSet>(count: u64, bounds: Bounds, holds: bool) -> Z
 
 /// The sizes after the last of `count` slots, in each column; `holds` is whether the junctors hold.
 fn last_level<Z: SizeSet>(
-    alloc: Global,
+    room: &mut Room<Z>,
     count: usize,
     bounds: Bounds,
     holds: bool,
@@ -96,7 +128,7 @@ fn last_level<Z: SizeSet>(
     ensures whole { IfOk result (λ level. length level.items ≡ Tables.columns bounds count) }
     ensures level { IfOk result (λ level. (P : Pools) (e : Ending) (seen : ℕ) → e.bounds ≡ bounds → holds ≡ meets_seen e.asked seen → IsLevel Z.holds limit e P [] seen level.items) }
 {
-    let mut level = Vec::with_capacity(alloc, columns(bounds, count))?;
+    let mut level = room.level(columns(bounds, count))?;
     for taken in 0..columns(bounds, count) {
         level.push(row_end(taken as u64, bounds, holds))?;
     }
@@ -105,7 +137,7 @@ fn last_level<Z: SizeSet>(
 
 /// The sizes after the last slot, for each set of the named fields; `ends` has whether the junctors hold.
 fn last_table<Z: SizeSet>(
-    alloc: Global,
+    room: &mut Room<Z>,
     count: usize,
     bounds: Bounds,
     ends: &[bool],
@@ -116,10 +148,10 @@ fn last_table<Z: SizeSet>(
     ensures shape { IfOk result (λ table. HasShape (length ends.now) (Tables.columns bounds count) table.items) }
     ensures table { IfOk result (λ table. (P : Pools) (e : Ending) → e.bounds ≡ bounds → AreMet e.asked ends.now → IsTable Z.holds limit e P [] table.items) }
 {
-    let mut table = Vec::with_capacity(alloc, ends.len())?;
+    let mut table = room.table(ends.len())?;
     for seen in 0..ends.len() {
         let holds = ends[seen];
-        let level = last_level(alloc, count, bounds, holds, limit)?;
+        let level = last_level(room, count, bounds, holds, limit)?;
         table.push(level)?;
     }
     Ok(table)
@@ -128,7 +160,7 @@ fn last_table<Z: SizeSet>(
 /// The sizes from a slot on, in each column, from those after it without and with a part in the slot; `before` are the slots before
 /// it.
 fn slot_level<Z: SizeSet>(
-    alloc: Global,
+    room: &mut Room<Z>,
     choice: &Choice<Z>,
     bounds: Bounds,
     before: usize,
@@ -143,7 +175,7 @@ fn slot_level<Z: SizeSet>(
     ensures whole { IfOk result (λ level. length level.items ≡ Tables.columns bounds before) }
     ensures level { IfOk result (λ level. MakesLevel Z.holds limit bounds choice.now without.now with.now level.items) }
 {
-    let mut level = Vec::with_capacity(alloc, columns(bounds, before))?;
+    let mut level = room.level(columns(bounds, before))?;
     let last = with.len() - 1;
     for taken in 0..columns(bounds, before) {
         let more = (taken + 1).min(last);
@@ -165,7 +197,7 @@ fn seen_with(bit: Option<u8>, seen: usize) -> usize
 
 /// The sizes from a slot on, for each set of the named fields, from those after it.
 fn slot_table<Z: SizeSet>(
-    alloc: Global,
+    room: &mut Room<Z>,
     choice: &Choice<Z>,
     bounds: Bounds,
     before: usize,
@@ -179,11 +211,11 @@ fn slot_table<Z: SizeSet>(
     ensures shape { IfOk result (λ table. HasShape (length after.now) (Tables.columns bounds before) table.items) }
     ensures table { IfOk result (λ table. MakesTable Z.holds limit bounds choice.now after.now table.items) }
 {
-    let mut table = Vec::with_capacity(alloc, after.len())?;
+    let mut table = room.table(after.len())?;
     for seen in 0..after.len() {
         let with = seen_with(choice.bit, seen);
         let level = slot_level(
-            alloc,
+            room,
             choice,
             bounds,
             before,
@@ -197,9 +229,10 @@ fn slot_table<Z: SizeSet>(
 }
 
 /// The sizes from each place on, the last place first: for each set of the named fields, in a column for each number of members
-/// before it up to the cap of the bounds. `ends` has whether the junctors hold for each such set.
+/// before it up to the cap of the bounds. `ends` has whether the junctors hold for each such set. They are made in the memory of `old`.
 pub(crate) fn row_tables<Z: SizeSet>(
     alloc: Global,
+    old: Vec<Vec<Vec<Z>>>,
     choices: &[Choice<Z>],
     bounds: Bounds,
     ends: &[bool],
@@ -213,12 +246,17 @@ pub(crate) fn row_tables<Z: SizeSet>(
     ensures tables { IfOk result (λ tables. (P : Pools) (ss : List Slot) (e : Ending) → e.bounds ≡ bounds → AreMet e.asked ends.now → AreChoices Z.holds limit P choices.now ss → AreTables Z.holds limit e P ss tables.items) }
 {
     let count = choices.len();
+    let mut room = Room {
+        alloc,
+        tables: old,
+        levels: Vec::new(alloc),
+    };
     let mut tables = Vec::with_capacity(alloc, count + 1)?;
-    tables.push(last_table(alloc, count, bounds, ends, limit)?)?;
+    tables.push(last_table(&mut room, count, bounds, ends, limit)?)?;
     for done in 0..count {
         let before = count - 1 - done;
         let table = slot_table(
-            alloc,
+            &mut room,
             &choices[before],
             bounds,
             before,

@@ -3,16 +3,25 @@ ghost use Rattle.plan.specs.Sets.{HasBit};
 
 use crate::SizeSet;
 
-// The body of `sums`, for a word of any width: `$other` shifted by each member of `$set`, and cut after the limit.
+// The body of `sums`, for a word of any width: `$other` shifted by each member of `$set`, and cut after the limit. Where `$other` has all
+// numbers from its least one up to the limit, what is shifted by the least member of `$set` has all sums.
 macro_rules! word_sums {
     ($set:expr, $other:expr, $limit:expr) => {{
+        let all = Self::MAX >> (Self::BITS - 1 - $limit);
+        if let Some(least) = $other.next(0) {
+            if $other >> least == all >> least {
+                if let Some(n) = $set.next(0) {
+                    return $other << n & all;
+                }
+            }
+        }
         let mut sums = 0;
         let mut from = 0;
         'members: while let Some(n) = $set.next(from) {
             sums |= $other << n;
             from = n + 1;
         }
-        sums & Self::MAX >> (Self::BITS - 1 - $limit)
+        sums & all
     }};
 }
 

@@ -3,16 +3,16 @@ ghost use Rattle.std.specs.Prelude.{◌≡◌, ◌≢◌, ◌↔◌, ℕ, List, 
 ghost use Rattle.jtree.specs.Data as Trees;
 ghost use Rattle.jtree.specs.Data.{Data};
 ghost use Rattle.jtree.specs.View.{data_of};
-ghost use Rattle.schema.specs.Document.Crd.{IsRead, IsSchemaOf, HasHeader, IsHead};
+ghost use Rattle.schema.specs.Document.Crd.{IsRead, IsSchemaOf, IsObject, HasHeader, IsHead};
 ghost use Rattle.schema.specs.Internal.Faults.{IsUnfound};
-ghost use Rattle.schema.specs.Document.Refusal.{IsWrongPart, IsGiven};
-ghost use Rattle.schema.specs.Document.Forms.{HasForms};
+ghost use Rattle.schema.specs.Document.Refusal.{IsWrongPart, IsGiven, form_view};
+ghost use Rattle.schema.specs.Document.Forms.{HasForms, HasFormsOf};
 ghost use Rattle.schema.specs.Document.Limits.{standard, IsWithinLimits};
-ghost use Rattle.schema.specs.Document.ReadFault.{IsReadFault, IsSchemaFault};
+ghost use Rattle.schema.specs.Document.ReadFault.{IsReadFault, IsReadFaultOf, IsSchemaFaultOf};
 ghost use Rattle.jtree.specs.Path.{under2, under3};
 
 use crate::fault::SFault;
-use crate::forms::check_schema_forms;
+use crate::forms::{Form, check_schema_forms};
 use crate::laws;
 use crate::limits::Limits;
 use crate::listing::list_places;
@@ -46,8 +46,8 @@ pub(crate) struct Head<'a> {
 /// What is found of a version before its schema is judged.
 #[derive(Drop)]
 pub(crate) struct Definition<'a> {
-    group: &'a str,
-    kind: &'a str,
+    pub group: &'a str,
+    pub kind: &'a str,
     pub schema: &'a Tree,
 }
 
@@ -85,20 +85,39 @@ pub fn read_crd_within(
     ensures within { IfOk result (λ c. IsWithinLimits limits c.raw) }
     ensures err { IfErr result (IsReadFault limits (data_of document.now) version.now) }
 {
-    let definition = match find_definition(alloc, document, version) {
+    let definition = match checked_definition(alloc, Form::Object, document, version, limits) {
         Ok(definition) => definition,
-        Err(unfound) => return Err(unfound.into()),
-    };
-    match check_schema(alloc, definition.schema, limits) {
-        Ok(()) => {}
         Err(fault) => return Err(fault),
-    }
+    };
     Ok(Crd {
         group: Text::from_str(alloc, definition.group)?,
         kind: Text::from_str(alloc, definition.kind)?,
         version: Text::from_str(alloc, version)?,
         raw: RawSchema::new(definition.schema.try_clone(alloc)?, limits),
     })
+}
+
+/// The definition that a document is, where its schema has this form and passes no limit.
+pub(crate) fn checked_definition<'a>(
+    alloc: Global,
+    form: Form,
+    document: &'a Tree,
+    version: &str,
+    limits: Limits,
+) -> Result<Definition<'a>, SFault>
+    ensures ok { IfOk result (λ f. IsRead (data_of document.now) version.now f.group.now f.kind.now (data_of f.schema.now)) }
+    ensures forms { IfOk result (λ f. HasFormsOf (form_view form) (data_of f.schema.now)) }
+    ensures within { IfOk result (λ f. IsWithinLimits limits (data_of f.schema.now)) }
+    ensures err { IfErr result (IsReadFaultOf (form_view form) limits (data_of document.now) version.now) }
+{
+    let definition = match find_definition(alloc, document, version) {
+        Ok(definition) => definition,
+        Err(unfound) => return Err(unfound.into()),
+    };
+    match check_schema(alloc, form, definition.schema, limits) {
+        Ok(()) => Ok(definition),
+        Err(fault) => Err(fault),
+    }
 }
 
 /// Why there is no definition with this version and its schema.
@@ -154,14 +173,15 @@ pub(crate) fn find_definition<'a>(
     })
 }
 
-/// Whether each keyword of a schema has its form, and no limit is passed.
-fn check_schema(alloc: Global, schema: &Tree, limits: Limits) -> Result<(), SFault>
-    ensures forms { OnOk result (HasForms (data_of schema.now)) }
+/// Whether each keyword of a schema, which has to have this form, has its form, and no limit is passed.
+fn check_schema(alloc: Global, form: Form, schema: &Tree, limits: Limits) -> Result<(), SFault>
+    requires object { IsObject (data_of schema.now) }
+    ensures forms { OnOk result (HasFormsOf (form_view form) (data_of schema.now)) }
     ensures within { OnOk result (IsWithinLimits limits (data_of schema.now)) }
-    ensures err { IfErr result (IsSchemaFault limits (data_of schema.now)) }
+    ensures err { IfErr result (IsSchemaFaultOf (form_view form) limits (data_of schema.now)) }
 {
     schema.reveal_invariant();
-    match check_schema_forms(alloc, schema) {
+    match check_schema_forms(alloc, form, schema) {
         Ok(()) => {}
         Err(misformed) => return Err(misformed.into()),
     }

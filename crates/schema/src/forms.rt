@@ -7,7 +7,7 @@ ghost use Rattle.jtree.specs.Pointer.{name_token, index_token};
 ghost use Rattle.jtree.specs.View.{data_of};
 ghost use Rattle.schema.specs.Document.Texts.{is_among};
 ghost use Rattle.schema.specs.Document.Forms;
-ghost use Rattle.schema.specs.Document.Forms.{HasForms, string_keywords, boolean_keywords, count_keywords, form_below};
+ghost use Rattle.schema.specs.Document.Forms.{HasFormsOf, string_keywords, boolean_keywords, count_keywords, form_below};
 ghost use Rattle.schema.specs.Document.Refusal.{form_view};
 ghost use Rattle.schema.specs.Internal.Faults.{IsFirstBreak, IsMisformed};
 ghost use Rattle.schema.specs.Internal.FormBreak.{first_break, items_break, members_break, below};
@@ -44,6 +44,16 @@ pub enum Form {
     Integer,
     /// An integer, 0 or more.
     Count,
+    /// A schema as a cluster reads it: an object with the keywords of JSONSchemaProps (apiextensions.k8s.io/v1).
+    WrittenSchema,
+    /// An object, each of whose members is a schema as a cluster reads it.
+    ObjectOfWrittenSchemas,
+    /// A boolean, or a schema as a cluster reads it.
+    BooleanOrWrittenSchema,
+    /// A list of schemas as a cluster reads them, or an empty list.
+    WrittenSchemas,
+    /// An integer or another number.
+    Number,
 }
 
 fn is_string_keyword(keyword: &str) -> bool
@@ -119,6 +129,33 @@ fn form_of(keyword: &str) -> Form
     }
 }
 
+/// The form that a cluster reads in place of one of the core table.
+fn as_written(form: Form) -> Form
+    ensures { form_view result ≡ Forms.as_written (form_view form) }
+{
+    match form {
+        Form::ObjectOfObjects => Form::ObjectOfWrittenSchemas,
+        Form::BooleanOrObject => Form::BooleanOrWrittenSchema,
+        Form::Object => Form::WrittenSchema,
+        Form::SomeObjects => Form::WrittenSchemas,
+        Form::Integer => Form::Number,
+        other => other,
+    }
+}
+
+/// The form of a keyword as a cluster reads it.
+fn written_form_of(keyword: &str) -> Form
+    ensures { form_view result ≡ Forms.written_form_of keyword.now }
+{
+    match keyword {
+        "pattern" | "id" | "$ref" | "$schema" => Form::String,
+        "x-kubernetes-embedded-resource" => Form::Boolean,
+        "patternProperties" | "definitions" => Form::ObjectOfWrittenSchemas,
+        "multipleOf" => Form::Number,
+        _ => as_written(form_of(keyword)),
+    }
+}
+
 /// The form of a member, from the form of its object.
 fn form_of_member(form: Form, name: &str) -> Form
     ensures { form_view result ≡ form_below (form_view form) (Paths.name name.now) }
@@ -126,6 +163,8 @@ fn form_of_member(form: Form, name: &str) -> Form
     match form {
         Form::Object | Form::BooleanOrObject => form_of(name),
         Form::ObjectOfObjects => Form::Object,
+        Form::WrittenSchema | Form::BooleanOrWrittenSchema => written_form_of(name),
+        Form::ObjectOfWrittenSchemas => Form::WrittenSchema,
         _ => Form::AnyTree,
     }
 }
@@ -137,6 +176,7 @@ fn form_of_items(form: Form) -> Form
     match form {
         Form::SomeObjects => Form::Object,
         Form::Strings => Form::String,
+        Form::WrittenSchemas => Form::WrittenSchema,
         _ => Form::AnyTree,
     }
 }
@@ -149,11 +189,15 @@ fn has_form(form: Form, tree: &Tree) -> bool
         Form::AnyTree => true,
         Form::String => matches!(tree, Tree::Text(_)),
         Form::Boolean => matches!(tree, Tree::Bool(_)),
-        Form::ObjectOfObjects | Form::Object => matches!(tree, Tree::Object(_)),
-        Form::BooleanOrObject => matches!(tree, Tree::Bool(_) | Tree::Object(_)),
+        Form::ObjectOfObjects | Form::Object | Form::WrittenSchema | Form::ObjectOfWrittenSchemas =>
+            matches!(tree, Tree::Object(_)),
+        Form::BooleanOrObject | Form::BooleanOrWrittenSchema => {
+            matches!(tree, Tree::Bool(_) | Tree::Object(_))
+        }
         Form::SomeObjects => is_some_list(tree),
-        Form::Strings | Form::List => matches!(tree, Tree::List(_)),
+        Form::Strings | Form::List | Form::WrittenSchemas => matches!(tree, Tree::List(_)),
         Form::Integer => matches!(tree, Tree::Int(_)),
+        Form::Number => matches!(tree, Tree::Int(_) | Tree::Number(_)),
         Form::Count => is_count(tree),
     }
 }
@@ -198,13 +242,17 @@ impl From<Misformed<'_>> for SFault {
     }
 }
 
-/// Whether each keyword of a schema has its form.
-pub(crate) fn check_schema_forms<'a>(alloc: Global, schema: &'a Tree) -> Result<(), Misformed<'a>>
-    ensures ok { OnOk result (HasForms (data_of schema.now)) }
-    ensures err { IfErr result (IsMisformed (data_of schema.now)) }
+/// Whether each keyword of a schema, which has to have this form, has its form.
+pub(crate) fn check_schema_forms<'a>(
+    alloc: Global,
+    form: Form,
+    schema: &'a Tree,
+) -> Result<(), Misformed<'a>>
+    ensures ok { OnOk result (HasFormsOf (form_view form) (data_of schema.now)) }
+    ensures err { IfErr result (IsMisformed (form_view form) (data_of schema.now)) }
 {
     schema.reveal_invariant();
-    check_form(alloc, Form::Object, schema)
+    check_form(alloc, form, schema)
 }
 
 /// Whether each part of a value has its form, where the value has to have this one.

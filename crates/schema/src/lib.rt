@@ -11,7 +11,8 @@
 //! assert!(rt; broken.is_empty(), "a schema that breaks no rule");
 //! ```
 //!
-//! A larger definition is read with other [`Limits`] by [`read_crd_within`]. `laws` says what holds of nodes and reasons.
+//! A larger definition is read with other [`Limits`] by [`read_crd_within`], and one with the forms that a cluster reads by
+//! [`read_written`]. `laws` says what holds of nodes and reasons.
 #![tactic(auto)]
 
 mod context;
@@ -40,6 +41,7 @@ mod shaping;
 mod validations;
 mod versions;
 mod violation;
+mod written;
 
 pub use definition::{Crd, read_crd, read_crd_within};
 pub use explaining::explained;
@@ -59,3 +61,4 @@ pub use refused::Refused;
 pub use shaped::Shape;
 pub use shaping::{shape, shape_of_unbroken};
 pub use violation::{Rule, Violation};
+pub use written::{Written, read_written};

@@ -3,11 +3,12 @@
 ghost use Rattle.std.specs.Prelude.{◌≡◌, ℕ, List, None, IfOk, IfSome};
 ghost use Rattle.jtree.specs.Data.{Data};
 ghost use Rattle.jtree.specs.View.{data_of};
-ghost use Rattle.schema.specs.Document.Forms.{HasForms};
+ghost use Rattle.schema.specs.Document.Forms.{HasForms, HasFormsOf, HasWrittenForms};
+ghost use Rattle.schema.specs.Document.Crd.{IsObject};
 ghost use Rattle.schema.specs.Document.Limits.{IsWithinLimits};
-ghost use Rattle.schema.specs.Document.ReadFault.{HasSchema, IsReadFault};
+ghost use Rattle.schema.specs.Document.ReadFault.{HasSchema, IsReadFault, IsReadFaultOf, IsWrittenFault};
 ghost use Rattle.schema.specs.Document.Refusal as Refusals;
-ghost use Rattle.schema.specs.Document.Refusal.{IsRefusal, fault_of};
+ghost use Rattle.schema.specs.Document.Refusal.{IsRefusal, IsRefusalOf, IsWrittenRefusal, fault_of, form_view};
 
 use crate::definition::{Unfound, find_definition};
 use crate::forms::{Form, Misformed, check_schema_forms};
@@ -66,14 +67,44 @@ impl<'a> Refusal<'a> {
         ensures fault { IfOk result (λ o. IfSome o (λ r. IsReadFault limits (data_of document.now) version.now (fault_of r))) }
         ensures read { IfOk result (λ o. o ≡ None → (raw : Data) × HasSchema (data_of document.now) version.now raw × HasForms raw × IsWithinLimits limits raw) }
     {
-        match find_definition(alloc, document, version) {
-            Ok(definition) => schema_refusal(alloc, definition.schema, limits),
-            Err(Unfound::WrongPart(part)) => Ok(Some(Refusal::NotACrd(part))),
-            Err(Unfound::NoVersion(versions)) => {
-                Ok(Some(Refusal::NoSuchVersion(names_of(alloc, versions)?)))
-            }
-            Err(Unfound::NoMemory) => Err(AllocError),
+        refusal_of(alloc, Form::Object, document, version, limits)
+    }
+
+    /// Why `read_written` reads no schema of the document, with what was found; `None` where it reads one. An `Err` says that an
+    /// allocation failed.
+    pub fn of_written(
+        alloc: Global,
+        document: &'a Tree,
+        version: &str,
+        limits: Limits,
+    ) -> Result<Option<Refusal<'a>>, AllocError>
+        ensures refused { IfOk result (λ o. IfSome o (IsWrittenRefusal limits (data_of document.now) version.now)) }
+        ensures fault { IfOk result (λ o. IfSome o (λ r. IsWrittenFault limits (data_of document.now) version.now (fault_of r))) }
+        ensures read { IfOk result (λ o. o ≡ None → (raw : Data) × HasSchema (data_of document.now) version.now raw × HasWrittenForms raw × IsWithinLimits limits raw) }
+    {
+        refusal_of(alloc, Form::WrittenSchema, document, version, limits)
+    }
+}
+
+/// Why no schema of this form is read of a document.
+fn refusal_of<'a>(
+    alloc: Global,
+    form: Form,
+    document: &'a Tree,
+    version: &str,
+    limits: Limits,
+) -> Result<Option<Refusal<'a>>, AllocError>
+    ensures refused { IfOk result (λ o. IfSome o (IsRefusalOf (form_view form) limits (data_of document.now) version.now)) }
+    ensures fault { IfOk result (λ o. IfSome o (λ r. IsReadFaultOf (form_view form) limits (data_of document.now) version.now (fault_of r))) }
+    ensures read { IfOk result (λ o. o ≡ None → (raw : Data) × HasSchema (data_of document.now) version.now raw × HasFormsOf (form_view form) raw × IsWithinLimits limits raw) }
+{
+    match find_definition(alloc, document, version) {
+        Ok(definition) => schema_refusal(alloc, form, definition.schema, limits),
+        Err(Unfound::WrongPart(part)) => Ok(Some(Refusal::NotACrd(part))),
+        Err(Unfound::NoVersion(versions)) => {
+            Ok(Some(Refusal::NoSuchVersion(names_of(alloc, versions)?)))
         }
+        Err(Unfound::NoMemory) => Err(AllocError),
     }
 }
 
@@ -93,13 +124,15 @@ fn names_of(alloc: Global, versions: &Items) -> Result<Vec<Text>, AllocError>
 /// Why a schema is refused: a keyword has not its form, or a limit is passed.
 fn schema_refusal<'a>(
     alloc: Global,
+    form: Form,
     schema: &'a Tree,
     limits: Limits,
 ) -> Result<Option<Refusal<'a>>, AllocError>
-    ensures refused { IfOk result (λ o. IfSome o (λ r. (d : Data) (version : List ℕ) → HasSchema d version (data_of schema.now) → IsRefusal limits d version r)) }
-    ensures read { IfOk result (λ o. o ≡ None → HasForms (data_of schema.now) × IsWithinLimits limits (data_of schema.now)) }
+    requires object { IsObject (data_of schema.now) }
+    ensures refused { IfOk result (λ o. IfSome o (λ r. (d : Data) (version : List ℕ) → HasSchema d version (data_of schema.now) → IsRefusalOf (form_view form) limits d version r)) }
+    ensures read { IfOk result (λ o. o ≡ None → HasFormsOf (form_view form) (data_of schema.now) × IsWithinLimits limits (data_of schema.now)) }
 {
-    match check_schema_forms(alloc, schema) {
+    match check_schema_forms(alloc, form, schema) {
         Ok(()) => {}
         Err(Misformed::Broken(pointer, broken)) => {
             return Ok(Some(Refusal::KeywordForm(pointer, broken)));

@@ -14,24 +14,29 @@ use Rattle.crdx.specs.Output.PartialOutput.{IsCutBetweenLines, IsCutByFailure}
 use Rattle.crdx.specs.Output.Walk.{WritesPage}
 use Rattle.jtree.specs.Failures.{HasFailed}
 use Rattle.crdx.specs.declared.inputs.InputName.{InputName}
-use Rattle.crdx.specs.Program.Documents.{Documents, Lines, file_name}
+use Rattle.crdx.specs.Program.Documents.{Read as ReadDocuments, Documents, Lines, file_name}
 use Rattle.crdx.specs.Internal.ExitStatus.{cause_of_suggestion}
 use Rattle.suggest.specs.Suggested.Fault.{IsSuggestFault}
 use Rattle.suggest.specs.Suggested.Wanted.{Wanted}
 use Rattle.suggest.specs.declared.fault.SuggestFault.{SuggestFault}
 use Rattle.crdx.specs.Program.FieldAnswer.{IsFieldAnswer}
-use Rattle.crdx.specs.Program.ObjectAnswer.{IsObjectAnswer}
-use Rattle.crdx.specs.Program.Requested.{IsRequestedSchema, HasReadFault, HasPoolsFault, IsAcceptedSchema, IsRequested, IsRequestedWalk, pool_limits_of, total_of}
+use Rattle.crdx.specs.Program.ObjectAnswer.{IsAnswerBy}
+use Rattle.crdx.specs.Program.Requested.{numbers_of, IsRequestedSchema, IsRequestedWritten, HasReadFaultAs, HasPoolsFault, IsAcceptedSchema, IsRequested, IsRequestedWalk, pool_limits_of, total_of}
+use Rattle.crdx.specs.Program.Standard.{Standard}
+use Rattle.crdx.specs.Internal.RefusedPatterns.{AreRefusedPatterns}
 use Rattle.crdx.specs.Program.Objects.{HasInput, IsNoText, IsBrokenAt}
 use Rattle.crdx.specs.Program.RunResult.{IsAnswer, IsCoverBegunOut, IsCoverCut, IsInputRefused, IsWanted, Effects, WritesNothing, lines_of}
-use Rattle.crdx.specs.Program.Requested.{IsRequestedRoot}
+use Rattle.crdx.specs.Program.Requested.{numbers_of, IsRequestedStandard}
+use Rattle.schema.specs.Document.Forms as form
 use Rattle.crdx.specs.Internal.LineProgress.{IsLinesCause}
+use Rattle.crdx.specs.Program.LineAnswers.{AreAnswered}
 use Rattle.plan.specs.Pools.Pools.{Pools as PoolsData}
 use Rattle.plan.specs.declared.pool_limits.PoolLimits.{PoolLimits}
 use Rattle.plan.specs.Pools.PlanFault.{IsFirstBadPath}
 use Rattle.plan.specs.Samples.Question.{Question}
 use Rattle.enumerate.specs.Page.{IsPage, IsSampleOf}
-use Rattle.jtree.specs.Reads.{IsNoDocument}
+use Rattle.jtree.specs.ReadsWith.{IsNoDocumentWith}
+use Rattle.jtree.specs.declared.read_with.Numbers.{Numbers}
 use Rattle.crdx.specs.Program.InputFault.{IsOfBytes}
 use Rattle.crdx.specs.declared.walk.line.Envelope.{Envelope}
 use Rattle.crdx.specs.declared.arguments.request.Request.{Request}
@@ -50,10 +55,10 @@ use Rattle.crdx.specs.declared.running.causes.PlaceCode.TheVariants as code
 use Rattle.crdx.specs.declared.running.causes.Cause.{Cause}
 use Rattle.crdx.specs.declared.running.ended.Ended.{Ended}
 use Rattle.crdx.specs.declared.running.refusal.Refusal.{Refusal}
-use Rattle.crdx.specs.declared.running.causes.Cause.TheVariants.{Read, Document, Line, Crd, Pools, Place, Violations, NoField, NotStored, NotASample, Write, NoMemory}
+use Rattle.crdx.specs.declared.running.causes.Cause.TheVariants.{Read, Document, Line, Crd, Pools, Place, Violations, Patterns, NoField, NotStored, NotASample, Write, NoMemory}
 
 -- why an input gives no document
-abbrev pub IsReadFailure : Documents → ℕ → ℕ → Input → Option (List ℕ) → Cause → Type 0
+abbrev pub IsReadFailure : ReadDocuments → ℕ → ℕ → Input → Option (List ℕ) → Cause → Type 0
 IsReadFailure has before now input name (Read i) = (i ≡ input) × HasFailed before now
 IsReadFailure has before now input name (Document i fault) = (i ≡ input) × IsOfBytes fault × has name (Err fault)
 IsReadFailure has before now input name NoMemory = Unit {0}
@@ -65,15 +70,18 @@ IsBrokenCause raw (Violations vs) = AreViolations (IsBroken raw) vs.items × (vs
 IsBrokenCause raw NoMemory = Unit {0}
 IsBrokenCause raw _ = ⊥
 
--- why no schema is read
+-- why no schema is read, where it has to have this form
+abbrev pub IsReadCauseAs : form.Form → Documents → ℕ → ℕ → CommonArguments → Cause → Type 0
+IsReadCauseAs form has before now arguments (Read i) = (i ≡ input.Crd) × HasFailed before now
+IsReadCauseAs form has before now arguments (Document i fault) = (i ≡ input.Crd) × IsOfBytes fault × has (numbers_of arguments) (file_name arguments.crd) (Err fault)
+IsReadCauseAs form has before now arguments (Crd fault) = HasReadFaultAs form has arguments fault
+IsReadCauseAs form has before now arguments (Place input.Crd code.KeywordForm p) = HasReadFaultAs form has arguments (s.KeywordForm p)
+IsReadCauseAs form has before now arguments (Place input.Crd code.TooLarge p) = HasReadFaultAs form has arguments (s.TooLarge p)
+IsReadCauseAs form has before now arguments NoMemory = Unit {0}
+IsReadCauseAs form has before now arguments _ = ⊥
+
 abbrev pub IsReadCause : Documents → ℕ → ℕ → CommonArguments → Cause → Type 0
-IsReadCause has before now arguments (Read i) = (i ≡ input.Crd) × HasFailed before now
-IsReadCause has before now arguments (Document i fault) = (i ≡ input.Crd) × IsOfBytes fault × has (file_name arguments.crd) (Err fault)
-IsReadCause has before now arguments (Crd fault) = HasReadFault has arguments fault
-IsReadCause has before now arguments (Place input.Crd code.KeywordForm p) = HasReadFault has arguments (s.KeywordForm p)
-IsReadCause has before now arguments (Place input.Crd code.TooLarge p) = HasReadFault has arguments (s.TooLarge p)
-IsReadCause has before now arguments NoMemory = Unit {0}
-IsReadCause has before now arguments _ = ⊥
+IsReadCause = IsReadCauseAs form.object
 
 -- why there is no schema that is taken
 abbrev pub IsSchemaCause : Documents → ℕ → ℕ → CommonArguments → Cause → Type 0
@@ -81,7 +89,7 @@ IsSchemaCause has before now arguments cause =
     IsReadCause has before now arguments cause ⊎ ((raw : Data) × IsRequestedSchema has arguments raw × IsBrokenCause raw cause)
 
 -- why there are no pools
-abbrev pub IsPoolsCause : Documents → ℕ → ℕ → PoolLimits → Option InputName → Cause → Type 0
+abbrev pub IsPoolsCause : ReadDocuments → ℕ → ℕ → PoolLimits → Option InputName → Cause → Type 0
 IsPoolsCause has before now limits pools (Read i) = (i ≡ input.Pools) × HasFailed before now
 IsPoolsCause has before now limits pools (Document i fault) = (i ≡ input.Pools) × IsOfBytes fault × IsSomeAnd pools (λ name. has (file_name name) (Err fault))
 IsPoolsCause has before now limits pools (Pools fault) = HasPoolsFault has limits pools fault
@@ -96,14 +104,14 @@ IsPlanCause N P NoMemory = Unit {0}
 IsPlanCause N P _ = ⊥
 
 -- why a text is no tree to go on from
-abbrev pub IsTextCause : List ℕ → Cause → Type 0
-IsTextCause text (Document i fault) = (i ≡ input.After) × IsOfBytes fault × IsNoDocument text fault
-IsTextCause text NoMemory = Unit {0}
-IsTextCause text _ = ⊥
+abbrev pub IsTextCause : Numbers → List ℕ → Cause → Type 0
+IsTextCause numbers text (Document i fault) = (i ≡ input.After) × IsOfBytes fault × IsNoDocumentWith numbers text fault
+IsTextCause numbers text NoMemory = Unit {0}
+IsTextCause numbers text _ = ⊥
 
 -- why there is no tree to go on from
-abbrev pub IsAfterCause : Option (Bor (List ℕ)) → Cause → Type 0
-IsAfterCause after cause = IsSomeAnd after (λ text. IsTextCause text.now cause)
+abbrev pub IsAfterCause : Numbers → Option (Bor (List ℕ)) → Cause → Type 0
+IsAfterCause numbers after cause = IsSomeAnd after (λ text. IsTextCause numbers text.now cause)
 
 -- why the fields of an accepted schema are not printed
 abbrev pub IsFieldCause : Node → Option (Bor (List ℕ)) → Cause → Type 0
@@ -111,21 +119,33 @@ IsFieldCause root path (NoField fault) = IsFieldAnswer root path 1 []
 IsFieldCause root path NoMemory = Unit {0}
 IsFieldCause root path _ = ⊥
 
+-- why a schema as it is written is refused: it has patterns that are none, or too big
+abbrev pub IsPatternsCause : Data → Cause → Type 0
+IsPatternsCause raw (Patterns found) = AreRefusedPatterns raw found.items × (found.items ≢ [])
+IsPatternsCause raw NoMemory = Unit {0}
+IsPatternsCause raw _ = ⊥
+
+-- why nothing is judged by a schema as it is written
+abbrev pub IsWrittenCause : Documents → ℕ → ℕ → CommonArguments → Cause → Type 0
+IsWrittenCause has before now arguments cause =
+    IsReadCauseAs form.written_schema has before now arguments cause ⊎ ((raw : Data) × IsRequestedWritten has arguments raw × IsPatternsCause raw cause)
+
 -- why nothing is printed of a document
-abbrev pub IsObjectCause : Node → Data → ObjectCommand → Cause → Type 0
-IsObjectCause N document command NotStored = IsObjectAnswer N document command 1 []
-IsObjectCause N document command NoMemory = Unit {0}
-IsObjectCause N document command _ = ⊥
+abbrev pub IsObjectCause : Standard → Data → ObjectCommand → Cause → Type 0
+IsObjectCause S document command NotStored = IsAnswerBy S document command 1 []
+IsObjectCause S document command NoMemory = Unit {0}
+IsObjectCause S document command _ = ⊥
 
 -- why nothing is printed of the document that is asked about
-abbrev pub IsDocumentCause : Documents → ℕ → ℕ → Node → ObjectArguments → Cause → Type 0
-IsDocumentCause has before now N arguments cause = IsReadFailure has before now input.Object (file_name arguments.object) cause
-    ⊎ ((document : Data) × has (file_name arguments.object) (Ok document) × IsObjectCause N document arguments.command cause)
+abbrev pub IsDocumentCause : Documents → ℕ → ℕ → Standard → ObjectArguments → Cause → Type 0
+IsDocumentCause has before now S arguments cause = IsReadFailure (has (numbers_of arguments.common)) before now input.Object (file_name arguments.object) cause
+    ⊎ ((document : Data) × has (numbers_of arguments.common) (file_name arguments.object) (Ok document) × IsObjectCause S document arguments.command cause)
 
 -- why a request has no answer before anything is written, or why it is answered with 1 and nothing on standard output
 abbrev pub IsInputCause : Documents → ℕ → ℕ → Request → Cause → Type 0
 IsInputCause has before now request (Read i) = HasFailed before now
 IsInputCause has before now request (Violations vs) = IsAnswer has request 1 []
+IsInputCause has before now request (Patterns found) = IsAnswer has request 1 []
 IsInputCause has before now request (NoField fault) = IsAnswer has request 1 []
 IsInputCause has before now request NotStored = IsAnswer has request 1 []
 IsInputCause has before now request (Line n fault) = ⊥
@@ -199,16 +219,23 @@ pub record IsCoverResult (run : Effects) (arguments : CoverArguments) (result : 
 abbrev pub IsObjectsCause : Effects → ObjectArguments → Cause → Type 0
 IsObjectsCause run arguments cause =
     (IsInputCause run.documents run.failed_reads_before run.failed_reads (ObjectLines arguments) cause × WritesNothing run)
-    ⊎ ((N : Node) × IsRequestedRoot run.documents arguments.common N
-    × IsLinesCause (lines_of run arguments) N arguments.command run.failed_reads_before run.failed_reads run.output_before run.output run.failed_writes_before run.failed_writes cause)
+    ⊎ ((S : Standard) × IsRequestedStandard run.documents arguments S
+    × IsLinesCause (lines_of run arguments) (numbers_of arguments.common) S arguments.command run.failed_reads_before run.failed_reads run.output_before run.output run.failed_writes_before run.failed_writes cause)
+
+-- what a run on lines comes to: all lines are answered, and the answers are out, or why not
+pub record IsLinesEnd (run : Effects) (arguments : ObjectArguments) (result : Result Ended Refusal) : Type 0 where
+  pub answered : IfOk result (λ ended. (S : Standard) × IsRequestedStandard run.documents arguments S × (lines : List (List ℕ)) × (text : List ℕ)
+      × AreAnswered (lines_of run arguments) (numbers_of arguments.common) S arguments.command lines [] ended.status text × Appends run.output_before run.output text)
+  pub unfailed : OnOk result (run.failed_writes ≡ run.failed_writes_before)
+  pub cause : IfErr result (λ r. IsObjectsCause run arguments r.cause)
 
 -- why an input of which these lines are at hand has no documents
-abbrev pub IsObjectInputCause : ((List (List ℕ) → Type 0) → Type 0) → ℕ → ℕ → Cause → Type 0
-IsObjectInputCause Has before now (Read i) = HasFailed before now
-IsObjectInputCause Has before now (Document i fault) = IsOfBytes fault × Has (IsNoText fault)
-IsObjectInputCause Has before now (Line number fault) = IsOfBytes fault × Has (IsBrokenAt number fault)
-IsObjectInputCause Has before now NoMemory = Unit {0}
-IsObjectInputCause Has before now _ = ⊥
+abbrev pub IsObjectInputCause : Numbers → ((List (List ℕ) → Type 0) → Type 0) → ℕ → ℕ → Cause → Type 0
+IsObjectInputCause numbers Has before now (Read i) = HasFailed before now
+IsObjectInputCause numbers Has before now (Document i fault) = IsOfBytes fault × Has (IsNoText numbers fault)
+IsObjectInputCause numbers Has before now (Line number fault) = IsOfBytes fault × Has (IsBrokenAt numbers number fault)
+IsObjectInputCause numbers Has before now NoMemory = Unit {0}
+IsObjectInputCause numbers Has before now _ = ⊥
 
 -- of lines that are coming, some are so
 abbrev pub HasComing : (List (List ℕ) → Type 0) → (List (List ℕ) → Type 0) → Type 0
@@ -221,7 +248,7 @@ IsNotSuggested at_hand arguments raw N cause =
 
 -- why `pools` prints no document for an accepted schema
 abbrev pub IsSuggestionCause : Lines → ℕ → ℕ → PoolsArguments → Data → Node → Cause → Type 0
-IsSuggestionCause at_hand before now arguments raw N cause = IsObjectInputCause (HasInput at_hand (map (λ s. s.now) arguments.from.items)) before now cause
+IsSuggestionCause at_hand before now arguments raw N cause = IsObjectInputCause (numbers_of arguments.common) (HasInput at_hand (map (λ s. s.now) arguments.from.items)) before now cause
     ⊎ IsNotSuggested at_hand arguments raw N cause
 
 -- why `pools` prints no document

@@ -79,6 +79,7 @@ status (cause.Crd fault) = 3
 status (cause.Pools fault) = 3
 status (cause.Place i c pointer) = 3
 status (cause.Violations violations) = 1
+status (cause.Patterns found) = 1
 status (cause.NoField fault) = 1
 status cause.NotStored = 1
 status cause.NotASample = 1

@@ -1,5 +1,5 @@
 -- The command line as `clap` reads it, and what its arguments ask for (this project's own).
-use Rattle.std.specs.Prelude.{◌≡◌, ◌≢◌, ◌⊎◌, ◌+◌, ◌≤◌, ◌<◌, ℕ, List, [], ◌∷◌, length, map, All, Bool, true, false, Option, Some, None, find, pos, if◌then◌else◌, option_map, option_and_then, unwrap_or, codes}
+use Rattle.std.specs.Prelude.{◌≡◌, ◌≢◌, ◌⊎◌, ◌+◌, ◌≤◌, ◌<◌, ℕ, List, [], ◌∷◌, length, map, All, Bool, true, false, not, ◌||◌, Option, Some, None, find, pos, if◌then◌else◌, option_map, option_and_then, unwrap_or, codes}
 use Rattle.std.specs.Str.{bytes_eq}
 use Rattle.std.specs.Str.Parse.{IsNumeral, digits_value, without_leading_plus}
 use Rattle.clap.specs.Walk.{Row, Rule, Text, all_of, first_of, one_of}
@@ -12,6 +12,9 @@ use Rattle.clap.specs.declared.builder.value_parser.ValueParser.TheVariants.{Sig
 use Rattle.clap.specs.declared.error.kind.ErrorKind.{ErrorKind}
 use Rattle.clap.specs.declared.error.kind.ErrorKind.TheVariants.{DisplayHelp, DisplayVersion, OutOfMemory}
 use Rattle.crdx.specs.Program.Documents.{file_name}
+use Rattle.crdx.specs.Program.Profiles.{named as profile_named}
+use Rattle.crdx.specs.declared.profile.Profile.{Profile}
+use Rattle.crdx.specs.declared.profile.Profile.TheVariants.{Core}
 use Rattle.crdx.specs.declared.arguments.request.CommonArguments.{CommonArguments}
 use Rattle.crdx.specs.declared.arguments.request.CoverArguments.{CoverArguments}
 use Rattle.crdx.specs.declared.arguments.request.ExplainArguments.{ExplainArguments}
@@ -46,7 +49,8 @@ flag_rule id = record (new_rule id) { long = Some id; action = Some SetTrue }
 
 -- a command, with the arguments that every command takes
 abbrev pub crd_app : Text → App
-crd_app name = with_rule (with_rule (with_rule (with_rule (new_app name) (required_rule (codes "CRD"))) (required_rule (codes "VERSION"))) (flag_rule (codes "large"))) (flag_rule (codes "why"))
+crd_app name = with_rule (with_rule (with_rule (with_rule (with_rule (new_app name) (required_rule (codes "CRD"))) (required_rule (codes "VERSION")))
+    (flag_rule (codes "large"))) (flag_rule (codes "why"))) (option_rule (codes "profile"))
 
 abbrev pub explain_app : App
 explain_app = with_rule (crd_app (codes "explain")) (new_rule (codes "PATH"))
@@ -130,9 +134,22 @@ standard_inputs (Some file ∷ inputs) = standard_inputs inputs
 abbrev pub IsReadTwice : List Row → Option (Option Text) → Type 0
 IsReadTwice rows other = (crd_input rows ≡ None) × (other ≡ Some None)
 
+-- the profile that an option names, which is `core` without one
+abbrev pub profile_by : Option Text → Profile
+profile_by None = Core
+profile_by (Some name) = profile_named name
+
+abbrev pub is_profile : Text → Bool
+is_profile name = bytes_eq name (codes "core") || bytes_eq name (codes "cluster")
+
+-- it names one that there is not
+abbrev pub is_other_profile : Option Text → Bool
+is_other_profile None = false
+is_other_profile (Some name) = not (is_profile name)
+
 abbrev pub AreCommonArguments : List Row → CommonArguments → Type 0
 AreCommonArguments rows arguments = (file_name arguments.crd ≡ crd_input rows) × (arguments.version.now ≡ value_of (codes "VERSION") rows)
-    × IsFlagOf (codes "large") rows arguments.large × IsFlagOf (codes "why") rows arguments.why
+    × IsFlagOf (codes "large") rows arguments.large × IsFlagOf (codes "why") rows arguments.why × (arguments.profile ≡ profile_by (first_of (codes "profile") rows))
 
 abbrev pub AreExplainArguments : List Row → ExplainArguments → Type 0
 AreExplainArguments rows arguments = AreCommonArguments rows arguments.common × (option_map (λ s. s.now) arguments.path ≡ first_of (codes "PATH") rows)
@@ -191,6 +208,10 @@ MixesObjects named = (rows : List Row) × (named ≡ Some (codes "pools", rows))
 abbrev pub AsksAllAndSome : Option (Text × List Row) → Type 0
 AsksAllAndSome named = (rows : List Row) × (named ≡ Some (codes "sample", rows)) × IsFlagOf (codes "all") rows true × IsGiven (codes "count") rows
 
+-- a profile is named that there is not
+abbrev pub AsksOtherProfile : Option (Text × List Row) → Type 0
+AsksOtherProfile named = (name : Text) × (rows : List Row) × (named ≡ Some (name, rows)) × (is_other_profile (first_of (codes "profile") rows) ≡ true)
+
 -- what a command that was named asks for
 abbrev pub IsCommand : Option (Text × List Row) → Request → Type 0
 IsCommand named (Check arguments) = (rows : List Row) × (named ≡ Some (codes "check", rows)) × AreCommonArguments rows arguments
@@ -205,7 +226,7 @@ IsCommand named (Sample arguments) = (rows : List Row) × (named ≡ Some (codes
     × (arguments.all ≡ true → IsGiven (codes "count") rows → ⊥)
 IsCommand named (Cover arguments) = (rows : List Row) × (named ≡ Some (codes "cover", rows)) × AreCoverArguments rows arguments × (IsReadTwice rows (pools_input rows) → ⊥)
 IsCommand named (Help text) = ⊥
-IsCommand named (UsageError text) = All (λ name. (rows : List Row) → named ≢ Some (name, rows)) command_names ⊎ (ReadsInputTwice named ⊎ (AsksAllAndSome named ⊎ MixesObjects named))
+IsCommand named (UsageError text) = All (λ name. (rows : List Row) → named ≢ Some (name, rows)) command_names ⊎ (ReadsInputTwice named ⊎ (AsksAllAndSome named ⊎ (MixesObjects named ⊎ AsksOtherProfile named)))
 IsCommand named NoMemory = Unit {0}
 
 abbrev pub IsHelp : ErrorKind → Type 0
@@ -223,16 +244,20 @@ IsUsageErrorOrMemory (UsageError text) = Unit {0}
 IsUsageErrorOrMemory NoMemory = Unit {0}
 IsUsageErrorOrMemory _ = ⊥
 
+-- the same, where it names a profile that there is; else it is refused
+abbrev pub IsAsked : Option (Text × List Row) → Request → Type 0
+IsAsked named request = IsCommand named request × (AsksOtherProfile named → IsUsageErrorOrMemory request)
+
 -- what the arguments ask for: a command, or help; or they are refused, by `clap`, or since the command names the standard input
--- twice, asks for all samples and for a number of them, or varies no object or several. Running out of memory says nothing of them.
+-- twice, asks for all samples and for a number of them, varies no object or several, or names another profile. Running out of memory says nothing of them.
 abbrev pub Asks : List Text → Request → Type 0
-Asks arguments (Check w) = (faults arguments ≡ []) × IsCommand (entered arguments) (Check w)
-Asks arguments (Explain w) = (faults arguments ≡ []) × IsCommand (entered arguments) (Explain w)
-Asks arguments (Object w) = (faults arguments ≡ []) × IsCommand (entered arguments) (Object w)
-Asks arguments (ObjectLines w) = (faults arguments ≡ []) × IsCommand (entered arguments) (ObjectLines w)
-Asks arguments (SuggestPools w) = (faults arguments ≡ []) × IsCommand (entered arguments) (SuggestPools w)
-Asks arguments (Sample w) = (faults arguments ≡ []) × IsCommand (entered arguments) (Sample w)
-Asks arguments (Cover w) = (faults arguments ≡ []) × IsCommand (entered arguments) (Cover w)
+Asks arguments (Check w) = (faults arguments ≡ []) × IsAsked (entered arguments) (Check w)
+Asks arguments (Explain w) = (faults arguments ≡ []) × IsAsked (entered arguments) (Explain w)
+Asks arguments (Object w) = (faults arguments ≡ []) × IsAsked (entered arguments) (Object w)
+Asks arguments (ObjectLines w) = (faults arguments ≡ []) × IsAsked (entered arguments) (ObjectLines w)
+Asks arguments (SuggestPools w) = (faults arguments ≡ []) × IsAsked (entered arguments) (SuggestPools w)
+Asks arguments (Sample w) = (faults arguments ≡ []) × IsAsked (entered arguments) (Sample w)
+Asks arguments (Cover w) = (faults arguments ≡ []) × IsAsked (entered arguments) (Cover w)
 Asks arguments (Help text) = (k : ErrorKind) × IsAmong k (faults arguments) × IsHelp k
-Asks arguments (UsageError text) = ((k : ErrorKind) × IsAmong k (faults arguments) × (IsHelp k → ⊥)) ⊎ ((faults arguments ≡ []) × IsCommand (entered arguments) (UsageError text))
+Asks arguments (UsageError text) = ((k : ErrorKind) × IsAmong k (faults arguments) × (IsHelp k → ⊥)) ⊎ ((faults arguments ≡ []) × IsAsked (entered arguments) (UsageError text))
 Asks arguments NoMemory = Unit {0}

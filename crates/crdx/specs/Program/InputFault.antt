@@ -2,17 +2,19 @@
 use Rattle.std.specs.Prelude.{◌≢◌, ◌<◌, ℕ, List, ◌∷◌, length, Option, Result, Ok, Err}
 use Rattle.jtree.specs.Data.{Data}
 use Rattle.jtree.specs.Failures.{one_more}
-use Rattle.jtree.specs.Reads.{Reads, IsNoDocument, most_bytes}
+use Rattle.jtree.specs.Reads.{most_bytes}
+use Rattle.jtree.specs.ReadsWith.{ReadsWith, IsNoDocumentWith}
+use Rattle.jtree.specs.declared.read_with.Numbers.{Numbers}
 use Rattle.jtree.specs.declared.fault.JFault.{JFault}
 use Rattle.jtree.specs.declared.fault.JFault.TheVariants.{NotAnInteger, NoMemory, NotJson, TooLong, ReadFailed}
-use Rattle.crdx.specs.Program.Documents.{Documents}
+use Rattle.crdx.specs.Program.Documents.{Read}
 use Rattle.crdx.specs.declared.inputs.InFault.{InFault}
 use Rattle.crdx.specs.declared.inputs.InFault.TheVariants.{Failed, Document}
 
 -- the document that the bytes are, or why they are none
-abbrev pub IsReading : List ℕ → Result Data JFault → Type 0
-IsReading bytes (Ok document) = Reads bytes document
-IsReading bytes (Err fault) = IsNoDocument bytes fault
+abbrev pub IsReading : Numbers → List ℕ → Result Data JFault → Type 0
+IsReading numbers bytes (Ok document) = ReadsWith numbers bytes document
+IsReading numbers bytes (Err fault) = IsNoDocumentWith numbers bytes fault
 
 -- a fault of the bytes themselves: they were read, and memory did not run out
 abbrev pub IsOfBytes : JFault → Type 0
@@ -24,12 +26,12 @@ input_fault ReadFailed = Failed
 input_fault fault = Document fault
 
 -- why a reading of the bytes failed; a read that fails says nothing of them
-abbrev pub IsFaultOf : List ℕ → InFault → Type 0
-IsFaultOf bytes Failed = Unit {0}
-IsFaultOf bytes (Document fault) = IsNoDocument bytes fault
+abbrev pub IsFaultOf : Numbers → List ℕ → InFault → Type 0
+IsFaultOf numbers bytes Failed = Unit {0}
+IsFaultOf numbers bytes (Document fault) = IsNoDocumentWith numbers bytes fault
 
 -- the file of this name is no document; where it could not be read or memory ran out, nothing is said of it
-abbrev pub IsInputFault : Documents → Option (List ℕ) → InFault → Type 0
+abbrev pub IsInputFault : Read → Option (List ℕ) → InFault → Type 0
 IsInputFault has name Failed = Unit {0}
 IsInputFault has name (Document NotAnInteger) = has name (Err NotAnInteger)
 IsInputFault has name (Document NotJson) = has name (Err NotJson)

@@ -4,12 +4,13 @@ use Rattle.std.specs.Prelude.{◌≡◌, ◌==◌, ◌+◌, ℕ, List, [], ◌�
 use Rattle.std.specs.Io.KnownBytes.{Appends}
 use Rattle.jtree.specs.Data.{Data}
 use Rattle.jtree.specs.Lines.{newline}
-use Rattle.jtree.specs.Reads.{Reads, IsNoDocument}
+use Rattle.jtree.specs.ReadsWith.{ReadsWith, IsNoDocumentWith}
 use Rattle.jtree.specs.declared.fault.JFault.{JFault}
 use Rattle.jtree.specs.declared.fault.JFault.TheVariants.{NotAnInteger, NoMemory, NotJson, TooLong, ReadFailed}
-use Rattle.schema.specs.Nodes.Node.{Node}
+use Rattle.jtree.specs.declared.read_with.Numbers.{Numbers}
 use Rattle.crdx.specs.Program.InputFault.{IsOfBytes}
-use Rattle.crdx.specs.Program.ObjectAnswer.{IsObjectAnswer}
+use Rattle.crdx.specs.Program.ObjectAnswer.{IsAnswerBy}
+use Rattle.crdx.specs.Program.Standard.{Standard}
 use Rattle.crdx.specs.declared.arguments.request.ObjectCommand.{ObjectCommand}
 use Rattle.crdx.specs.declared.arguments.request.ObjectCommand.TheVariants.{Validate, Prune, Default, Leaves}
 
@@ -47,34 +48,34 @@ code_at number Leaves fault = numbered number (document_code fault ++ codes "\n"
 code_at number _ fault = []
 
 -- the status and the text that come of a line of this number: those of the document on it, or 3, where it is none
-pub data IsLineAnswer (N : Node) (command : ObjectCommand) (number : ℕ) (bytes : List ℕ) : ℕ → List ℕ → Type 0 where
-  document : (d : Data) (status : ℕ) (alone text : List ℕ) → Reads bytes d → IsObjectAnswer N d command status alone → text ≡ printed_at number command status alone → IsLineAnswer N command number bytes status text
-  no_document : (fault : JFault) (text : List ℕ) → IsOfBytes fault → IsNoDocument bytes fault → text ≡ code_at number command fault → IsLineAnswer N command number bytes 3 text
+pub data IsLineAnswer (numbers : Numbers) (S : Standard) (command : ObjectCommand) (number : ℕ) (bytes : List ℕ) : ℕ → List ℕ → Type 0 where
+  document : (d : Data) (status : ℕ) (alone text : List ℕ) → ReadsWith numbers bytes d → IsAnswerBy S d command status alone → text ≡ printed_at number command status alone → IsLineAnswer numbers S command number bytes status text
+  no_document : (fault : JFault) (text : List ℕ) → IsOfBytes fault → IsNoDocumentWith numbers bytes fault → text ≡ code_at number command fault → IsLineAnswer numbers S command number bytes 3 text
 
 -- those of lines from this number on: the greatest status, 0 where there is no line, and the texts one after the other
-abbrev pub AreLineAnswers : Node → ObjectCommand → ℕ → List (List ℕ) → ℕ → List ℕ → Type 0
-AreLineAnswers N command number [] status text = (status ≡ 0) × (text ≡ [])
-AreLineAnswers N command number (line ∷ lines) status text = (first : ℕ) × (said : List ℕ) × (later : ℕ) × (more : List ℕ) × IsLineAnswer N command number line first said
-    × AreLineAnswers N command (number + 1) lines later more × (status ≡ max first later) × (text ≡ said ++ more)
+abbrev pub AreLineAnswers : Numbers → Standard → ObjectCommand → ℕ → List (List ℕ) → ℕ → List ℕ → Type 0
+AreLineAnswers numbers S command number [] status text = (status ≡ 0) × (text ≡ [])
+AreLineAnswers numbers S command number (line ∷ lines) status text = (first : ℕ) × (said : List ℕ) × (later : ℕ) × (more : List ℕ) × IsLineAnswer numbers S command number line first said
+    × AreLineAnswers numbers S command (number + 1) lines later more × (status ≡ max first later) × (text ≡ said ++ more)
 
 -- of the lines at hand, those before the rest are answered with this status and this text
-pub record AreAnswered (at_hand : List (List ℕ) → Type 0) (N : Node) (command : ObjectCommand) (lines rest : List (List ℕ)) (status : ℕ) (text : List ℕ) : Type 0 where
+pub record AreAnswered (at_hand : List (List ℕ) → Type 0) (numbers : Numbers) (S : Standard) (command : ObjectCommand) (lines rest : List (List ℕ)) (status : ℕ) (text : List ℕ) : Type 0 where
   pub there : at_hand (lines ++ rest)
-  pub answers : AreLineAnswers N command 1 lines status text
+  pub answers : AreLineAnswers numbers S command 1 lines status text
 
 -- the answers to the lines before the rest are out, and nothing else
-pub record AreOut (at_hand : List (List ℕ) → Type 0) (N : Node) (command : ObjectCommand) (rest : List (List ℕ)) (old new : Option (List ℕ)) : Type 0 where
+pub record AreOut (at_hand : List (List ℕ) → Type 0) (numbers : Numbers) (S : Standard) (command : ObjectCommand) (rest : List (List ℕ)) (old new : Option (List ℕ)) : Type 0 where
   pub lines : List (List ℕ)
   pub status : ℕ
   pub text : List ℕ
-  pub answered : AreAnswered at_hand N command lines rest status text
+  pub answered : AreAnswered at_hand numbers S command lines rest status text
   pub out : Appends old new text
 
 -- a beginning of the answers to the lines before the rest is out
-pub record AreCut (at_hand : List (List ℕ) → Type 0) (N : Node) (command : ObjectCommand) (rest : List (List ℕ)) (old new : Option (List ℕ)) : Type 0 where
+pub record AreCut (at_hand : List (List ℕ) → Type 0) (numbers : Numbers) (S : Standard) (command : ObjectCommand) (rest : List (List ℕ)) (old new : Option (List ℕ)) : Type 0 where
   pub lines : List (List ℕ)
   pub status : ℕ
   pub text : List ℕ
-  pub answered : AreAnswered at_hand N command lines rest status text
+  pub answered : AreAnswered at_hand numbers S command lines rest status text
   pub bytes : ℕ
   pub out : Appends old new (take bytes text)

@@ -15,15 +15,16 @@ use Rattle.jtree.specs.Failures.{HasFailed}
 use Rattle.crdx.specs.Program.Documents.{Documents, Lines, file_name}
 use Rattle.crdx.specs.Program.FieldAnswer.{IsFieldAnswer}
 use Rattle.crdx.specs.Program.LineAnswers.{AreAnswered, AreOut, AreCut}
-use Rattle.crdx.specs.Program.ObjectAnswer.{IsObjectAnswer}
+use Rattle.crdx.specs.Program.ObjectAnswer.{IsAnswerBy}
 use Rattle.crdx.specs.Program.Objects.{AreObjects, AreRefused}
+use Rattle.crdx.specs.Program.Standard.{Standard, asks_as_written}
 use Rattle.crdx.specs.Program.ViolationLines.{violation_lines, explained_lines}
 use Rattle.suggest.specs.Suggested.Document.{suggested_document}
 use Rattle.suggest.specs.Suggested.Fault.{IsSuggestFault}
 use Rattle.suggest.specs.Suggested.Wanted.{Wanted as PoolsWanted}
 use Rattle.suggest.specs.declared.fault.SuggestFault.{SuggestFault}
 use Rattle.suggest.specs.declared.fault.SuggestFault.TheVariants as suggest
-use Rattle.crdx.specs.Program.Requested.{pool_limits_of, total_of, IsRequestedSchema, IsAcceptedSchema, HasAcceptedSchema, IsCrdRefused, AreRootAndPools, IsAfterRefused, IsRequested, IsRequestedWalk, ArePoolsRefused, IsRequestedRoot, IsRequestedObject, IsObjectRefused}
+use Rattle.crdx.specs.Program.Requested.{numbers_of, pool_limits_of, total_of, IsRequestedSchema, IsAcceptedSchema, HasAcceptedSchema, IsCrdRefused, IsRefusedAs, AreRootAndPools, IsAfterRefused, IsRequested, IsRequestedWalk, ArePoolsRefused, IsRequestedRoot, IsRequestedStandard, form_asked, HasRefusedPattern, IsRequestedObject, IsObjectRefused}
 use Rattle.plan.specs.Pools.Pools.{Pools}
 use Rattle.plan.specs.Pools.PlanFault.{HasGoodPaths, IsFirstBadPath}
 use Rattle.plan.specs.Samples.Question.{Question}
@@ -56,10 +57,13 @@ pub data IsAnswer (has : Documents) : Request → ℕ → List ℕ → Type 0 wh
       → IsFieldAnswer N arguments.path status answer → IsAnswer has (Explain arguments) status answer
   -- the violations are on standard error
   no_fields : (arguments : ExplainArguments) (breaks : List Break) → HasBreaks has arguments.common breaks → IsAnswer has (Explain arguments) 1 []
-  object : (arguments : ObjectArguments) (N : Node) (document : Data) (status : ℕ) (answer : List ℕ) → IsRequestedObject has arguments N document
-      → IsObjectAnswer N document arguments.command status answer → IsAnswer has (Object arguments) status answer
-  no_object : (arguments : ObjectArguments) (breaks : List Break) → HasBreaks has arguments.common breaks → IsAnswer has (Object arguments) 1 []
-  no_objects : (arguments : ObjectArguments) (breaks : List Break) → HasBreaks has arguments.common breaks → IsAnswer has (ObjectLines arguments) 1 []
+  object : (arguments : ObjectArguments) (S : Standard) (document : Data) (status : ℕ) (answer : List ℕ) → IsRequestedObject has arguments S document
+      → IsAnswerBy S document arguments.command status answer → IsAnswer has (Object arguments) status answer
+  no_object : (arguments : ObjectArguments) (breaks : List Break) → asks_as_written arguments ≡ false → HasBreaks has arguments.common breaks → IsAnswer has (Object arguments) 1 []
+  no_objects : (arguments : ObjectArguments) (breaks : List Break) → asks_as_written arguments ≡ false → HasBreaks has arguments.common breaks → IsAnswer has (ObjectLines arguments) 1 []
+  -- the patterns that are refused are on standard error
+  refused_patterns : (arguments : ObjectArguments) → HasRefusedPattern has arguments → IsAnswer has (Object arguments) 1 []
+  refused_patterns_of_lines : (arguments : ObjectArguments) → HasRefusedPattern has arguments → IsAnswer has (ObjectLines arguments) 1 []
   no_pools : (arguments : PoolsArguments) (breaks : List Break) → HasBreaks has arguments.common breaks → IsAnswer has (SuggestPools arguments) 1 []
   samples : (arguments : SampleArguments) (q : Question) (after : Option Data) (e : Option Envelope) (items : List Data) (end : Bool) → IsRequestedWalk has arguments q after e
       → IfSome after (IsSampleOf q) → IsPage q after (total_of arguments) items end → IsAnswer has (Sample arguments) 0 (lines e items)
@@ -79,19 +83,19 @@ pub data IsAnswer (has : Documents) : Request → ℕ → List ℕ → Type 0 wh
 -- document is, and the tree to go on from only where all paths are
 abbrev pub IsPlanRefused : Documents → PlanArguments → Type 0
 IsPlanRefused has arguments = IsCrdRefused has arguments.common
-    ⊎ ((HasAcceptedSchema has arguments.common × ArePoolsRefused has (pool_limits_of arguments.common) arguments.pools)
+    ⊎ ((HasAcceptedSchema has arguments.common × ArePoolsRefused (has (numbers_of arguments.common)) (pool_limits_of arguments.common) arguments.pools)
     ⊎ ((N : Node) × (P : Pools) × AreRootAndPools has arguments N P × (text : List ℕ) × IsFirstBadPath N P text))
 
 abbrev pub IsSamplingRefused : Documents → SampleArguments → Type 0
 IsSamplingRefused has arguments = IsPlanRefused has arguments.plan
-    ⊎ ((N : Node) × (P : Pools) × AreRootAndPools has arguments.plan N P × HasGoodPaths N P × IsAfterRefused arguments.after)
+    ⊎ ((N : Node) × (P : Pools) × AreRootAndPools has arguments.plan N P × HasGoodPaths N P × IsAfterRefused (numbers_of arguments.plan.common) arguments.after)
 
 abbrev pub IsInputRefused : Documents → Request → Type 0
 IsInputRefused has (Check arguments) = IsCrdRefused has arguments
 IsInputRefused has (Explain arguments) = IsCrdRefused has arguments.common
-IsInputRefused has (Object arguments) = IsCrdRefused has arguments.common
-    ⊎ (HasAcceptedSchema has arguments.common × IsObjectRefused has arguments)
-IsInputRefused has (ObjectLines arguments) = IsCrdRefused has arguments.common
+IsInputRefused has (Object arguments) = IsRefusedAs (form_asked arguments) has arguments.common
+    ⊎ (((S : Standard) × IsRequestedStandard has arguments S) × IsObjectRefused has arguments)
+IsInputRefused has (ObjectLines arguments) = IsRefusedAs (form_asked arguments) has arguments.common
 IsInputRefused has (SuggestPools arguments) = IsCrdRefused has arguments.common
 IsInputRefused has (Sample arguments) = IsSamplingRefused has arguments
 IsInputRefused has (Cover arguments) = IsPlanRefused has arguments.plan
@@ -158,24 +162,24 @@ IsCutByMemory run request = Keeps run.output_before run.output
 abbrev pub lines_of : Effects → ObjectArguments → List (List ℕ) → Type 0
 lines_of run arguments = run.lines (file_name arguments.object)
 
--- The exit status of a run on lines, at the node of their bodies: that of the answers to all lines; or the answers to the first ones
+-- The exit status of a run on lines, by what they are judged by: that of the answers to all lines; or the answers to the first ones
 -- are out, and 4 a read failed, 5 out of memory, or 2^64 - 1 lines, as far as they are counted; or a beginning of them is, since a write
 -- failed.
-pub data IsLinesResult (run : Effects) (N : Node) (arguments : ObjectArguments) : ℕ → Type 0 where
-  all_answered : (lines : List (List ℕ)) (status : ℕ) (text : List ℕ) → AreAnswered (lines_of run arguments) N arguments.command lines [] status text
-      → Appends run.output_before run.output text → run.failed_writes ≡ run.failed_writes_before → IsLinesResult run N arguments status
+pub data IsLinesResult (run : Effects) (S : Standard) (arguments : ObjectArguments) : ℕ → Type 0 where
+  all_answered : (lines : List (List ℕ)) (status : ℕ) (text : List ℕ) → AreAnswered (lines_of run arguments) (numbers_of arguments.common) S arguments.command lines [] status text
+      → Appends run.output_before run.output text → run.failed_writes ≡ run.failed_writes_before → IsLinesResult run S arguments status
   line_unread : (rest : List (List ℕ)) → HasFailed run.failed_reads_before run.failed_reads
-      → AreOut (lines_of run arguments) N arguments.command rest run.output_before run.output → run.failed_writes ≡ run.failed_writes_before → IsLinesResult run N arguments 4
+      → AreOut (lines_of run arguments) (numbers_of arguments.common) S arguments.command rest run.output_before run.output → run.failed_writes ≡ run.failed_writes_before → IsLinesResult run S arguments 4
   line_unwritten : (rest : List (List ℕ)) (status : ℕ) → (status ≡ 4) ⊎ (status ≡ 5) → HasFailed run.failed_writes_before run.failed_writes
-      → AreCut (lines_of run arguments) N arguments.command rest run.output_before run.output → IsLinesResult run N arguments status
-  lines_left : (rest : List (List ℕ)) → AreOut (lines_of run arguments) N arguments.command rest run.output_before run.output → run.failed_writes ≡ run.failed_writes_before
-      → IsLinesResult run N arguments 5
+      → AreCut (lines_of run arguments) (numbers_of arguments.common) S arguments.command rest run.output_before run.output → IsLinesResult run S arguments status
+  lines_left : (rest : List (List ℕ)) → AreOut (lines_of run arguments) (numbers_of arguments.common) S arguments.command rest run.output_before run.output → run.failed_writes ≡ run.failed_writes_before
+      → IsLinesResult run S arguments 5
 
 -- ---- pools
 
 -- what `pools` is asked for besides a schema: the objects of the inputs that are named, and the paths
 pub record IsWanted (at_hand : Lines) (arguments : PoolsArguments) (w : PoolsWanted) : Type 0 where
-  pub objects : AreObjects at_hand (map (λ s. s.now) arguments.from.items) w.objects
+  pub objects : AreObjects (numbers_of arguments.common) at_hand (map (λ s. s.now) arguments.from.items) w.objects
   pub varied : w.varied ≡ map (λ s. s.now) arguments.varied.items
   pub without : w.without ≡ map (λ s. s.now) arguments.without.items
 
@@ -196,7 +200,7 @@ pub data IsPoolsResult (run : Effects) (arguments : PoolsArguments) : ℕ → Ty
       → run.failed_writes ≡ run.failed_writes_before → IsPoolsResult run arguments 0
   unwritten : (raw : Data) (N : Node) (w : PoolsWanted) (status : ℕ) → IsPoolsRequest run.documents run.lines arguments raw N w → (status ≡ 4) ⊎ (status ≡ 5) → HasFailed run.failed_writes_before run.failed_writes
       → (n : ℕ) → Appends run.output_before run.output (take n (pools_line arguments raw N w)) → IsPoolsResult run arguments status
-  unread_objects : HasAcceptedSchema run.documents arguments.common → AreRefused run.lines (map (λ s. s.now) arguments.from.items) → WritesNothing run → IsPoolsResult run arguments 3
+  unread_objects : HasAcceptedSchema run.documents arguments.common → AreRefused (numbers_of arguments.common) run.lines (map (λ s. s.now) arguments.from.items) → WritesNothing run → IsPoolsResult run arguments 3
   not_suggested : (raw : Data) (N : Node) (w : PoolsWanted) (fault : SuggestFault) → IsPoolsRequest run.documents run.lines arguments raw N w → fault ≢ suggest.NoMemory
       → IsSuggestFault (pool_limits_of arguments.common) raw N w fault → WritesNothing run → IsPoolsResult run arguments 3
 
@@ -210,5 +214,5 @@ pub data IsRunResult (run : Effects) (request : Request) : ℕ → Type 0 where
   write_failed : (status : ℕ) → (status ≡ 4) ⊎ (status ≡ 5) → HasFailed run.failed_writes_before run.failed_writes → IsCutByWrite run request → IsRunResult run request status
   no_memory : IsCutByMemory run request → run.failed_writes ≡ run.failed_writes_before → IsRunResult run request 5
   on_objects : (arguments : PoolsArguments) (status : ℕ) → request ≡ SuggestPools arguments → IsPoolsResult run arguments status → IsRunResult run request status
-  on_lines : (arguments : ObjectArguments) (N : Node) (status : ℕ) → request ≡ ObjectLines arguments → IsRequestedRoot run.documents arguments.common N → IsLinesResult run N arguments status
+  on_lines : (arguments : ObjectArguments) (S : Standard) (status : ℕ) → request ≡ ObjectLines arguments → IsRequestedStandard run.documents arguments S → IsLinesResult run S arguments status
       → IsRunResult run request status

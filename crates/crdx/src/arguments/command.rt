@@ -105,7 +105,10 @@ fn crd_command<'a>(
     let command = add_argument(command, version);
     let large = flag(alloc, "large", help::LARGE, help::LARGE_LONG);
     let command = add_argument(command, large);
-    add_argument(command, flag(alloc, "why", help::WHY, help::WHY_LONG))
+    let why = flag(alloc, "why", help::WHY, help::WHY_LONG);
+    let command = add_argument(command, why);
+    let profile = text_option(alloc, "profile", "NAME", help::PROFILE, help::PROFILE_LONG);
+    add_argument(command, profile)
 }
 
 /// The command with one more argument, where it has been made.

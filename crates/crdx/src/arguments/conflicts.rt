@@ -127,7 +127,7 @@ fn is_read_again(before: bool, words: &[&str]) -> bool
 }
 
 /// The refusal of arguments that do not go together.
-fn refuse<'a>(alloc: Global, message: &str) -> Request<'a>
+pub(crate) fn refuse<'a>(alloc: Global, message: &str) -> Request<'a>
     ensures { line.IsUsageErrorOrMemory result }
 {
     match conflict(alloc, message) {

@@ -101,11 +101,19 @@ Faults that an object can have:
        a map list has the same keys.
   F14  junctor: allOf, anyOf, oneOf or not fails.
   F15  undeclared: pruning drops the member. Only --strict looks for it.
+  F16  pattern: the text does not match. Only --profile cluster looks for it,
+       for F17 and for F18.
+  F17  format: the text does not have it.
+  F18  multipleOf: the number is no multiple.
+
+Codes of patterns in a schema, which --profile cluster compiles:
+  C01  bad pattern: it is no regular expression of Go (RE2).
+  C02  pattern too big: what it compiles to is above 10 MiB.
 
 Codes of an input that is refused:
-  J1   A number is not an integer of 64 bits. Most often it is a fraction, in a
-       bound or a default: `grep -n '[0-9]\.[0-9]' FILE` shows where. crdx-relax
-       takes it away.
+  J1   A number is not an integer of 64 bits. Most often it is a fraction:
+       `grep -n '[0-9]\.[0-9]' FILE` shows where. --profile cluster reads it.
+       Of a bound or a default in a schema crdx-relax takes it away.
   J3   The document is not UTF-8 or not JSON, or nests deeper than 127. Most
        often it is YAML: `head -n 1 FILE` shows no brace, and `kubectl get -o
        json` or `yq -o json` prints JSON. Or it begins with a byte order mark:
@@ -236,7 +244,13 @@ to the place, and which keyword fails there, such as
 Of an object without faults it prints `valid`. The apiVersion, kind and metadata
 of the object are not judged, and members that the schema does not declare only
 with --strict. The object is judged as it is, and not completed with defaults
-first."#,
+first.
+
+With --profile cluster, and without --strict, the whole object is judged by the
+schema as it is written, every keyword of it, as the API server does: patterns
+and formats of texts too, fractions, and junctors of any kind. The definition
+has to have its form and keep the limits, and its patterns have to be regular
+expressions of Go; it may break the rules that `check` lists."#,
     end: "Example, at the top of the repository:
   ./crdx validate examples/issuer/crd.json v1 examples/issuer/faulty.json
 
@@ -440,6 +454,16 @@ pub(super) const WHY: &str = "Says why a schema or an input is refused";
 pub(super) const WHY_LONG: &str = "Prints below the line of a rule each reason: the keyword, what is
 wrong with it, and what can be done. Below the line of any other
 refusal: what was found, and what is allowed.";
+
+pub(super) const PROFILE: &str = "How documents are read: core or cluster";
+
+pub(super) const PROFILE_LONG: &str =
+    "core, which is usual, reads integers of 64 bits alone, and refuses a
+document that has another number (J1). cluster reads each number of
+JSON within the range of floats, as a cluster does: 1.0 and 1e2 are
+the integers 1 and 100, and 0.5 stays as it is written. With cluster
+`validate` judges an object by the schema as it is written, as the API
+server does. Elsewhere schemas are judged alike under both.";
 
 pub(super) const FROM: &str = "A JSON file of objects whose values are listed";
 

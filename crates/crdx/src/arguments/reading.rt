@@ -3,19 +3,22 @@ ghost use Rattle.std.specs.Prelude.{◌≡◌, ◌≢◌, ◌≤◌, false, true
 ghost use Rattle.clap.specs.Words.{found_of};
 ghost use Rattle.clap.specs.Kinds.{FailsBy};
 ghost use Rattle.clap.specs.Values.{kind_of};
-ghost use Rattle.clap.specs.Walk.{rows_of};
+ghost use Rattle.clap.specs.Walk.{first_of, rows_of};
 ghost use Rattle.clap.specs.Simple.{subcommand_rows_of};
 ghost use Rattle.clap.specs.declared.parser.matches.ValueSource.TheVariants.{CommandLine};
 ghost use Rattle.crdx.specs.Program.Documents.{file_name};
 ghost use Rattle.crdx.specs.Program.CommandLine as line;
 
 use crate::arguments::command::{MOST_COUNT, MOST_LIMIT, crdx_command};
-use crate::arguments::conflicts::{cover_request, object_request, pools_request, sample_request};
+use crate::arguments::conflicts::{
+    cover_request, object_request, pools_request, refuse, sample_request,
+};
 use crate::arguments::request::{
     CommonArguments, CoverArguments, ExplainArguments, ObjectArguments, ObjectCommand,
     PlanArguments, PoolsArguments, Request, SampleArguments,
 };
 use crate::inputs::InputName;
+use crate::profile::Profile;
 use clap::error::ErrorKind;
 use clap::parser::ValueSource;
 use clap::{ArgMatches, Error};
@@ -32,12 +35,39 @@ pub fn parse_arguments<'a>(alloc: Global, arguments: &'a [String]) -> Request<'a
 }
 
 fn request_of_command<'a>(alloc: Global, matches: &ArgMatches<'a>) -> Request<'a>
-    ensures { line.IsCommand (subcommand_rows_of matches.now) result }
+    ensures { line.IsAsked (subcommand_rows_of matches.now) result }
 {
     match matches.subcommand() {
-        Some((name, found)) => request_of_named(alloc, name, found),
+        Some((name, found)) => request_of_found(alloc, name, found),
         None => usage_error(alloc, "error: no command\n"),
     }
+}
+
+/// What a command asks for, which has to name a profile that there is, if any.
+fn request_of_found<'a>(alloc: Global, name: &str, found: &ArgMatches<'a>) -> Request<'a>
+    ensures { line.IsAsked (Some (name.now, rows_of (found_of found.now))) result }
+{
+    if names_other_profile(found) {
+        return refuse(alloc, "--profile is core or cluster");
+    }
+    request_of_named(alloc, name, found)
+}
+
+/// Whether a profile is named that there is not.
+fn names_other_profile(found: &ArgMatches<'_>) -> bool
+    ensures { result ≡ line.is_other_profile (first_of (codes "profile") (rows_of (found_of found.now))) }
+{
+    match found.get_str("profile") {
+        Some(name) => !is_profile(name),
+        None => false,
+    }
+}
+
+/// Whether there is a profile of this name.
+fn is_profile(name: &str) -> bool
+    ensures { result ≡ line.is_profile name.now }
+{
+    matches!(name, "core" | "cluster")
 }
 
 fn request_of_named<'a>(alloc: Global, name: &str, found: &ArgMatches<'a>) -> Request<'a>
@@ -83,6 +113,17 @@ fn common_arguments<'a>(matches: &ArgMatches<'a>) -> CommonArguments<'a>
         version: matches.get_str("VERSION").unwrap_or(""),
         large: matches.get_flag("large"),
         why: matches.get_flag("why"),
+        profile: profile_of(matches),
+    }
+}
+
+/// The profile that is named, and `Core` without a name.
+fn profile_of(matches: &ArgMatches<'_>) -> Profile
+    ensures { result ≡ line.profile_by (first_of (codes "profile") (rows_of (found_of matches.now))) }
+{
+    match matches.get_str("profile") {
+        Some(name) => Profile::named(name),
+        None => Profile::Core,
     }
 }
 

@@ -1,7 +1,9 @@
 //! What the arguments of the command line can ask for.
-ghost use Rattle.std.specs.Prelude.{◌≤◌};
+ghost use Rattle.std.specs.Prelude.{◌≤◌, ◌≡◌};
+ghost use Rattle.crdx.specs.Program.Standard as standard;
 
 use crate::inputs::InputName;
+use crate::profile::Profile;
 
 /// The arguments that every command takes.
 #[derive(Clone, Copy, Drop)]
@@ -14,6 +16,8 @@ pub struct CommonArguments<'a> {
     pub large: bool,
     /// Whether `--why` is given: whether it is to be said why something is refused.
     pub why: bool,
+    /// What `--profile` names, and else `Core`.
+    pub profile: Profile,
 }
 
 /// What samples are made of.
@@ -95,6 +99,18 @@ pub struct ObjectArguments<'a> {
     pub command: ObjectCommand,
     /// The input of the object, or of the objects.
     pub object: InputName<'a>,
+}
+
+impl ObjectArguments<'_> {
+    /// Whether objects are judged by the schema as it is written: by `validate` under the profile `cluster`, where it is not strict.
+    pub(crate) fn asks_as_written(&self) -> bool
+        ensures { result ≡ standard.asks_as_written self.now }
+    {
+        match (self.common.profile, self.command) {
+            (Profile::Cluster, ObjectCommand::Validate { strict }) => !strict,
+            _ => false,
+        }
+    }
 }
 
 /// What the arguments ask for.

@@ -3,6 +3,7 @@ ghost use Rattle.std.specs.Prelude.{◌≡◌};
 ghost use Rattle.crdx.specs.Internal.ExitStatus.{status};
 
 use crate::running::exit_status::{FAILED, NO, NO_MEMORY, REFUSED};
+use crate::running::patterns::RefusedPattern;
 use crate::walk::WFault;
 use explain::XFault;
 use jtree::JFault;
@@ -82,6 +83,8 @@ pub(crate) enum Cause {
     Place(Input, PlaceCode, String),
     /// The schema breaks rules.
     Violations(Vec<Violation>),
+    /// These patterns of the schema are refused.
+    Patterns(Vec<RefusedPattern>),
     /// The path leads to no field.
     NoField(XFault),
     /// The object has no leaves, since it is not stored.
@@ -100,7 +103,8 @@ impl Cause {
         ensures { result ≡ status self.now }
     {
         match self {
-            Cause::Violations(_) | Cause::NoField(_) | Cause::NotStored | Cause::NotASample => NO,
+            Cause::Violations(_) | Cause::Patterns(_) => NO,
+            Cause::NoField(_) | Cause::NotStored | Cause::NotASample => NO,
             Cause::Document(_, _) | Cause::Line(_, _) => REFUSED,
             Cause::Crd(_) | Cause::Pools(_) | Cause::Place(_, _, _) => REFUSED,
             Cause::Read(_) | Cause::Write(_) => FAILED,

@@ -1,24 +1,29 @@
 //! The schema, the pools and the tree to go on from that a request names.
 ghost use Rattle.std.specs.Prelude.{◌≡◌, true, Ok, IfOk, IfErr, OnOk, option_map};
 ghost use Rattle.jtree.specs.Data.{Data};
-ghost use Rattle.jtree.specs.Reads.{Reads};
+ghost use Rattle.jtree.specs.ReadsWith.{ReadsWith};
 ghost use Rattle.jtree.specs.View.{data_of};
+ghost use Rattle.schema.specs.Document.Forms as form;
 ghost use Rattle.schema.specs.Nodes.ByPlace.{AreNodesOf};
 ghost use Rattle.schema.specs.Rules.Breaks.{IsUnbroken};
 ghost use Rattle.stored.specs.Schemas.Accepted.{IsBroken};
-ghost use Rattle.crdx.specs.Internal.Cause.{IsReadFailure, IsReadCause, IsSchemaCause, IsPoolsCause, IsAfterCause, IsTextCause};
-ghost use Rattle.crdx.specs.Program.Requested.{limits_of, pool_limits_of, IsRequestedCrd, ArePools, IsAfter};
+ghost use Rattle.crdx.specs.Internal.Cause.{IsReadFailure, IsReadCause, IsReadCauseAs, IsSchemaCause, IsWrittenCause, IsPoolsCause, IsAfterCause, IsTextCause};
+ghost use Rattle.crdx.specs.Program.Requested.{numbers_of, limits_of, pool_limits_of, IsRequestedCrd, IsRequestedWritten, HasPatterns, ArePools, IsAfter};
 ghost use Rattle.crdx.specs.Program.Documents.{AreAmong, AreLinesAmong, file_name};
 ghost use Rattle.crdx.specs.Program.Envelope.{body_of as body};
+ghost use Rattle.crdx.specs.Program.Profiles.{numbers_by};
 
 use crate::arguments::{CommonArguments, PlanArguments};
 use crate::envelope::split;
 use crate::inputs::{InFault, InputName, Inputs};
+use crate::profile::Profile;
 use crate::running::causes::{Cause, Input};
+use crate::running::patterns::compile_patterns;
 use crate::running::refusal::{Refusal, Subject};
 use jtree::{JFault, Text, Tree};
+use patterns::Pattern;
 use plan::{PoolLimits, Pools};
-use schema::{Crd, Limits, read_crd_within};
+use schema::{Crd, Limits, Written, read_crd_within, read_written};
 use std::alloc::Global;
 use stored::{Schema, accept};
 
@@ -36,6 +41,13 @@ pub(crate) struct Accepted {
     pub group: Text,
     pub kind: Text,
     pub schema: Schema,
+}
+
+/// A schema as it is written, with its patterns.
+#[derive(Drop)]
+pub(crate) struct WrittenSchema {
+    pub schema: Tree,
+    pub patterns: Vec<Pattern>,
 }
 
 /// Pools, with their document where one is named.
@@ -84,13 +96,63 @@ pub(crate) fn read_definition<'a, I: Inputs>(
     ensures lines { AreLinesAmong (I.lines inputs.new) (I.lines inputs.old) }
     ensures unfailed { OnOk result (I.failures inputs.new ≡ I.failures inputs.old) }
 {
-    let document = read_document(inputs, Input::Crd, arguments.crd)?;
+    let document = read_document(inputs, arguments.profile, Input::Crd, arguments.crd)?;
     let limits = limits_of(arguments);
     match read_crd_within(alloc, &document, arguments.version, limits) {
         Ok(crd) => Ok(Definition { document, crd }),
         Err(fault) => Err(Refusal {
             cause: fault.into(),
             subject: Subject::Definition(document),
+        }),
+    }
+}
+
+/// The schema of a version of the CustomResourceDefinition of this name as it is written, where its patterns are patterns.
+pub(crate) fn written_schema<'a, I: Inputs>(
+    alloc: Global,
+    arguments: &CommonArguments<'a>,
+    inputs: &mut I,
+) -> Result<WrittenSchema, Refusal<'a>>
+    ensures written { IfOk result (λ w. IsRequestedWritten (I.has inputs.old) arguments.now (data_of w.schema)) }
+    ensures patterns { IfOk result (λ w. HasPatterns (data_of w.schema)) }
+    ensures cause { IfErr result (λ r. IsWrittenCause (I.has inputs.old) (I.failures inputs.old) (I.failures inputs.new) arguments.now r.cause) }
+    ensures stays { AreAmong (I.has inputs.new) (I.has inputs.old) }
+    ensures lines { AreLinesAmong (I.lines inputs.new) (I.lines inputs.old) }
+    ensures unfailed { OnOk result (I.failures inputs.new ≡ I.failures inputs.old) }
+{
+    let schema = read_schema(alloc, arguments, inputs)?;
+    match compile_patterns(alloc, &schema) {
+        Ok(patterns) => Ok(WrittenSchema { schema, patterns }),
+        Err(cause) => Err(cause.into()),
+    }
+}
+
+/// The schema of a version of the CustomResourceDefinition of this name, as a cluster reads it.
+fn read_schema<'a, I: Inputs>(
+    alloc: Global,
+    arguments: &CommonArguments<'a>,
+    inputs: &mut I,
+) -> Result<Tree, Refusal<'a>>
+    ensures ok { IfOk result (λ t. IsRequestedWritten (I.has inputs.old) arguments.now (data_of t)) }
+    ensures cause { IfErr result (λ r. IsReadCauseAs form.written_schema (I.has inputs.old) (I.failures inputs.old) (I.failures inputs.new) arguments.now r.cause) }
+    ensures stays { AreAmong (I.has inputs.new) (I.has inputs.old) }
+    ensures lines { AreLinesAmong (I.lines inputs.new) (I.lines inputs.old) }
+    ensures unfailed { OnOk result (I.failures inputs.new ≡ I.failures inputs.old) }
+{
+    let document = read_document(inputs, arguments.profile, Input::Crd, arguments.crd)?;
+    let limits = limits_of(arguments);
+    match read_written(alloc, &document, arguments.version, limits) {
+        Ok(
+            Written {
+                group: _,
+                kind: _,
+                version: _,
+                schema,
+            },
+        ) => Ok(schema),
+        Err(fault) => Err(Refusal {
+            cause: fault.into(),
+            subject: Subject::Written(document),
         }),
     }
 }
@@ -125,8 +187,8 @@ pub(crate) fn pools_of<'a, I: Inputs>(
     arguments: &PlanArguments<'a>,
     inputs: &mut I,
 ) -> Result<PoolsRead, Refusal<'a>>
-    ensures ok { IfOk result (λ read. ArePools (I.has inputs.old) (pool_limits_of arguments.now.common) arguments.now.pools read.pools) }
-    ensures cause { IfErr result (λ r. IsPoolsCause (I.has inputs.old) (I.failures inputs.old) (I.failures inputs.new) (pool_limits_of arguments.now.common) arguments.now.pools r.cause) }
+    ensures ok { IfOk result (λ read. ArePools (I.has inputs.old (numbers_of arguments.now.common)) (pool_limits_of arguments.now.common) arguments.now.pools read.pools) }
+    ensures cause { IfErr result (λ r. IsPoolsCause (I.has inputs.old (numbers_of arguments.now.common)) (I.failures inputs.old) (I.failures inputs.new) (pool_limits_of arguments.now.common) arguments.now.pools r.cause) }
 {
     let Some(name) = arguments.pools else {
         return Ok(PoolsRead {
@@ -134,7 +196,7 @@ pub(crate) fn pools_of<'a, I: Inputs>(
             pools: Pools::new(alloc),
         });
     };
-    let document = read_document(inputs, Input::Pools, name)?;
+    let document = read_document(inputs, arguments.common.profile, Input::Pools, name)?;
     let limits = pool_limits_of(&arguments.common);
     match Pools::read_within(alloc, &document, limits) {
         Ok(pools) => Ok(PoolsRead {
@@ -151,17 +213,18 @@ pub(crate) fn pools_of<'a, I: Inputs>(
 /// The document of the input of this name.
 pub(crate) fn read_document<'a, I: Inputs>(
     inputs: &mut I,
+    profile: Profile,
     input: Input,
     name: InputName<'a>,
 ) -> Result<Tree, Refusal<'a>>
-    ensures ok { IfOk result (λ t. I.has inputs.old (file_name name.entry) (Ok (data_of t))) }
-    ensures cause { IfErr result (λ r. IsReadFailure (I.has inputs.old) (I.failures inputs.old) (I.failures inputs.new) input (file_name name.entry) r.cause) }
+    ensures ok { IfOk result (λ t. I.has inputs.old (numbers_by profile) (file_name name.entry) (Ok (data_of t))) }
+    ensures cause { IfErr result (λ r. IsReadFailure (I.has inputs.old (numbers_by profile)) (I.failures inputs.old) (I.failures inputs.new) input (file_name name.entry) r.cause) }
     ensures stays { AreAmong (I.has inputs.new) (I.has inputs.old) }
     ensures lines { AreLinesAmong (I.lines inputs.new) (I.lines inputs.old) }
     ensures unfailed { OnOk result (I.failures inputs.new ≡ I.failures inputs.old) }
 {
     let subject = Subject::Input(name);
-    match inputs.tree(name) {
+    match inputs.tree(name, profile.numbers()) {
         Ok(tree) => Ok(tree),
         Err(InFault::Failed) => {
             let cause = Cause::Read(input);
@@ -178,23 +241,24 @@ pub(crate) fn read_document<'a, I: Inputs>(
 /// The tree to go on from: what the text is read as, without its envelope; none without a text.
 pub(crate) fn after_of<'a>(
     alloc: Global,
+    profile: Profile,
     text: Option<&'a str>,
 ) -> Result<Option<Tree>, Refusal<'a>>
-    ensures ok { IfOk result (λ t. IsAfter text.entry (option_map data_of t)) }
-    ensures cause { IfErr result (λ r. IsAfterCause text.entry r.cause) }
+    ensures ok { IfOk result (λ t. IsAfter (numbers_by profile) text.entry (option_map data_of t)) }
+    ensures cause { IfErr result (λ r. IsAfterCause (numbers_by profile) text.entry r.cause) }
 {
     match text {
-        Some(text) => Ok(Some(body_of(alloc, text)?)),
+        Some(text) => Ok(Some(body_of(alloc, profile, text)?)),
         None => Ok(None),
     }
 }
 
 /// What the text is read as, without its envelope.
-fn body_of<'a>(alloc: Global, text: &'a str) -> Result<Tree, Refusal<'a>>
-    ensures ok { IfOk result (λ t. (document : Data) × Reads text.now document × (data_of t ≡ body document)) }
-    ensures cause { IfErr result (λ r. IsTextCause text.now r.cause) }
+fn body_of<'a>(alloc: Global, profile: Profile, text: &'a str) -> Result<Tree, Refusal<'a>>
+    ensures ok { IfOk result (λ t. (document : Data) × ReadsWith (numbers_by profile) text.now document × (data_of t ≡ body document)) }
+    ensures cause { IfErr result (λ r. IsTextCause (numbers_by profile) text.now r.cause) }
 {
-    match Tree::from_bytes(alloc, text.as_bytes()) {
+    match Tree::from_bytes_with(alloc, text.as_bytes(), profile.numbers()) {
         Ok(mut tree) => {
             drop(split(&mut tree));
             Ok(tree)

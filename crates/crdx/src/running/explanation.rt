@@ -12,13 +12,14 @@ use crate::arguments::CommonArguments;
 use crate::inputs::{InputName, Inputs};
 use crate::running::causes::Cause;
 use crate::running::documents::{limits_of, pool_limits_of};
-use crate::running::explanation::definitions::definition_text;
+use crate::running::explanation::definitions::{definition_text, written_text};
 use crate::running::explanation::documents::{after_text, document_text, unread_text};
 use crate::running::explanation::fields::field_text;
 use crate::running::explanation::objects::unstored_text;
 use crate::running::explanation::pools::{path_text, pools_text, suggestion_text};
 use crate::running::explanation::samples::no_sample_text;
 use crate::running::lines::all_lines;
+use crate::running::patterns::pattern_lines;
 use crate::running::refusal::{Refusal, Subject};
 use jtree::Tree;
 use plan::{Plan, SizeSet};
@@ -26,8 +27,8 @@ use schema::{Crd, read_crd_within};
 use std::alloc::{AllocError, Global};
 use stored::explained;
 
-/// What is said of a refusal, each line with its end; nothing where there is no more to say. The lines of violations have those
-/// of the cause in them.
+/// What is said of a refusal, each line with its end; nothing where there is no more to say. The lines of violations and of
+/// patterns have those of the cause in them.
 pub(crate) fn explanation_of<I: Inputs>(
     alloc: Global,
     refusal: &Refusal<'_>,
@@ -38,6 +39,9 @@ pub(crate) fn explanation_of<I: Inputs>(
         (Cause::Write(_) | Cause::NoMemory, _) => Ok(None),
         (Cause::Violations(_), Subject::Definition(document)) => {
             violation_lines(alloc, document, arguments)
+        }
+        (Cause::Patterns(refused), _) => {
+            Ok(Some(pattern_lines(alloc, refused.as_slice(), true)?))
         }
         (_, Subject::Input(name)) => line_of(
             alloc,
@@ -86,6 +90,9 @@ fn subject_text(
         Subject::Text(text) => document_text(alloc, text.as_bytes(), None),
         Subject::Definition(document) => {
             definition_text(alloc, document, arguments.version, limits_of(arguments))
+        }
+        Subject::Written(document) => {
+            written_text(alloc, document, arguments.version, limits_of(arguments))
         }
         Subject::Pools(document) => {
             pools_text(alloc, document, cause, pool_limits_of(arguments))

@@ -1,26 +1,30 @@
 //! What `validate`, `prune`, `default` and `leaves` answer of the objects on the lines of an input.
-ghost use Rattle.std.specs.Prelude.{◌≡◌, ◌==◌, ◌+◌, ◌<◌, ◌-◌, ◌^◌, ℕ, List, [], ◌∷◌, ◌++◌, take, max, true, None, IfOk, IfErr, OnOk, OnErr, IfSome};
+ghost use Rattle.std.specs.Prelude.{◌≡◌, ◌==◌, ◌+◌, ◌<◌, ◌-◌, ◌^◌, ℕ, List, [], ◌∷◌, ◌++◌, take, max, true, false, None, IfOk, IfErr, OnOk, OnErr, IfSome};
 ghost use Rattle.std.specs.Prelude.{string_bytes, codes};
 ghost use Rattle.std.specs.Io.KnownBytes.{Appends};
 ghost use Rattle.jtree.specs.Failures.{HasFailed};
-ghost use Rattle.schema.specs.Nodes.Node.{Node as NodeData};
-ghost use Rattle.schema.specs.Nodes.View.{node_of};
-ghost use Rattle.crdx.specs.Internal.Cause.{IsObjectsCause};
+ghost use Rattle.crdx.specs.Internal.Cause.{IsLinesEnd, IsObjectCause};
 ghost use Rattle.crdx.specs.Internal.LineProgress.{IsNextAnswer, IsUnreadCause, IsCutCause, IsLinesCause};
 ghost use Rattle.crdx.specs.Program.Documents.{file_name};
 ghost use Rattle.crdx.specs.Program.InputFault.{IsOfBytes};
 ghost use Rattle.crdx.specs.Program.LineAnswers.{with_front, numbered, printed_at, document_code, code_at, IsLineAnswer, AreAnswered};
-ghost use Rattle.crdx.specs.Program.Requested.{IsRequestedRoot};
+ghost use Rattle.crdx.specs.Program.Profiles.{numbers_by};
+ghost use Rattle.crdx.specs.Program.ObjectAnswer.{IsAnswerBy};
+ghost use Rattle.crdx.specs.Program.Requested.{numbers_of};
+ghost use Rattle.crdx.specs.Program.Standard.{asks_as_written};
+ghost use Rattle.crdx.specs.Internal.Judge.{standard_of};
 ghost use Rattle.jtree.specs.Lines.{newline};
-ghost use Rattle.jtree.specs.Reads.{Reads, IsNoDocument};
+ghost use Rattle.jtree.specs.ReadsWith.{ReadsWith, IsNoDocumentWith};
 ghost use Rattle.jtree.specs.View.{data_of};
 ghost use Rattle.crdx.specs.Program.RunResult.{effects};
 
 use crate::arguments::{ObjectArguments, ObjectCommand};
 use crate::inputs::{InFault, InputName, Inputs};
+use crate::profile::Profile;
 use crate::running::answer::Answer;
+use crate::running::as_written::WrittenJudge;
 use crate::running::causes::{Cause, Input};
-use crate::running::documents::{Accepted, accepted_schema};
+use crate::running::documents::{accepted_schema, written_schema};
 use crate::running::ended::Ended;
 use crate::running::exit_status::{DONE, NO, REFUSED};
 use crate::running::explanation::bytes_line;
@@ -34,13 +38,22 @@ use std::alloc::{AllocError, Global};
 
 /// What is asked about each line.
 #[derive(Clone, Copy, Drop)]
-struct Asked<'a> {
+struct Asked {
     alloc: Global,
+    /// How the documents are read.
+    profile: Profile,
     command: ObjectCommand,
-    /// The node of the bodies of the objects.
-    node: &'a Node,
     /// Whether the reason is said where a line is no document.
     why: bool,
+}
+
+/// By what the objects are judged.
+#[derive(Drop)]
+pub(crate) enum Judge<'s> {
+    /// The node of their bodies.
+    Node(&'s Node),
+    /// The schema as it is written.
+    AsWritten(WrittenJudge<'s>),
 }
 
 /// What comes of a line: the exit status, and the text for standard output.
@@ -72,24 +85,78 @@ pub(crate) fn judge_lines<'a, I: Inputs, W: Sink, E: Sink>(
     out: &mut W,
     err: &mut E,
 ) -> Result<Ended, Refusal<'a>>
-    ensures answered { IfOk result (λ ended. (N : NodeData) × IsRequestedRoot (I.has inputs.old) arguments.now.common N × (lines : List (List ℕ)) × (text : List ℕ)
-        × AreAnswered (I.lines inputs.old (file_name arguments.now.object)) N arguments.now.command lines [] ended.status text × Appends (W.taken out.old) (W.taken out.new) text) }
-    ensures unfailed { OnOk result (W.failures out.new ≡ W.failures out.old) }
-    ensures cause { IfErr result (λ r. IsObjectsCause (effects I.has I.lines I.failures W.taken W.failures inputs.old inputs.new out.old out.new) arguments.now r.cause) }
+    ensures { IsLinesEnd (effects I.has I.lines I.failures W.taken W.failures inputs.old inputs.new out.old out.new) arguments.now result }
 {
-    let Accepted {
-        document: _,
-        group: _,
-        kind: _,
-        schema,
-    } = accepted_schema(alloc, &arguments.common, inputs)?;
+    if arguments.asks_as_written() {
+        judge_lines_as_written(alloc, arguments, inputs, out, err)
+    } else {
+        judge_lines_by_rules(alloc, arguments, inputs, out, err)
+    }
+}
+
+/// The same by the schema as it is written.
+fn judge_lines_as_written<'a, I: Inputs, W: Sink, E: Sink>(
+    alloc: Global,
+    arguments: &ObjectArguments<'a>,
+    inputs: &mut I,
+    out: &mut W,
+    err: &mut E,
+) -> Result<Ended, Refusal<'a>>
+    requires { asks_as_written arguments.now ≡ true }
+    ensures { IsLinesEnd (effects I.has I.lines I.failures W.taken W.failures inputs.old inputs.new out.old out.new) arguments.now result }
+{
+    let written = match written_schema(alloc, &arguments.common, inputs) {
+        Ok(written) => written,
+        Err(refusal) => return Err(refusal),
+    };
+    let mut judge = match WrittenJudge::new(alloc, &written) {
+        Ok(judge) => Judge::AsWritten(judge),
+        Err(error) => return Err(error.into()),
+    };
+    judge_lines_by(alloc, arguments, &mut judge, inputs, out, err)
+}
+
+/// The same by the rules of crdx.
+fn judge_lines_by_rules<'a, I: Inputs, W: Sink, E: Sink>(
+    alloc: Global,
+    arguments: &ObjectArguments<'a>,
+    inputs: &mut I,
+    out: &mut W,
+    err: &mut E,
+) -> Result<Ended, Refusal<'a>>
+    requires { asks_as_written arguments.now ≡ false }
+    ensures { IsLinesEnd (effects I.has I.lines I.failures W.taken W.failures inputs.old inputs.new out.old out.new) arguments.now result }
+{
+    let accepted = match accepted_schema(alloc, &arguments.common, inputs) {
+        Ok(accepted) => accepted,
+        Err(refusal) => return Err(refusal),
+    };
+    let mut judge = Judge::Node(accepted.schema.root());
+    judge_lines_by(alloc, arguments, &mut judge, inputs, out, err)
+}
+
+/// The same by what is known to judge the objects.
+fn judge_lines_by<'a, I: Inputs, W: Sink, E: Sink>(
+    alloc: Global,
+    arguments: &ObjectArguments<'a>,
+    judge: &mut Judge<'_>,
+    inputs: &mut I,
+    out: &mut W,
+    err: &mut E,
+) -> Result<Ended, Refusal<'a>>
+    ensures answered { IfOk result (λ ended. (lines : List (List ℕ)) × (text : List ℕ)
+        × AreAnswered (I.lines inputs.old (file_name arguments.now.object)) (numbers_of arguments.now.common) (standard_of judge.old) arguments.now.command lines [] ended.status text × Appends (W.taken out.old) (W.taken out.new) text) }
+    ensures unfailed { OnOk result (W.failures out.new ≡ W.failures out.old) }
+    ensures cause { IfErr result (λ r. IsLinesCause (I.lines inputs.old (file_name arguments.now.object)) (numbers_of arguments.now.common) (standard_of judge.old) arguments.now.command
+        (I.failures inputs.old) (I.failures inputs.new) (W.taken out.old) (W.taken out.new) (W.failures out.old) (W.failures out.new) r.cause) }
+{
     let asked = Asked {
         alloc,
+        profile: arguments.common.profile,
         command: arguments.command,
-        node: schema.root(),
         why: arguments.common.why,
     };
-    match judge_lines_of(&asked, arguments.object, inputs, out, err) {
+    match judge_lines_of(&asked, judge, arguments.object, inputs, out, err) {
         Ok(status) => Ok(Ended {
             status,
             line: "",
@@ -104,20 +171,21 @@ pub(crate) fn judge_lines<'a, I: Inputs, W: Sink, E: Sink>(
 
 /// The same of the lines of the input of this name.
 fn judge_lines_of<I: Inputs, W: Sink, E: Sink>(
-    asked: &Asked<'_>,
+    asked: &Asked,
+    judge: &mut Judge<'_>,
     name: InputName<'_>,
     inputs: &mut I,
     out: &mut W,
     err: &mut E,
 ) -> Result<u8, Cause>
     ensures answered { IfOk result (λ status. (lines : List (List ℕ)) × (text : List ℕ)
-        × AreAnswered (I.lines inputs.old (file_name name.entry)) (node_of asked.now.node.now) asked.now.command lines [] status text × Appends (W.taken out.old) (W.taken out.new) text) }
+        × AreAnswered (I.lines inputs.old (file_name name.entry)) (numbers_by asked.now.profile) (standard_of judge.old) asked.now.command lines [] status text × Appends (W.taken out.old) (W.taken out.new) text) }
     ensures unfailed { OnOk result (W.failures out.new ≡ W.failures out.old) }
-    ensures cause { IfErr result (IsLinesCause (I.lines inputs.old (file_name name.entry)) (node_of asked.now.node.now) asked.now.command
+    ensures cause { IfErr result (IsLinesCause (I.lines inputs.old (file_name name.entry)) (numbers_by asked.now.profile) (standard_of judge.old) asked.now.command
         (I.failures inputs.old) (I.failures inputs.new) (W.taken out.old) (W.taken out.new) (W.failures out.old) (W.failures out.new)) }
 {
     match inputs.open_lines(name) {
-        Ok(()) => answer_lines(asked, inputs, out, err),
+        Ok(()) => answer_lines(asked, judge, inputs, out, err),
         Err(InFault::Failed) => Err(Cause::Read(Input::Object)),
         Err(_) => Err(Cause::NoMemory),
     }
@@ -125,15 +193,16 @@ fn judge_lines_of<I: Inputs, W: Sink, E: Sink>(
 
 /// The answers to the lines of the input that was opened.
 fn answer_lines<I: Inputs, W: Sink, E: Sink>(
-    asked: &Asked<'_>,
+    asked: &Asked,
+    judge: &mut Judge<'_>,
     inputs: &mut I,
     out: &mut W,
     err: &mut E,
 ) -> Result<u8, Cause>
     ensures answered { IfOk result (λ status. (lines : List (List ℕ)) × (text : List ℕ)
-        × AreAnswered (I.coming inputs.old) (node_of asked.now.node.now) asked.now.command lines [] status text × Appends (W.taken out.old) (W.taken out.new) text) }
+        × AreAnswered (I.coming inputs.old) (numbers_by asked.now.profile) (standard_of judge.old) asked.now.command lines [] status text × Appends (W.taken out.old) (W.taken out.new) text) }
     ensures unfailed { OnOk result (W.failures out.new ≡ W.failures out.old) }
-    ensures cause { IfErr result (IsLinesCause (I.coming inputs.old) (node_of asked.now.node.now) asked.now.command
+    ensures cause { IfErr result (IsLinesCause (I.coming inputs.old) (numbers_by asked.now.profile) (standard_of judge.old) asked.now.command
         (I.failures inputs.old) (I.failures inputs.new) (W.taken out.old) (W.taken out.new) (W.failures out.old) (W.failures out.new)) }
 {
     let mut line = Vec::new(asked.alloc);
@@ -143,7 +212,7 @@ fn answer_lines<I: Inputs, W: Sink, E: Sink>(
         written: 0,
     };
     'lines: while so_far.lines < u64::MAX {
-        let answer = match next_answer(asked, so_far.lines + 1, inputs, &mut line, err) {
+        let answer = match next_answer(asked, judge, so_far.lines + 1, inputs, &mut line, err) {
             Ok(Some(answer)) => answer,
             Ok(None) => return Ok(so_far.status),
             Err(cause) => return Err(cause),
@@ -158,19 +227,21 @@ fn answer_lines<I: Inputs, W: Sink, E: Sink>(
 
 /// The answer to the next line, which has this number, where there is one.
 fn next_answer<I: Inputs, E: Sink>(
-    asked: &Asked<'_>,
+    asked: &Asked,
+    judge: &mut Judge<'_>,
     number: u64,
     inputs: &mut I,
     line: &mut Vec<u8>,
     err: &mut E,
 ) -> Result<Option<LineAnswer>, Cause>
-    ensures some { IfOk result (λ o. IfSome o (λ a. IsNextAnswer (I.coming inputs.old) (I.coming inputs.new) (node_of asked.now.node.now) asked.now.command number a.status a.text.items)) }
+    ensures some { IfOk result (λ o. IfSome o (λ a. IsNextAnswer (I.coming inputs.old) (I.coming inputs.new) (numbers_by asked.now.profile) (standard_of judge.old) asked.now.command number a.status a.text.items)) }
     ensures none { IfOk result (λ o. o ≡ None → I.coming inputs.old []) }
     ensures unfailed { OnOk result (I.failures inputs.new ≡ I.failures inputs.old) }
     ensures cause { IfErr result (IsUnreadCause (I.failures inputs.old) (I.failures inputs.new)) }
+    ensures same { standard_of judge.new ≡ standard_of judge.old }
 {
     match inputs.next_line(line) {
-        Ok(true) => Ok(Some(answer_to(asked, number, line.as_slice(), err)?)),
+        Ok(true) => Ok(Some(answer_to(asked, judge, number, line.as_slice(), err)?)),
         Ok(false) => Ok(None),
         Err(InFault::Document(JFault::TooLong)) => Ok(Some(answer_to_fault(
             asked,
@@ -186,26 +257,32 @@ fn next_answer<I: Inputs, E: Sink>(
 
 /// The answer to a line.
 fn answer_to<E: Sink>(
-    asked: &Asked<'_>,
+    asked: &Asked,
+    judge: &mut Judge<'_>,
     number: u64,
     line: &[u8],
     err: &mut E,
 ) -> Result<LineAnswer, AllocError>
-    ensures { IfOk result (λ a. IsLineAnswer (node_of asked.now.node.now) asked.now.command number line.now a.status a.text.items) }
+    ensures answer { IfOk result (λ a. IsLineAnswer (numbers_by asked.now.profile) (standard_of judge.old) asked.now.command number line.now a.status a.text.items) }
+    ensures same { standard_of judge.new ≡ standard_of judge.old }
 {
-    match parse_line(asked.alloc, line) {
-        Ok(Ok(document)) => answer_to_document(asked, number, document),
+    match parse_line(asked.alloc, asked.profile, line) {
+        Ok(Ok(document)) => answer_to_document(asked, judge, number, document),
         Ok(Err(fault)) => answer_to_fault(asked, number, fault, line, err),
         Err(_) => Err(AllocError),
     }
 }
 
 /// The document on a line, or why it is none.
-fn parse_line(alloc: Global, line: &[u8]) -> Result<Result<Tree, JFault>, AllocError>
-    ensures document { IfOk result (λ read. IfOk read (λ t. Reads line.now (data_of t))) }
-    ensures none { IfOk result (λ read. IfErr read (λ fault. IsOfBytes fault × IsNoDocument line.now fault)) }
+fn parse_line(
+    alloc: Global,
+    profile: Profile,
+    line: &[u8],
+) -> Result<Result<Tree, JFault>, AllocError>
+    ensures document { IfOk result (λ read. IfOk read (λ t. ReadsWith (numbers_by profile) line.now (data_of t))) }
+    ensures none { IfOk result (λ read. IfErr read (λ fault. IsOfBytes fault × IsNoDocumentWith (numbers_by profile) line.now fault)) }
 {
-    match Tree::from_bytes(alloc, line) {
+    match Tree::from_bytes_with(alloc, line, profile.numbers()) {
         Ok(document) => Ok(Ok(document)),
         Err(JFault::NoMemory) => Err(AllocError),
         Err(fault) => Ok(Err(fault)),
@@ -214,20 +291,21 @@ fn parse_line(alloc: Global, line: &[u8]) -> Result<Result<Tree, JFault>, AllocE
 
 /// The answer to the document on a line.
 fn answer_to_document(
-    asked: &Asked<'_>,
+    asked: &Asked,
+    judge: &mut Judge<'_>,
     number: u64,
     document: Tree,
 ) -> Result<LineAnswer, AllocError>
-    ensures { IfOk result (λ a. (line : List ℕ) → Reads line (data_of document) → IsLineAnswer (node_of asked.now.node.now) asked.now.command number line a.status a.text.items) }
+    ensures answer { IfOk result (λ a. (line : List ℕ) → ReadsWith (numbers_by asked.now.profile) line (data_of document) → IsLineAnswer (numbers_by asked.now.profile) (standard_of judge.old) asked.now.command number line a.status a.text.items) }
+    ensures same { standard_of judge.new ≡ standard_of judge.old }
 {
     let Asked {
         alloc,
+        profile: _,
         command,
-        node,
         why: _,
     } = *asked;
-    let mut body = document;
-    match answer_of(alloc, command, node, &mut body) {
+    match answer_by(alloc, command, judge, document) {
         Ok(alone) => numbered_answer(alloc, number, command, &alone),
         Err(Cause::NotStored) => {
             let alone = Answer {
@@ -241,9 +319,27 @@ fn answer_to_document(
     }
 }
 
+/// What is said of a document alone.
+fn answer_by(
+    alloc: Global,
+    command: ObjectCommand,
+    judge: &mut Judge<'_>,
+    document: Tree,
+) -> Result<Answer, Cause>
+    ensures answer { IfOk result (λ a. IsAnswerBy (standard_of judge.old) (data_of document) command a.status (string_bytes a.out)) }
+    ensures cause { IfErr result (IsObjectCause (standard_of judge.old) (data_of document) command) }
+    ensures same { standard_of judge.new ≡ standard_of judge.old }
+{
+    let mut document = document;
+    match judge {
+        Judge::Node(node) => answer_of(alloc, command, node, &mut document),
+        Judge::AsWritten(written) => Ok(written.validate(alloc, &document)?),
+    }
+}
+
 /// The answer to a line that is no document, of which at least a beginning is at hand.
 fn answer_to_fault<E: Sink>(
-    asked: &Asked<'_>,
+    asked: &Asked,
     number: u64,
     fault: JFault,
     line: &[u8],

@@ -1,5 +1,6 @@
 //! What `validate`, `prune`, `default` and `leaves` answer.
-ghost use Rattle.std.specs.Prelude.{◌≡◌, None, Ok, IfOk, IfErr, string_bytes};
+ghost use Rattle.std.specs.Prelude.{◌≡◌, ◌≢◌, None, Ok, IfOk, IfErr, codes, false, length, string_bytes};
+ghost use Rattle.std.specs.List.{flat_map};
 ghost use Rattle.jtree.specs.Data.{Data, IsTree};
 ghost use Rattle.jtree.specs.View.{data_of};
 ghost use Rattle.schema.specs.Nodes.View.{node_of};
@@ -8,10 +9,12 @@ ghost use Rattle.stored.specs.Objects.Leaves.{elements_of};
 ghost use Rattle.crdx.specs.Internal.Cause.{IsInputCause, IsDocumentCause, IsObjectCause};
 ghost use Rattle.crdx.specs.Internal.Found.{AreFound};
 ghost use Rattle.crdx.specs.Output.Line.{line};
+ghost use Rattle.crdx.specs.Program.Requested.{numbers_of};
 ghost use Rattle.crdx.specs.Program.Documents.{file_name};
 ghost use Rattle.crdx.specs.Program.Envelope.{body_of, IsJoined};
 ghost use Rattle.crdx.specs.Program.ObjectAnswer.{IsObjectAnswer, fault_line, leaf_line};
 ghost use Rattle.crdx.specs.Program.RunResult.{IsAnswer};
+ghost use Rattle.crdx.specs.Program.Standard.{by_node, asks_as_written};
 ghost use Rattle.crdx.specs.declared.arguments.request.ObjectCommand.TheVariants.{Validate, Leaves};
 ghost use Rattle.crdx.specs.declared.running.causes.Cause.TheVariants.{NoMemory};
 ghost use Rattle.crdx.specs.declared.arguments.request.Request.TheVariants.{Object};
@@ -21,6 +24,7 @@ use crate::envelope::{Parts, join, split};
 use crate::inputs::Inputs;
 use crate::phrases::fault_phrase;
 use crate::running::answer::{Answer, json_line, json_text, json_texts};
+use crate::running::as_written::judge_as_written;
 use crate::running::causes::{Cause, Input};
 use crate::running::documents::{Accepted, accepted_schema, read_document};
 use crate::running::exit_status::{DONE, NO};
@@ -31,13 +35,30 @@ use schema::Node;
 use std::alloc::{AllocError, Global};
 use stored::{Fault, Leaf, Schema, complete, faults, leaves, prune, strict_faults};
 
-/// What is asked about an object, whose envelope is taken off before it is judged, and put back where it is printed. Inputs are
-/// judged in the order CustomResourceDefinition, its schema, object, and the first refusal ends the run.
+/// What is asked about an object. Inputs are judged in the order CustomResourceDefinition, its schema, object, and the first refusal ends the
+/// run.
 pub(crate) fn judge_object<'a, I: Inputs>(
     alloc: Global,
     arguments: &ObjectArguments<'a>,
     inputs: &mut I,
 ) -> Result<Answer, Refusal<'a>>
+    ensures answer { IfOk result (λ a. IsAnswer (I.has inputs.old) (Object arguments.now) a.status (string_bytes a.out)) }
+    ensures cause { IfErr result (λ r. IsInputCause (I.has inputs.old) (I.failures inputs.old) (I.failures inputs.new) (Object arguments.now) r.cause) }
+{
+    if arguments.asks_as_written() {
+        judge_as_written(alloc, arguments, inputs)
+    } else {
+        judge_by_rules(alloc, arguments, inputs)
+    }
+}
+
+/// What is asked about an object by the rules of crdx. Its envelope is taken off before it is judged, and put back where it is printed.
+fn judge_by_rules<'a, I: Inputs>(
+    alloc: Global,
+    arguments: &ObjectArguments<'a>,
+    inputs: &mut I,
+) -> Result<Answer, Refusal<'a>>
+    requires { asks_as_written arguments.now ≡ false }
     ensures answer { IfOk result (λ a. IsAnswer (I.has inputs.old) (Object arguments.now) a.status (string_bytes a.out)) }
     ensures cause { IfErr result (λ r. IsInputCause (I.has inputs.old) (I.failures inputs.old) (I.failures inputs.new) (Object arguments.now) r.cause) }
 {
@@ -57,11 +78,12 @@ fn judge_by<'a, I: Inputs>(
     schema: Schema,
     inputs: &mut I,
 ) -> Result<Answer, Refusal<'a>>
-    ensures answer { IfOk result (λ a. (document : Data) × I.has inputs.old (file_name arguments.now.object) (Ok document)
+    ensures answer { IfOk result (λ a. (document : Data) × I.has inputs.old (numbers_of arguments.now.common) (file_name arguments.now.object) (Ok document)
         × IsObjectAnswer schema document arguments.now.command a.status (string_bytes a.out)) }
-    ensures cause { IfErr result (λ r. IsDocumentCause (I.has inputs.old) (I.failures inputs.old) (I.failures inputs.new) schema arguments.now r.cause) }
+    ensures cause { IfErr result (λ r. IsDocumentCause (I.has inputs.old) (I.failures inputs.old) (I.failures inputs.new) (by_node schema) arguments.now r.cause) }
 {
-    let mut body = read_document(inputs, Input::Object, arguments.object)?;
+    let profile = arguments.common.profile;
+    let mut body = read_document(inputs, profile, Input::Object, arguments.object)?;
     match answer_of(alloc, arguments.command, schema.root(), &mut body) {
         Ok(answer) => Ok(answer),
         Err(cause) => Err(Refusal {
@@ -79,7 +101,7 @@ pub(crate) fn answer_of(
     document: &mut Tree,
 ) -> Result<Answer, Cause>
     ensures answer { IfOk result (λ a. IsObjectAnswer (node_of node.now) (data_of document.old) command a.status (string_bytes a.out)) }
-    ensures cause { IfErr result (IsObjectCause (node_of node.now) (data_of document.old) command) }
+    ensures cause { IfErr result (IsObjectCause (by_node (node_of node.now)) (data_of document.old) command) }
 {
     let envelope = split(document);
     match command {
@@ -112,7 +134,15 @@ fn validate(alloc: Global, node: &Node, body: &Tree, strict: bool) -> Result<Ans
 {
     stored::laws::strictly_valid_is_pruned();
     let found = find_faults(alloc, node, body, strict)?;
-    if found.as_slice().is_empty() {
+    Ok(answer_with(alloc, found.as_slice())?)
+}
+
+/// `valid` where there are no faults, and else their lines.
+pub(crate) fn answer_with<T: Lines>(alloc: Global, found: &[T]) -> Result<Answer, AllocError>
+    ensures none { length found.now ≡ 0 → IfOk result (λ a. (a.status ≡ 0) × (string_bytes a.out ≡ codes "valid\n")) }
+    ensures some { length found.now ≢ 0 → IfOk result (λ a. (a.status ≡ 1) × (string_bytes a.out ≡ flat_map T.text found.now)) }
+{
+    if found.is_empty() {
         Ok(Answer {
             status: DONE,
             out: String::from_str(alloc, "valid\n")?,
@@ -121,7 +151,7 @@ fn validate(alloc: Global, node: &Node, body: &Tree, strict: bool) -> Result<Ans
     } else {
         Ok(Answer {
             status: NO,
-            out: all_lines(alloc, found.as_slice())?,
+            out: all_lines(alloc, found)?,
             err: String::new(alloc),
         })
     }
@@ -162,21 +192,27 @@ impl Lines for Fault {
     ghost text = { λ fault. fault_line (reported fault) };
 
     fn lines(&self, alloc: Global) -> Result<String, AllocError> {
-        let path = json_text(alloc, self.path.as_str())?;
-        let number = self.number;
-        format!(in alloc;
-            "F{}{} {path} {}\n",
-            number / 10,
-            number % 10,
-            fault_phrase(number)
-        )
+        line_of_fault(alloc, self.path.as_str(), self.number)
     }
+}
+
+/// The line of the fault of this number at the place of this pointer.
+pub(crate) fn line_of_fault(alloc: Global, path: &str, number: u8) -> Result<String, AllocError>
+    ensures { IfOk result (λ s. string_bytes s ≡ fault_line (record { path = path.now; number = number })) }
+{
+    let path = json_text(alloc, path)?;
+    format!(in alloc;
+        "F{}{} {path} {}\n",
+        number / 10,
+        number % 10,
+        fault_phrase(number)
+    )
 }
 
 /// A line for each leaf, where the body is stored.
 fn list_leaves(alloc: Global, node: &Node, body: &Tree) -> Result<Answer, Cause>
     ensures answer { IfOk result (λ a. (document : Data) → body_of document ≡ data_of body.now → IsObjectAnswer (node_of node.now) document Leaves a.status (string_bytes a.out)) }
-    ensures cause { IfErr result (λ cause. (document : Data) → body_of document ≡ data_of body.now → IsObjectCause (node_of node.now) document Leaves cause) }
+    ensures cause { IfErr result (λ cause. (document : Data) → body_of document ≡ data_of body.now → IsObjectCause (by_node (node_of node.now)) document Leaves cause) }
 {
     let found = leaves(alloc, node, body)?;
     Ok(Answer {

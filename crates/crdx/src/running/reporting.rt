@@ -12,6 +12,7 @@ use crate::running::ended::Ended;
 use crate::running::exit_status::NO_MEMORY;
 use crate::running::explanation::explanation_of;
 use crate::running::lines::all_lines;
+use crate::running::patterns::pattern_lines;
 use crate::running::refusal::Refusal;
 use crate::sink::{Sink, put_all};
 use std::alloc::{AllocError, Global};
@@ -158,7 +159,7 @@ fn say_no_memory<E: Sink>(err: &mut E) -> u8
     NO_MEMORY
 }
 
-/// Says a cause on `err`, with the explanation below it; violations have their lines in their explanation.
+/// Says a cause on `err`, with the explanation below it; violations and patterns have their lines in their explanation.
 pub(crate) fn say<E: Sink>(
     alloc: Global,
     cause: &Cause,
@@ -166,7 +167,9 @@ pub(crate) fn say<E: Sink>(
     err: &mut E,
 ) -> Result<(), AllocError> {
     let lines = match (cause, explanation) {
-        (Cause::Violations(_), Some(explained)) => String::from_str(alloc, explained.as_str())?,
+        (Cause::Violations(_) | Cause::Patterns(_), Some(explained)) => {
+            String::from_str(alloc, explained.as_str())?
+        }
         (_, Some(explained)) => {
             let line = line_of(alloc, cause)?;
             format!(in alloc; "{line}{explained}")?
@@ -190,6 +193,7 @@ fn line_of(alloc: Global, cause: &Cause) -> Result<String, AllocError> {
             format!(in alloc; "crdx: {input}: {code} {pointer}\n")
         }
         Cause::Violations(violations) => all_lines(alloc, violations),
+        Cause::Patterns(refused) => pattern_lines(alloc, refused.as_slice(), false),
         Cause::NoField(fault) => format!(in alloc; "crdx: explain: {fault}\n"),
         Cause::NotStored => format!(in alloc; "crdx: object: {}\n", LFault::NotStored),
         Cause::NotASample => format!(in alloc; "crdx: after: not a sample\n"),

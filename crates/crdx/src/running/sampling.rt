@@ -186,7 +186,7 @@ fn sample_source<'a, Z: SizeSet, I: Inputs>(
         Ok(source) => source,
         Err(refusal) => return Err(refusal),
     };
-    match after_of(alloc, arguments.after) {
+    match after_of(alloc, arguments.plan.common.profile, arguments.after) {
         Ok(after) => Ok(SampleSource {
             plan,
             after,

@@ -98,7 +98,12 @@ fn suggest_at<'a, I: Inputs>(
     ensures answer { IfOk result (λ a. (w : WantedData) × IsWanted (I.lines inputs.old) arguments.now w × (string_bytes a.out ≡ pools_line arguments.now (data_of written.raw) written.schema w)) }
     ensures cause { IfErr result (λ r. IsSuggestionCause (I.lines inputs.old) (I.failures inputs.old) (I.failures inputs.new) arguments.now (data_of written.raw) written.schema r.cause) }
 {
-    let objects = match read_objects(alloc, inputs, arguments.from.as_slice()) {
+    let objects = match read_objects(
+        alloc,
+        arguments.common.profile,
+        inputs,
+        arguments.from.as_slice(),
+    ) {
         Ok(objects) => objects,
         Err(refusal) => return Err(refusal),
     };

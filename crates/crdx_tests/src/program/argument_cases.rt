@@ -2,6 +2,7 @@
 use crate::support::harness::{is_said, words_of};
 use crate::support::report::Report;
 use crate::support::rows::{Kind, Row, try_tables};
+use crdx::Profile;
 use crdx::arguments::{
     CommonArguments, CoverArguments, ExplainArguments, ObjectArguments, ObjectCommand,
     PoolsArguments, Request, SampleArguments, parse_arguments,
@@ -14,7 +15,9 @@ use std::test::Fail;
 // What is wanted in these tables: the definition, the version, and the object, or the pools, the sample to go on from, the name, the
 // limit and the count, or all. What is read of the standard input is (input), and - is nothing.
 static COVERS_AND_CHECKS: &str = r#"
-13 rows: name | command | wanted
+15 rows: name | command | wanted
+a check as a cluster reads | crdx check c.json v1 --profile cluster | check c.json v1 by cluster without reasons
+a cover by the usual profile | crdx cover --profile core c.json v1 | cover c.json v1 - - 127
 a cover | crdx cover c.json v1 | cover c.json v1 - - 127
 a cover with values | crdx cover --values c.json v1 --pools - --limit 15 --name w | cover c.json v1 (input) w 15 values
 a cover of the standard input, with reasons | crdx cover - v1 --why --large --pools p.json | cover (input) v1 large with reasons p.json - 127
@@ -94,7 +97,11 @@ fn common_text(alloc: Global, common: &CommonArguments<'_>) -> Result<String, Al
         (false, true) => " with reasons",
         (true, true) => " large with reasons",
     };
-    format!(in alloc; "{crd} {version}{options}")
+    let profile = match common.profile {
+        Profile::Core => "",
+        Profile::Cluster => " by cluster",
+    };
+    format!(in alloc; "{crd} {version}{profile}{options}")
 }
 
 fn object_text(alloc: Global, arguments: &ObjectArguments<'_>) -> Result<String, AllocError> {

@@ -43,10 +43,10 @@ static DOCUMENTS: &str = r#"
 6 rows: name | command | definition | second | status
 a fraction in a definition | crdx check crd.json v1 --why | {"b":{"c":2},"a":[1,0.50]} | - | 3
     ! crdx: crd: J1
-    !     found 0.50 at "/a/1"; allowed are integers of 64 bits
+    !     found 0.50 at "/a/1"; allowed are integers of 64 bits; `--profile cluster` reads other numbers
 a fraction to go on from | crdx sample crd.json v1 --why --after {"spec":1e2} | @WIDGET | - | 3
     ! crdx: after: J1
-    !     found 1e2 at "/spec"; allowed are integers of 64 bits
+    !     found 1e2 at "/spec"; allowed are integers of 64 bits; `--profile cluster` reads other numbers
 pools that are cut | crdx sample crd.json v1 --pools pools.json --why | @WIDGET | {␊"integers":[0 | 3
     ! crdx: pools: J3
     !     found no JSON at line 2, column 13

@@ -36,7 +36,10 @@ objects without a name | crdx pools crd.json v1 --from | error: a value is requi
 "#;
 
 static WORDS: &str = r#"
-11 rows: name | command | lines
+14 rows: name | command | lines
+another profile | crdx check crd.json v1 --profile openapi | error: --profile is core or cluster
+another profile of samples | crdx sample crd.json v1 --profile Cluster --pools pools.json | error: --profile is core or cluster
+two profiles | crdx prune crd.json v1 --profile core --profile cluster | error: the argument '--profile <NAME>' cannot be used multiple times
 a sample of nothing | crdx sample | error: the following required arguments were not provided:
 a sample of no version | crdx sample crd.json | error: the following required arguments were not provided:
 a check of no version | crdx check crd.json | error: the following required arguments were not provided:
@@ -113,11 +116,11 @@ static ANSWERS: [&str; 20] = [
     "L1", "X1", "X2",
 ];
 
-// The rules and the faults that a run can print: each begins a line of the help.
-static NUMBERS: [&str; 32] = [
+// The rules, the faults and the codes of patterns that a run can print: each begins a line of the help.
+static NUMBERS: [&str; 37] = [
     "V01", "V02", "V03", "V04", "V05", "V06", "V07", "V08", "V09", "V10", "V11", "V12", "V13",
     "V14", "V15", "V16", "V17", "F01", "F02", "F03", "F04", "F05", "F06", "F07", "F08", "F09",
-    "F10", "F11", "F12", "F13", "F14", "F15",
+    "F10", "F11", "F12", "F13", "F14", "F15", "F16", "F17", "F18", "C01", "C02",
 ];
 
 fn run_of(alloc: Global, line: &str) -> Result<Output, AllocError> {

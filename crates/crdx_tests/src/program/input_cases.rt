@@ -6,7 +6,7 @@ use crate::support::report::Report;
 use crate::support::rows::{Kind, Row, all_rows, rows_of, try_tables};
 use crate::support::texts::padded;
 use crdx::inputs::{HostInputs, InFault, InputName, Inputs};
-use jtree::Tree;
+use jtree::{Numbers, Tree};
 use std::alloc::{AllocError, Global};
 use std::env::Env;
 use std::rt::Files;
@@ -32,7 +32,8 @@ fn said_of_read(alloc: Global, read: Result<Tree, InFault>) -> Result<String, Fa
 }
 
 fn said_of_file(rt: &(impl Files + Input + AllocGlobal), path: &str) -> Result<String, Fail> {
-    said_of_read(rt.alloc(), HostInputs::new(rt).tree(InputName::File(path)))
+    let read = HostInputs::new(rt).tree(InputName::File(path), Numbers::Integers);
+    said_of_read(rt.alloc(), read)
 }
 
 fn said_of_text(

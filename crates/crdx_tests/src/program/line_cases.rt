@@ -111,13 +111,13 @@ a number that is refused, among completed objects | crdx default crd.json v1 obj
 why it is refused, among completed objects | crdx default crd.json v1 object.json --lines --why | @BOUND_AND_DEFAULT | {"a":0.5}␊{"a":1}␊ | 3
     > {"a":1,"b":"x"}
     ! crdx: object: 1: J1
-    !     found 0.5 at "/a"; allowed are integers of 64 bits
+    !     found 0.5 at "/a"; allowed are integers of 64 bits; `--profile cluster` reads other numbers
 why it is refused | crdx validate crd.json v1 object.json --lines --why | @BOUND_AND_DEFAULT | {"a":0}␊{"a":0.5}␊{"a":0}␊ | 3
     > 1: F04 "/a"
     > 2: J1
     > 3: F04 "/a"
     ! crdx: object: 2: J1
-    !     found 0.5 at "/a"; allowed are integers of 64 bits
+    !     found 0.5 at "/a"; allowed are integers of 64 bits; `--profile cluster` reads other numbers
 an input that cannot be opened | crdx validate crd.json v1 missing.json --lines | @BOUND_AND_DEFAULT | {"a":1}␊{"a":0}␊{"a":"t"}␊{"a":2,"c":3}␊ | 4
     ! crdx: object: read failed
 why it cannot be opened | crdx validate crd.json v1 missing.json --lines --why | @BOUND_AND_DEFAULT | {"a":1}␊{"a":0}␊{"a":"t"}␊{"a":2,"c":3}␊ | 4

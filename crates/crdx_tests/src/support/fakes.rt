@@ -11,7 +11,7 @@ use crdx::inputs::{InFault, InputName, Inputs, Unread};
 use crdx::sink::{Sink, SinkFault};
 use jtree::lines::{LineFeed, LineSource};
 use jtree::source::{Source, SourceFault};
-use jtree::{JFault, Tree};
+use jtree::{JFault, Numbers, Tree};
 use std::alloc::Global;
 use std::io::Write;
 
@@ -191,10 +191,10 @@ impl<'a> FakeInputs<'a> {
         }
     }
 
-    /// The document that these bytes are, where reading them does not fail after so many.
-    fn read(&mut self, bytes: &'a [u8], left: usize) -> Result<Tree, InFault>
-        ensures document { IfOk result (λ t. IsReading bytes.now (Ok (data_of t))) }
-        ensures refused { IfErr result (IsFaultOf bytes.now) }
+    /// The document with these numbers that these bytes are, where reading them does not fail after so many.
+    fn read(&mut self, bytes: &'a [u8], left: usize, numbers: Numbers) -> Result<Tree, InFault>
+        ensures document { IfOk result (λ t. IsReading numbers bytes.now (Ok (data_of t))) }
+        ensures refused { IfErr result (IsFaultOf numbers bytes.now) }
         ensures counts { self.new.failures ≡ failures_after_read self.old.failures result }
         ensures crd { self.new.crd ≡ self.old.crd }
         ensures second { self.new.second ≡ self.old.second }
@@ -205,7 +205,7 @@ impl<'a> FakeInputs<'a> {
             left,
             failures: 0,
         };
-        match Tree::from_reader(self.alloc, &mut source) {
+        match Tree::from_reader_with(self.alloc, &mut source, numbers) {
             Ok(tree) => Ok(tree),
             Err(JFault::ReadFailed) => {
                 self.failures = self.failures.saturating_add(1);
@@ -240,7 +240,7 @@ fn next_of<'a>(feed: &mut LineFeed<FailingSource<'a>>, line: &mut Vec<u8>) -> Re
 }
 
 impl<'a> Inputs for FakeInputs<'a> {
-    ghost has = { λ s name read. IsReading s.crd.now read ⊎ IsReading s.second.now read };
+    ghost has = { λ s numbers name read. IsReading numbers s.crd.now read ⊎ IsReading numbers s.second.now read };
 
     ghost lines = { λ s name lines. AreLines s.second.now lines };
 
@@ -250,24 +250,23 @@ impl<'a> Inputs for FakeInputs<'a> {
 
     ghost failures = { λ s. s.failures };
 
-    #[tactic(auto, using(crate::proofs::FakeLemmas::fault_of_first, crate::proofs::FakeLemmas::fault_of_second))]
-    fn tree(&mut self, name: InputName<'_>) -> Result<Tree, InFault> {
+    fn tree(&mut self, name: InputName<'_>, numbers: Numbers) -> Result<Tree, InFault> {
         match name {
             InputName::File("crd.json") => {
                 self.reads.crd = self.reads.crd.saturating_add(1);
-                self.read(self.crd, self.crd_left)
+                self.read(self.crd, self.crd_left, numbers)
             }
             InputName::File("pools.json") => {
                 self.reads.pools = self.reads.pools.saturating_add(1);
-                self.read(self.second, self.second_left)
+                self.read(self.second, self.second_left, numbers)
             }
             InputName::File("object.json") => {
                 self.reads.object = self.reads.object.saturating_add(1);
-                self.read(self.second, self.second_left)
+                self.read(self.second, self.second_left, numbers)
             }
             InputName::Stdin => {
                 self.reads.other = self.reads.other.saturating_add(1);
-                self.read(self.second, self.second_left)
+                self.read(self.second, self.second_left, numbers)
             }
             InputName::File(_) => {
                 self.reads.other = self.reads.other.saturating_add(1);

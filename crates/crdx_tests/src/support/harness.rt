@@ -229,7 +229,8 @@ pub fn schema_of_field(alloc: Global, field: &str) -> Result<Schema, Fail> {
     schema_of(alloc, schema.as_str())
 }
 
-fn fault_text(alloc: Global, fault: &SFault) -> Result<String, AllocError> {
+/// The code of a fault, and its pointer.
+pub fn fault_text(alloc: Global, fault: &SFault) -> Result<String, AllocError> {
     match fault {
         SFault::KeywordForm(pointer) => format!(in alloc; "S3 {pointer}"),
         SFault::TooLarge(pointer) => format!(in alloc; "S4 {pointer}"),

@@ -2,7 +2,7 @@
 use std::alloc::{AllocError, Global};
 use std::fmt::Write;
 
-// The rules of schemas and the faults of objects, whose phrases follow a code and a place.
+// The rules and patterns of schemas and the faults of objects, whose phrases follow a code and a place.
 static PHRASES: &str = r#"
 V01 missing type
 V02 not specified outside the junctor
@@ -36,6 +36,11 @@ F12 required
 F13 duplicate
 F14 junctor
 F15 undeclared
+F16 pattern
+F17 format
+F18 multipleOf
+C01 bad pattern
+C02 pattern too big
 "#;
 
 // Reasons, whose phrases follow a keyword.

@@ -5,7 +5,7 @@ use Rattle.jtree.specs.Path.{Path, part_at, under, under2, under3}
 use Rattle.jtree.specs.Pointer.{pointer}
 use Rattle.jtree.specs.View.{data_of}
 use Rattle.schema.specs.Document.Crd.{HasHeader, AreVersions, IsCrd, IsVersion, IsSchemaOf}
-use Rattle.schema.specs.Document.Forms.{Form, any_tree, string, boolean, object_of_objects, boolean_or_object, object, some_objects, strings, list as a_list, integer, count, form_at, HasForms, IsFormFault}
+use Rattle.schema.specs.Document.Forms.{Form, any_tree, string, boolean, object_of_objects, boolean_or_object, object, some_objects, strings, list as a_list, integer, count, written_schema, object_of_written_schemas, boolean_or_written_schema, written_schemas, number, form_at, HasFormsOf, IsFormFaultOf}
 use Rattle.schema.specs.Document.Limits.{IsLimitFault, PassesBy}
 use Rattle.schema.specs.Document.ReadFault.{HasSchema}
 use Rattle.schema.specs.declared.fault.SFault.{SFault}
@@ -72,6 +72,11 @@ form_view code.Strings = strings
 form_view code.List = a_list
 form_view code.Integer = integer
 form_view code.Count = count
+form_view code.WrittenSchema = written_schema
+form_view code.ObjectOfWrittenSchemas = object_of_written_schemas
+form_view code.BooleanOrWrittenSchema = boolean_or_written_schema
+form_view code.WrittenSchemas = written_schemas
+form_view code.Number = number
 
 -- the form that a value has to have where a path leads, and the value there
 abbrev pub HasBreak : Form → Data → Path → BrokenForm → Type 0
@@ -83,11 +88,19 @@ IsExcess limits raw x = (path : Path) × (string_bytes x.pointer ≡ pointer pat
 
 -- ---- why none is read
 
+-- of a document whose schema has to have a form
+abbrev pub IsRefusalOf : Form → Limits → Data → List ℕ → Refusal → Type 0
+IsRefusalOf f limits d version (NotACrd part) = IsWrongPart d version part
+IsRefusalOf f limits d version (NoSuchVersion names) = (versions : Items) × AreOthers d version versions × (names.items ≡ names_of versions)
+IsRefusalOf f limits d version (KeywordForm p broken) = (raw : Data) × HasSchema d version raw × (path : Path) × (string_bytes p ≡ pointer path) × IsFormFaultOf f raw path × HasBreak f raw path broken
+IsRefusalOf f limits d version (TooLarge x) = (raw : Data) × HasSchema d version raw × HasFormsOf f raw × IsExcess limits raw x
+
 abbrev pub IsRefusal : Limits → Data → List ℕ → Refusal → Type 0
-IsRefusal limits d version (NotACrd part) = IsWrongPart d version part
-IsRefusal limits d version (NoSuchVersion names) = (versions : Items) × AreOthers d version versions × (names.items ≡ names_of versions)
-IsRefusal limits d version (KeywordForm p broken) = (raw : Data) × HasSchema d version raw × (path : Path) × (string_bytes p ≡ pointer path) × IsFormFault raw path × HasBreak object raw path broken
-IsRefusal limits d version (TooLarge x) = (raw : Data) × HasSchema d version raw × HasForms raw × IsExcess limits raw x
+IsRefusal limits d version r = IsRefusalOf object limits d version r
+
+-- the same where the schema is read as a cluster reads it
+abbrev pub IsWrittenRefusal : Limits → Data → List ℕ → Refusal → Type 0
+IsWrittenRefusal limits d version r = IsRefusalOf written_schema limits d version r
 
 -- which fault a refusal is
 abbrev pub fault_of : Refusal → SFault

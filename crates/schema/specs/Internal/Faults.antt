@@ -4,7 +4,7 @@ use Rattle.jtree.specs.Data.{Data, Items}
 use Rattle.jtree.specs.Path.{Path}
 use Rattle.jtree.specs.Pointer.{pointer}
 use Rattle.schema.specs.Document.Crd.{AreVersions}
-use Rattle.schema.specs.Document.Forms.{Form, object, IsFormFault}
+use Rattle.schema.specs.Document.Forms.{Form, IsFormFaultOf}
 use Rattle.schema.specs.Document.Refusal.{IsWrongPart, AreOthers, HasBreak, IsExcess}
 use Rattle.schema.specs.Internal.Events.{Passing}
 use Rattle.schema.specs.declared.definition.Unfound.{Unfound}
@@ -42,10 +42,10 @@ abbrev pub IsFirstBreak : Form → Data → Option Path → Misformed → Type 0
 IsFirstBreak f d o (Broken p broken) = (path : Path) × (string_bytes p ≡ pointer path) × (o ≡ Some path) × HasBreak f d path broken
 IsFirstBreak f d o forms.NoMemory = Unit {0}
 
--- the first value of the schema that has not its form
-abbrev pub IsMisformed : Data → Misformed → Type 0
-IsMisformed raw (Broken p broken) = (path : Path) × (string_bytes p ≡ pointer path) × IsFormFault raw path × HasBreak object raw path broken
-IsMisformed raw forms.NoMemory = Unit {0}
+-- the first value of the schema, which has to have a form, that has not its form
+abbrev pub IsMisformed : Form → Data → Misformed → Type 0
+IsMisformed f raw (Broken p broken) = (path : Path) × (string_bytes p ≡ pointer path) × IsFormFaultOf f raw path × HasBreak f raw path broken
+IsMisformed f raw forms.NoMemory = Unit {0}
 
 abbrev pub form_fault : Misformed → SFault
 form_fault (Broken p broken) = KeywordForm p

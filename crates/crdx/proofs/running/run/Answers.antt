@@ -39,8 +39,7 @@ returns-in-ObjectLines g c =
     let arguments = c.in-ObjectLines.arguments in (
       ObjectLines arguments,
       c.in-ObjectLines.ensures,
-      result_of_lines _ arguments c.judge_lines-ended.result c.finish_written.result c.judge_lines-ended.ensures.answered c.judge_lines-ended.ensures.unfailed c.judge_lines-ended.ensures.cause
-          c.finish_written.ensures.done c.finish_written.ensures.said,
+      result_of_lines _ arguments c.judge_lines-ended.result c.finish_written.result c.judge_lines-ended.ensures c.finish_written.ensures.done c.finish_written.ensures.said,
     )
 
 pub returns-in-SuggestPools : goal.returns-in-SuggestPools

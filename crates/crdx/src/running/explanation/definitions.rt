@@ -19,6 +19,19 @@ pub(crate) fn definition_text(
     }
 }
 
+/// The same where the schema is taken as it is written.
+pub(crate) fn written_text(
+    alloc: Global,
+    document: &Tree,
+    version: &str,
+    limits: Limits,
+) -> Result<Option<String>, AllocError> {
+    match Refusal::of_written(alloc, document, version, limits)? {
+        Some(refusal) => Ok(Some(refusal_text(alloc, &refusal, limits)?)),
+        None => Ok(None),
+    }
+}
+
 fn refusal_text(
     alloc: Global,
     refusal: &Refusal<'_>,
@@ -59,14 +72,16 @@ fn form_text(form: Form) -> &'static str {
         Form::AnyTree => "any value",
         Form::String => "a text",
         Form::Boolean => "true or false",
-        Form::ObjectOfObjects => "an object of objects",
-        Form::BooleanOrObject => "true, false or an object",
-        Form::Object => "an object",
+        Form::ObjectOfObjects | Form::ObjectOfWrittenSchemas => "an object of objects",
+        Form::BooleanOrObject | Form::BooleanOrWrittenSchema => "true, false or an object",
+        Form::Object | Form::WrittenSchema => "an object",
         Form::SomeObjects => "a list of at least one object, with nothing else in it",
+        Form::WrittenSchemas => "a list of objects, with nothing else in it",
         Form::Strings => "a list of texts",
         Form::List => "a list",
         Form::Integer => "an integer",
         Form::Count => "an integer of at least 0",
+        Form::Number => "a number",
     }
 }
 

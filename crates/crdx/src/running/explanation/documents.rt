@@ -21,7 +21,9 @@ fn refusal_text(alloc: Global, refusal: &Refusal, size: Option<u64>) -> Result<S
     match refusal {
         Refusal::NotAnInteger { number, pointer } => {
             let pointer = json_text(alloc, pointer.as_str())?;
-            format!(in alloc; "found {number} at {pointer}; allowed are integers of 64 bits")
+            format!(in alloc;
+                "found {number} at {pointer}; allowed are integers of 64 bits; `--profile cluster` reads other numbers"
+            )
         }
         Refusal::NotJson {
             line,

@@ -3,7 +3,7 @@ use Rattle.jtree.specs.View.{data_of}
 use Rattle.schema.specs.Document.Limits.{IsWithinLimits}
 use Rattle.schema.specs.Document.Refusal.{IsExcess}
 use Rattle.schema.specs.Internal.Faults.{IsLimitFaultOf}
-use Rattle.schema.proofs.SchemaFaults.{no_other}
+use Rattle.schema.proofs.SchemaFaults.{is_no_other}
 use Rattle.schema.proofs.refusal.schema_refusal.Goals as goal
 
 pub returns-in-Ok-list_places-clause-read : goal.returns-in-Ok-list_places-clause-read
@@ -20,4 +20,4 @@ returns-in-Err-Passed-clause-refused c = λ d version has.
     )
 
 pub returns-in_default : goal.returns-in_default
-returns-in_default c = absurd (no_other c.args.schema.now c.in-Ok.ensures.ok c.in_default.not-Object)
+returns-in_default c = absurd (is_no_other c.args.schema.now c.requires.object c.in_default.not-Object)

@@ -13,4 +13,5 @@ returns c =
       value_text f (codes "VERSION") c.get_str.result c.unwrap_or.result _ c.get_str.ensures c.unwrap_or.ensures refl,
       (λ is. c.get_flag.ensures.none (large ∙ is), λ is. c.get_flag.ensures.other (large ∙ is), λ is. c.get_flag.ensures.value (large ∙ is)),
       (λ is. c.get_flag-2.ensures.none (why ∙ is), λ is. c.get_flag-2.ensures.other (why ∙ is), λ is. c.get_flag-2.ensures.value (why ∙ is)),
+      c.profile_of.ensures,
     )

@@ -1,7 +1,8 @@
 use Rattle.std.proofs.Common.{subst}
 use Rattle.jtree.specs.View.{data_of}
 use Rattle.schema.specs.Document.Limits.{IsWithinLimits}
-use Rattle.schema.specs.Document.ReadFault.{IsReadFault}
+use Rattle.schema.specs.Document.Forms as form
+use Rattle.schema.specs.Document.ReadFault.{IsReadFaultOf}
 use Rattle.crdx.proofs.RunLemmas.{cause_of_fault}
 use Rattle.crdx.proofs.running.documents.read_definition.Goals as goal
 
@@ -9,8 +10,8 @@ pub returns-in-Err-clause-cause : goal.returns-in-Err-clause-cause
 returns-in-Err-clause-cause g c =
     let arguments = c.args.arguments.now in
     let document = data_of c.in_ok-document.document in
-    let fault = subst (λ limits. IsReadFault limits document arguments.version.now c.in-Err.fault) c.limits_of-limits.ensures c.in-Err.ensures.err in
-    rw c.into.ensures (cause_of_fault (g.I.Inputs.has c.args.inputs.now) (g.I.Inputs.failures c.args.inputs.now) (g.I.Inputs.failures c.read_document.new.inputs) arguments document _ c.in_ok-document.ensures.ok fault)
+    let fault = subst (λ limits. IsReadFaultOf form.object limits document arguments.version.now c.in-Err.fault) c.limits_of-limits.ensures c.in-Err.ensures.err in
+    rw c.into.ensures (cause_of_fault (g.I.Inputs.has c.args.inputs.now) (g.I.Inputs.failures c.args.inputs.now) (g.I.Inputs.failures c.read_document.new.inputs) arguments form.object document _ c.in_ok-document.ensures.ok fault)
 
 pub returns-in-Ok-clause-ok : goal.returns-in-Ok-clause-ok
 returns-in-Ok-clause-ok g c =

@@ -1,8 +1,10 @@
 use Rattle.std.proofs.Common.{sym, subst}
-use Rattle.schema.specs.Nodes.View.{node_of}
+use Rattle.crdx.specs.Internal.Judge.{standard_of}
 use Rattle.jtree.specs.declared.fault.JFault.TheVariants.{TooLong}
 use Rattle.crdx.specs.Program.InputFault.{TakesLongLine}
 use Rattle.crdx.specs.Program.LineAnswers.{IsLineAnswer, no_document}
+use Rattle.crdx.specs.Program.Profiles.{numbers_by}
+use Rattle.crdx.proofs.ObjectInputLemmas.{too_long_with}
 use Rattle.crdx.proofs.running.line_answers.next_answer.Goals as goal
 
 pub returns-in_ok-answer_to_fault-in-Err-Document-TooLong-clause-some : goal.returns-in_ok-answer_to_fault-in-Err-Document-TooLong-clause-some
@@ -14,6 +16,6 @@ returns-in_ok-answer_to_fault-in-Err-Document-TooLong-clause-some g c =
     record {
       line = h.line;
       takes = h.takes;
-      answer = subst (λ n. IsLineAnswer (node_of asked.node.now) asked.command c.args.number h.line n answer.text.items) (sym said.0)
-          (no_document TooLong answer.text.items (λ e. cc, λ e. cc) h.long said.1);
+      answer = subst (λ n. IsLineAnswer (numbers_by asked.profile) (standard_of c.args.judge.now) asked.command c.args.number h.line n answer.text.items) (sym said.0)
+          (no_document TooLong answer.text.items (λ e. cc, λ e. cc) (too_long_with (numbers_by asked.profile) h.line h.long) said.1);
     }

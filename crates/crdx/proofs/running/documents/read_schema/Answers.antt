@@ -1,0 +1,31 @@
+use Rattle.std.proofs.Common.{subst}
+use Rattle.jtree.specs.View.{data_of}
+use Rattle.schema.specs.Document.Limits.{IsWithinLimits}
+use Rattle.schema.specs.Document.Forms as form
+use Rattle.schema.specs.Document.ReadFault.{IsReadFaultOf}
+use Rattle.crdx.proofs.RunLemmas.{cause_of_fault}
+use Rattle.crdx.proofs.running.documents.read_schema.Goals as goal
+
+pub returns-clause-cause : goal.returns-clause-cause
+returns-clause-cause g c =
+    let arguments = c.args.arguments.now in
+    let document = data_of c.in_ok-document.document in
+    let fault = subst (λ limits. IsReadFaultOf form.written_schema limits document arguments.version.now c.in-Err.fault) c.limits_of-limits.ensures c.in-Err.ensures.err in
+    rw c.into.ensures (cause_of_fault (g.I.Inputs.has c.args.inputs.now) (g.I.Inputs.failures c.args.inputs.now) (g.I.Inputs.failures c.read_document.new.inputs) arguments form.written_schema document _ c.in_ok-document.ensures.ok fault)
+
+pub returns-in-Ok-clause-ok : goal.returns-in-Ok-clause-ok
+returns-in-Ok-clause-ok g c =
+    let read = c.in-Ok.ensures in
+    let written = c.in-Ok.field-0 in (
+      written.group,
+      (
+        written.kind,
+        record {
+          document = data_of c.in_ok-document.document;
+          at_hand = c.in_ok-document.ensures.ok;
+          read = read.ok;
+          forms = read.forms;
+          within = subst (λ limits. IsWithinLimits limits (data_of written.schema)) c.limits_of-limits.ensures read.within;
+        },
+      ),
+    )

@@ -1,0 +1,12 @@
+use Rattle.std.proofs.Common.{length, ap, sym, ◌∙◌}
+use Rattle.std.specs.Prelude.{◌==◌}
+use Rattle.jtree.specs.View.{data_of}
+use Rattle.crdx.proofs.PatternLemmas.{none_refused, none_among}
+use Rattle.crdx.proofs.running.patterns.compile_patterns.Goals as goal
+
+pub returns-then-is_empty-clause-patterns : goal.returns-then-is_empty-clause-patterns
+returns-then-is_empty-clause-patterns c = none_refused (data_of c.args.schema.now) (
+  c.in_ok-found.found.items,
+  c.in_ok-found.ensures,
+  none_among _ c.in_ok-patterns.field-0.refused.items (rw (← c.as_slice.ensures.value) c.in_ok-patterns.ensures) (ap (λ rs. length rs == 0) (sym c.as_slice-2.ensures.value) ∙ sym c.if-is_empty.ensures),
+)

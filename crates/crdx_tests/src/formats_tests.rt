@@ -1,0 +1,2 @@
+//! Tests of `formats`.
+mod format_cases;

@@ -1,0 +1,3 @@
+//! Tests of `judge` and of the tests of texts that it takes.
+pub mod fault_cases;
+pub mod pattern_cases;

@@ -1,0 +1,128 @@
+//! `--profile`: numbers that are no integers of 64 bits, read as a cluster reads them, and refused without it; and objects judged by the schema
+//! as it is written.
+use crate::support::harness::SchemaRunRow;
+use crate::support::rows::try_tables;
+use std::test::Fail;
+
+// What the tables name.
+static NAMED: &str = r#"
+// An open place, and places of each scalar kind.
+@PLACES
+    | {"type":"object","properties":{"b":{"type":"boolean"},"i":{"type":"integer","minimum":1,"maximum":100},"o":{"x-kubernetes-preserve-unknown-fields":true},
+    "s":{"type":"string"},"x":{"x-kubernetes-int-or-string":true}}}
+"#;
+
+static FRACTIONS: &str = r#"
+9 rows: name | command | schema | second | status
+in an open place, each number of JSON | crdx validate crd.json v1 object.json --profile cluster | @PLACES
+    | {"o":[0.5,0.50,1.0,1e2,-0,-0.5,9223372036854775808,1e-400]} | 0
+    > valid
+pruned, as it is written but for whole numbers | crdx prune crd.json v1 object.json --profile cluster | @PLACES
+    | {"o":[0.5,0.50,1.0,1e2,-0,-0.5,9223372036854775808,1E-400],"u":0.5} | 0
+    > {"o":[0.5,0.50,1,100,0,-0.5,9223372036854775808,1E-400]}
+completed | crdx default crd.json v1 object.json --profile cluster | @PLACES | {"o":{"b":2.5e-3,"a":9007199254740991.0}} | 0
+    > {"o":{"a":9007199254740991,"b":2.5e-3}}
+whole numbers at an integer | crdx validate crd.json v1 object.json --profile cluster | @PLACES | {"i":1e2,"x":1.0} | 0
+    > valid
+a whole number above the maximum | crdx validate crd.json v1 object.json --profile cluster | @PLACES | {"i":1.01e4} | 1
+    > F05 "/i"
+fractions at scalars | crdx validate crd.json v1 object.json --profile cluster | @PLACES | {"b":0.5,"i":1.5,"s":0.5,"x":0.5} | 1
+    > F01 "/b"
+    > F01 "/i"
+    > F01 "/s"
+    > F01 "/x"
+an integer of more than 64 bits | crdx validate crd.json v1 object.json --profile cluster | @PLACES | {"i":9223372036854775808} | 1
+    > F01 "/i"
+    > F05 "/i"
+beyond the range of floats | crdx validate crd.json v1 object.json --profile cluster | @PLACES | {"o":1e999} | 3
+    ! crdx: object: J3
+leaves | crdx leaves crd.json v1 object.json --profile cluster | @PLACES | {"i":1e0,"o":0.5} | 0
+    > ["f:i"]
+    > ["f:o"]
+"#;
+
+static OTHERS: &str = r#"
+9 rows: name | command | schema | second | status
+with core, which is usual | crdx validate crd.json v1 object.json --profile core | @PLACES | {"o":0.5} | 3
+    ! crdx: object: J1
+without a profile | crdx validate crd.json v1 object.json | @PLACES | {"o":1.0} | 3
+    ! crdx: object: J1
+on lines | crdx validate crd.json v1 object.json --lines --profile cluster | @PLACES | {"o":0.5}␊{"i":0.5}␊{"i":1e999}␊{"i":7}␊ | 3
+    > 2: F01 "/i"
+    > 2: F04 "/i"
+    > 3: J3
+completed on lines | crdx default crd.json v1 object.json --lines --profile cluster | @PLACES | {"o":0.50}␊{"o":-0}␊ | 0
+    > {"o":0.50}
+    > {"o":0}
+a bound that is no integer | crdx check crd.json v1 --profile cluster | {"type":"object","properties":{"a":{"type":"integer","minimum":0.5}}} | {} | 3
+    ! crdx: crd: S3 "/properties/a/minimum"
+a whole bound | crdx check crd.json v1 --profile cluster | {"type":"object","properties":{"a":{"type":"integer","minimum":1.0}}} | {} | 0
+    > structural
+samples over fractions | crdx sample crd.json v1 --pools pools.json --limit 2 --profile cluster
+    | {"type":"object","properties":{"o":{"x-kubernetes-preserve-unknown-fields":true}}} | {"any":[0.5,"a",1.0,0.25]} | 0
+    > {}
+    > {"o":1}
+    > {"o":0.25}
+    > {"o":0.5}
+    > {"o":"a"}
+    ! crdx: end
+samples past one | crdx sample crd.json v1 --pools pools.json --limit 2 --after {"o":0.25} --profile cluster
+    | {"type":"object","properties":{"o":{"x-kubernetes-preserve-unknown-fields":true}}} | {"any":[0.5,0.25]} | 0
+    > {"o":0.5}
+    ! crdx: end
+a cover | crdx cover crd.json v1 --pools pools.json --profile cluster
+    | {"type":"object","properties":{"o":{"x-kubernetes-preserve-unknown-fields":true}}} | {"any":[0.5]} | 0
+    > {"o":0.5}
+    ! crdx: all paths are in some sample
+"#;
+
+static WRITTEN: &str = r#"
+13 rows: name | command | schema | second | status
+@PATTERN | {"type":"object","properties":{"a":{"type":"string","pattern":"^[a-z]+$"}}}
+a text that does not match a pattern | crdx validate crd.json v1 object.json --profile cluster | @PATTERN | {"a":"a1"} | 1
+    > F16 "/a"
+a text that matches it | crdx validate crd.json v1 object.json --profile cluster | @PATTERN | {"a":"ab"} | 0
+    > valid
+on lines | crdx validate crd.json v1 object.json --lines --profile cluster | @PATTERN | {"a":"ab"}␊{"a":"A"}␊{"a"}␊ | 3
+    > 2: F16 "/a"
+    > 3: J3
+a pattern without a profile | crdx validate crd.json v1 object.json | @PATTERN | {"a":"a1"} | 1
+    ! V17 "/properties/a"
+a strict question | crdx validate crd.json v1 object.json --strict --profile cluster | @PATTERN | {"a":"a1"} | 1
+    ! V17 "/properties/a"
+a format, a multiple and a bound that is no integer | crdx validate crd.json v1 object.json --profile cluster
+    | {"type":"object","properties":{"f":{"type":"string","format":"ipv4"},"m":{"type":"integer","multipleOf":3},"n":{"type":"number","minimum":0.5}}}
+    | {"f":"300.1.1.1","m":7,"n":0.25} | 1
+    > F17 "/f"
+    > F18 "/m"
+    > F04 "/n"
+a junctor with properties | crdx validate crd.json v1 object.json --profile cluster
+    | {"type":"object","properties":{"a":{"type":"object","properties":{"b":{"type":"string"},"c":{"type":"string"}},"oneOf":[{"required":["b"]},{"required":["c"],"properties":{"c":{"enum":["x"]}}}]}}}
+    | {"a":{"c":"y"}} | 1
+    > F14 "/a"
+the envelope is judged too | crdx validate crd.json v1 object.json --profile cluster | {"type":"object","required":["metadata"],"properties":{"kind":{"type":"string"}}} | {"kind":1} | 1
+    > F01 "/kind"
+    > F12 "/metadata"
+a junctor without branches | crdx validate crd.json v1 object.json --profile cluster | {"type":"object","properties":{"a":{"type":"string","allOf":[]}}} | {"a":"x"} | 0
+    > valid
+patterns that are none | crdx validate crd.json v1 object.json --profile cluster
+    | {"type":"object","properties":{"a":{"type":"string","pattern":"["},"b":{"type":"array","items":{"type":"string","pattern":"a(?=b)"}},"c":{"type":"string","pattern":"a"}}} | {} | 1
+    ! C01 "/properties/a"
+    ! C01 "/properties/b/items"
+patterns that are none, asked on lines | crdx validate crd.json v1 object.json --lines --profile cluster | {"type":"object","properties":{"a":{"type":"string","pattern":"("}}} | {}␊ | 1
+    ! C01 "/properties/a"
+a keyword of another form | crdx validate crd.json v1 object.json --profile cluster | {"type":"object","properties":{"a":{"type":"integer","multipleOf":"3"}}} | {} | 3
+    ! crdx: crd: S3 "/properties/a/multipleOf"
+no document | crdx validate crd.json v1 object.json --profile cluster | @PATTERN | {"a" | 3
+    ! crdx: object: J3
+"#;
+
+#[test]
+fn numbers_by_profile(rt: HostRuntime) -> Result<(), Fail> {
+    try_tables(&rt, rt.alloc(), &SchemaRunRow, &[NAMED, FRACTIONS, OTHERS])
+}
+
+#[test]
+fn as_written(rt: HostRuntime) -> Result<(), Fail> {
+    try_tables(&rt, rt.alloc(), &SchemaRunRow, &[WRITTEN])
+}

@@ -1,0 +1,4 @@
+pub mod FaultsByLevel
+pub mod PatternsByLevel
+pub mod MeetsByName
+pub mod Clean
