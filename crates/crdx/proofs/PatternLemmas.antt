@@ -10,7 +10,7 @@ use Rattle.judge.specs.Patterns.{PatternAt, ReportedPattern, HasPattern, reporte
 use Rattle.patterns.specs.Meaning.{is_pattern}
 use Rattle.crdx.specs.Internal.RefusedPatterns.{IsRefusedAs, AreRefusedOf, AreRefusedPatterns}
 use Rattle.crdx.specs.Program.Requested.{HasPatterns}
-use Rattle.crdx.specs.declared.running.patterns.RefusedPattern.{RefusedPattern}
+use Rattle.crdx.specs.declared.running.schema_patterns.RefusedPattern.{RefusedPattern}
 
 -- one pattern more
 pub passed_more : (ps : List ReportedPattern) (rs : List RefusedPattern) (p : ReportedPattern) → AreRefusedOf ps rs → is_pattern p.text ≡ true → AreRefusedOf (ps ++ p ∷ []) rs

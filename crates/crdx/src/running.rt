@@ -19,10 +19,10 @@ mod line_answers;
 mod lines;
 mod object_inputs;
 mod objects;
-mod patterns;
 mod refusal;
 mod reporting;
 mod sampling;
+mod schema_patterns;
 mod suggesting;
 
 use crate::arguments::{Request, parse_arguments};

@@ -6,7 +6,7 @@ use Rattle.judge.specs.declared.listing.SchemaPattern.{SchemaPattern}
 use Rattle.patterns.specs.Meaning.{is_pattern}
 use Rattle.patterns.specs.declared.fault.PatternFault.{PatternFault}
 use Rattle.patterns.specs.declared.fault.PatternFault.TheVariants.{NoPattern, TooBig, NoMemory}
-use Rattle.crdx.specs.declared.running.patterns.RefusedPattern.{RefusedPattern}
+use Rattle.crdx.specs.declared.running.schema_patterns.RefusedPattern.{RefusedPattern}
 
 -- why a pattern is refused: nothing is known of which one is too big
 abbrev pub IsPatternFault : PatternFault → List ℕ → Type 0

@@ -3,7 +3,7 @@ ghost use Rattle.std.specs.Prelude.{◌≡◌};
 ghost use Rattle.crdx.specs.Internal.ExitStatus.{status};
 
 use crate::running::exit_status::{FAILED, NO, NO_MEMORY, REFUSED};
-use crate::running::patterns::RefusedPattern;
+use crate::running::schema_patterns::RefusedPattern;
 use crate::walk::WFault;
 use explain::XFault;
 use jtree::JFault;

@@ -18,7 +18,7 @@ use crate::envelope::split;
 use crate::inputs::{InFault, InputName, Inputs};
 use crate::profile::Profile;
 use crate::running::causes::{Cause, Input};
-use crate::running::patterns::compile_patterns;
+use crate::running::schema_patterns::compile_patterns;
 use crate::running::refusal::{Refusal, Subject};
 use jtree::{JFault, Text, Tree};
 use patterns::Pattern;

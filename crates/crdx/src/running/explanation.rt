@@ -19,7 +19,7 @@ use crate::running::explanation::objects::unstored_text;
 use crate::running::explanation::pools::{path_text, pools_text, suggestion_text};
 use crate::running::explanation::samples::no_sample_text;
 use crate::running::lines::all_lines;
-use crate::running::patterns::pattern_lines;
+use crate::running::schema_patterns::pattern_lines;
 use crate::running::refusal::{Refusal, Subject};
 use jtree::Tree;
 use plan::{Plan, SizeSet};

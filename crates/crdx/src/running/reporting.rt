@@ -12,7 +12,7 @@ use crate::running::ended::Ended;
 use crate::running::exit_status::NO_MEMORY;
 use crate::running::explanation::explanation_of;
 use crate::running::lines::all_lines;
-use crate::running::patterns::pattern_lines;
+use crate::running::schema_patterns::pattern_lines;
 use crate::running::refusal::Refusal;
 use crate::sink::{Sink, put_all};
 use std::alloc::{AllocError, Global};

@@ -2,7 +2,7 @@ use Rattle.std.proofs.Common.{length, ap, sym, ◌∙◌}
 use Rattle.std.specs.Prelude.{◌==◌}
 use Rattle.jtree.specs.View.{data_of}
 use Rattle.crdx.proofs.PatternLemmas.{none_refused, none_among}
-use Rattle.crdx.proofs.running.patterns.compile_patterns.Goals as goal
+use Rattle.crdx.proofs.running.schema_patterns.compile_patterns.Goals as goal
 
 pub returns-then-is_empty-clause-patterns : goal.returns-then-is_empty-clause-patterns
 returns-then-is_empty-clause-patterns c = none_refused (data_of c.args.schema.now) (
