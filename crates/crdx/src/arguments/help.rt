@@ -90,8 +90,8 @@ Faults that an object can have:
   F03  enum: the value is none of the enum.
   F04  minimum: the integer is below it, or equal to an exclusive one.
   F05  maximum: the integer is above it, or equal to an exclusive one.
-  F06  minLength: the text has fewer characters.
-  F07  maxLength: the text has more characters.
+  F06  minLength: the string has fewer characters.
+  F07  maxLength: the string has more characters.
   F08  minItems: the list has fewer items.
   F09  maxItems: the list has more items.
   F10  minProperties: the object has fewer members.
@@ -101,9 +101,9 @@ Faults that an object can have:
        a map list has the same keys.
   F14  junctor: allOf, anyOf, oneOf or not fails.
   F15  undeclared: pruning drops the member. Only --strict looks for it.
-  F16  pattern: the text does not match. Only --profile cluster looks for it,
+  F16  pattern: the string does not match. Only --profile cluster looks for it,
        for F17 and for F18.
-  F17  format: the text does not have it.
+  F17  format: the string does not have it.
   F18  multipleOf: the number is no multiple.
 
 Codes of patterns in a schema, which --profile cluster compiles:
@@ -248,7 +248,7 @@ first.
 
 With --profile cluster, and without --strict, the whole object is judged by the
 schema as it is written, every keyword of it, as the API server does: patterns
-and formats of texts too, fractions, and junctors of any kind. The definition
+and formats of strings too, fractions, and junctors of any kind. The definition
 has to have its form and keep the limits, and its patterns have to be regular
 expressions of Go; it may break the rules that `check` lists."#,
     end: "Example, at the top of the repository:
@@ -350,7 +350,7 @@ pub(super) const SAMPLE: CommandHelp = CommandHelp {
     long_about: r#"Lists sample objects of a schema, one on each line, as JSON.
 
 A sample is an object that the schema accepts and that pruning and defaulting
-leave unchanged. Its integers and texts are among those of an `enum` or of the
+leave unchanged. Its integers and strings are among those of an `enum` or of the
 pools, and it has at most as many nodes as the limit says. The apiVersion, kind
 and metadata of the resource are left out, unless --name is given.
 
@@ -367,7 +367,7 @@ Standard error says `crdx: end` when no sample is left, else `crdx: more`. The
 last line, given back by --after, goes on from there. --all lists all at once.
 
 `crdx: end` alone is the whole answer where there is no sample: where a required
-field has no value in the pools that is valid, such as a text without --pools,
+field has no value in the pools that is valid, such as a string without --pools,
 or where the least object has more nodes than the limit. `crdx pools` prints
 values to start with."#,
     end: r#"Examples, at the top of the repository:

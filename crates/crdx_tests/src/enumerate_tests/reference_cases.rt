@@ -48,7 +48,7 @@ a map list by two keys
     > {"m":[{"host":"x","port":1}]}
     > {"m":[{"host":"x","port":0},{"host":"x","port":1}]}
     > {"m":[{"host":"x","port":1},{"host":"x","port":0}]}
-at least two of three truth values | @TRUTHS | {} | 4
+at least two of three booleans | @TRUTHS | {} | 4
     > {}
     > {"o":{"b":false,"c":false}}
     > {"o":{"b":false,"c":true}}

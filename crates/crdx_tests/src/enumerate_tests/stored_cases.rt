@@ -12,7 +12,7 @@ use stored::is_stored;
 
 static SCALARS: &str = r#"
 9 rows: name | schema | stored | others
-truth values | {"type":"boolean"} | [true,false] | [null,1,"true",[],{}]
+booleans | {"type":"boolean"} | [true,false] | [null,1,"true",[],{}]
 an exclusive minimum, and null | {"type":"integer","nullable":true,"minimum":1,"exclusiveMinimum":true,"maximum":3} | [null,2,3]
     | [-2,1,4,"2",true,[2]]
 an exclusive maximum | {"type":"integer","minimum":1,"maximum":3,"exclusiveMaximum":true} | [1,2] | [null,0,3,4]

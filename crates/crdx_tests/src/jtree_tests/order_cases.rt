@@ -11,8 +11,8 @@ static KINDS: &str = r#"
 fewer nodes | 9 | [9]
 fewer nodes of another kind | {"a":1} | [1,2]
 fewer nodes of the same kind | {"z":[[]]} | {"a":[],"b":1,"c":2}
-null before a truth value | null | false
-a truth value before an integer | true | -5
+null before a boolean | null | false
+a boolean before an integer | true | -5
 an integer before a text | 5 | ""
 a text before a list | "zzz" | []
 a list before an object | [] | {}
@@ -21,7 +21,7 @@ a list of a node before an object of one | [[]] | {"a":1}
 
 static SCALARS: &str = r#"
 12 rows: name | earlier | later
-truth values | false | true
+booleans | false | true
 the least integer | -9223372036854775808 | -2
 negative integers | -2 | -1
 an integer below 0 | -1 | 0

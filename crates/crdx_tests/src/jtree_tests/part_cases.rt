@@ -69,8 +69,8 @@ an empty list | [] | [] | {} | {} | yes
 an empty object | {} | {} | [] | [] | yes
 an integer in lists | [1,[2,3]] | 3 | 9 | [1,[2,9]] | yes
 an integer with fewer digits | [1,[2,10]] | 10 | 9 | [1,[2,9]] | no
-a truth value | [[true]] | true | null | [[null]] | yes
-a longer truth value | [[true]] | true | false | [[false]] | no
+a boolean | [[true]] | true | null | [[null]] | yes
+a longer boolean | [[true]] | true | false | [[false]] | no
 an empty list in objects | {"a":{"b":7},"c":{"d":[8,[]]}} | [] | 12 | {"a":{"b":7},"c":{"d":[8,12]}} | yes
 "#;
 

@@ -9,7 +9,7 @@ use std::test::Fail;
 
 // What the tables name.
 static NAMED: &str = r#"
-// Four optional truth values, of which one or two are there, and where any number of them may be there.
+// Four optional booleans, of which one or two are there, and where any number of them may be there.
 @ONE_OR_TWO
     | {"type":"object","properties":{"o":{"type":"object","minProperties":1,"maxProperties":2,
     "properties":{"a":{"type":"boolean"},"b":{"type":"boolean"},"c":{"type":"boolean"},"d":{"type":"boolean"}}}}}
@@ -20,8 +20,8 @@ static NAMED: &str = r#"
 
 static SIZES: &str = r#"
 11 rows: name | schema | pools | limit | at | asked | sizes
-the sizes of at least two of three truth values | @TRUTHS | {} | 4 | first | sizes | 3 4
-the sizes of the root above truth values | @TRUTHS | {} | 4 | root | sizes | 1 4
+the sizes of at least two of three booleans | @TRUTHS | {} | 4 | first | sizes | 3 4
+the sizes of the root above booleans | @TRUTHS | {} | 4 | root | sizes | 1 4
 the sizes of a map list | @MAP_LIST | {"strings":["a","b"],"integers":[0]} | 8 | first | sizes | 1 3 4 5 6 7
 the sizes of a map list of more items than keys | @LONG_MAP_LIST | {"strings":["a","b"],"integers":[0]} | 63 | first | sizes | -
 the sizes of the root above a list that cannot be | @LONG_MAP_LIST | {"strings":["a","b"],"integers":[0]} | 63 | root | sizes | 1

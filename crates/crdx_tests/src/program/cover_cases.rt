@@ -5,7 +5,7 @@ use std::test::Fail;
 
 // What the tables name.
 static NAMED: &str = r#"
-// A map of truth values.
+// A map of booleans.
 @MAP_OF_TRUTHS | {"type":"object","properties":{"m":{"type":"object","additionalProperties":{"type":"boolean"}}}}
 "#;
 

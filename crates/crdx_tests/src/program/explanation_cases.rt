@@ -5,7 +5,7 @@ use std::test::Fail;
 
 // What the tables name.
 static NAMED: &str = r#"
-// An object with two truth values, all of it required.
+// An object with two booleans, all of it required.
 @TWO_REQUIRED
     | {"type":"object","required":["s"],"properties":{"s":{"type":"object","required":["a","b"],
     "properties":{"a":{"type":"boolean"},"b":{"type":"boolean"}}}}}
@@ -19,11 +19,11 @@ another kind | crdx check crd.json v1 --why | {"apiVersion":"apps/v1","kind":"De
 an empty group | crdx explain crd.json v1 --why | {"apiVersion":"apiextensions.k8s.io/v1","kind":"CustomResourceDefinition","spec":{"group":""}} | -
     | 3
     ! crdx: crd: S1
-    !     "group" of "spec" has to be a text that is not empty
+    !     "group" of "spec" has to be a string that is not empty
 no kind | crdx pools crd.json v1 --why | {"apiVersion":"apiextensions.k8s.io/v1","kind":"CustomResourceDefinition","spec":{"group":"g","names":{}}}
     | - | 3
     ! crdx: crd: S1
-    !     "kind" of "names" of "spec" has to be a text that is not empty
+    !     "kind" of "names" of "spec" has to be a string that is not empty
 two versions of one name | crdx prune crd.json v1 object.json --why
     | {"apiVersion":"apiextensions.k8s.io/v1","kind":"CustomResourceDefinition","spec":{"group":"g","names":{"kind":"K"},
     "versions":[{"name":"v1"},{"name":"v1"}]}} | {} | 3
@@ -64,7 +64,7 @@ static SCHEMAS: &str = r#"
 6 rows: name | command | schema | second | status
 a keyword of another form | crdx check crd.json v1 --why | {"type":"object","properties":{"a":{"required":[1]}}} | - | 3
     ! crdx: crd: S3 "/properties/a/required/0"
-    !     found 1; allowed is a text
+    !     found 1; allowed is a string
 an empty list of branches | crdx check crd.json v1 --why | {"anyOf":[]} | - | 3
     ! crdx: crd: S3 "/anyOf"
     !     found []; allowed is a list of at least one object, with nothing else in it
@@ -96,7 +96,7 @@ a text among integers | crdx sample crd.json v1 --pools pools.json --why | @SPEC
     !     found "x"; allowed is an integer
 names that are an object | crdx sample crd.json v1 --pools pools.json --why | @SPEC | {"names":{"a":1}} | 3
     ! crdx: pools: P1 "/names"
-    !     found an object; allowed is a list of texts
+    !     found an object; allowed is a list of strings
 no list at a path | crdx sample crd.json v1 --pools pools.json --why | @SPEC | {"paths":{"/spec":[],"/spec/a":7}} | 3
     ! crdx: pools: P1 "/paths/~1spec~1a"
     !     found 7; allowed is a list
@@ -121,7 +121,7 @@ no list at a fixed path | crdx sample crd.json v1 --pools pools.json --why | @SP
     !     found 7; allowed is a list
 an integer among present paths | crdx sample crd.json v1 --pools pools.json --why | @SPEC | {"present":["/spec",7]} | 3
     ! crdx: pools: P1 "/present/1"
-    !     found 7; allowed is a text
+    !     found 7; allowed is a string
 the items of a map list | crdx sample crd.json v1 --pools pools.json --why | @MAP_LIST | {"fixed":{"/m/[]":[]}} | 3
     ! crdx: pools: P5 "/m/[]"
     !     found the path of the items of a map list; allowed are those of the list and of what is below its items

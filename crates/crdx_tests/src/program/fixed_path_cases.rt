@@ -5,7 +5,7 @@ use std::test::Fail;
 
 // What the tables name.
 static NAMED: &str = r#"
-// A list of truth values.
+// A list of booleans.
 @LIST | {"type":"object","properties":{"l":{"type":"array","items":{"type":"boolean"}}}}
 "#;
 

@@ -97,7 +97,7 @@ fn schemas(rt: HostRuntime) -> Result<(), Fail> {
     try_tables(&rt, rt.alloc(), &LongSchema, &[SCHEMAS])
 }
 
-/// An object with so many optional truth values.
+/// An object with so many optional booleans.
 fn wide(alloc: Global, count: usize) -> Result<String, AllocError> {
     let mut schema = String::from_str(alloc, r#"{"type":"object","properties":{"#)?;
     for i in 0..count {

@@ -5,7 +5,7 @@ use std::test::Fail;
 
 static TRUTHS_AND_KEYS: &str = r#"
 8 rows: name | command | schema | second | status
-a list for a truth value | crdx sample crd.json v1 --pools pools.json --limit 4 | @SPEC | {"integers":[0,1],"paths":{"/spec/b":[true]}} | 0
+a list for a boolean | crdx sample crd.json v1 --pools pools.json --limit 4 | @SPEC | {"integers":[0,1],"paths":{"/spec/b":[true]}} | 0
     > {}
     > {"spec":{}}
     > {"spec":{"b":true}}
@@ -14,7 +14,7 @@ a list for a truth value | crdx sample crd.json v1 --pools pools.json --limit 4 
     > {"spec":{"a":0,"b":true}}
     > {"spec":{"a":1,"b":true}}
     ! crdx: end
-an empty list for a truth value | crdx sample crd.json v1 --pools pools.json --limit 4 | @SPEC | {"integers":[0,1],"paths":{"/spec/b":[]}} | 0
+an empty list for a boolean | crdx sample crd.json v1 --pools pools.json --limit 4 | @SPEC | {"integers":[0,1],"paths":{"/spec/b":[]}} | 0
     > {}
     > {"spec":{}}
     > {"spec":{"a":0}}

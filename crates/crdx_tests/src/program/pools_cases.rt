@@ -10,7 +10,7 @@ use std::test::Fail;
 
 // What the tables name.
 static NAMED: &str = r#"
-// An object with an integer and a text, and one with a truth value.
+// An object with an integer and a text, and one with a boolean.
 @SCHEMA
     | {"type":"object","properties":{"spec":{"type":"object","properties":{"a":{"type":"integer"},"b":{"type":"string"}}},
     "status":{"type":"object","properties":{"c":{"type":"boolean"}}}}}

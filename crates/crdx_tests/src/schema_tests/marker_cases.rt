@@ -119,7 +119,7 @@ a key of integers and texts
     | {"type":"array","x-kubernetes-list-map-keys":["k"],"x-kubernetes-list-type":"map",
     "items":{"type":"object","properties":{"k":{"x-kubernetes-int-or-string":true}},"required":["k"]}}
     | structural
-a key of truth values
+a key of booleans
     | {"type":"array","x-kubernetes-list-map-keys":["k"],"x-kubernetes-list-type":"map",
     "items":{"type":"object","properties":{"k":{"type":"boolean","nullable":false}},"required":["k"]}}
     | structural

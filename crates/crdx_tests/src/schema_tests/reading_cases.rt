@@ -87,7 +87,7 @@ fn definitions(rt: HostRuntime) -> Result<(), Fail> {
 static FORMS: &str = r#"
 6 rows: name | schema | wanted
 texts | {"type":"x","description":"x","title":"x","format":"x","x-kubernetes-list-type":"x","x-kubernetes-map-type":"x"} | read
-truth values
+booleans
     | {"nullable":true,"uniqueItems":false,"exclusiveMinimum":true,"exclusiveMaximum":true,"x-kubernetes-int-or-string":true,
     "x-kubernetes-preserve-unknown-fields":true} | read
 schemas | {"properties":{},"additionalProperties":true,"items":{},"not":{},"allOf":[{}],"anyOf":[{}],"oneOf":[{}]} | read
@@ -96,7 +96,7 @@ counts | {"minLength":0,"maxLength":0,"minItems":0,"maxItems":0,"minProperties":
 what is in values and unknown keywords | {"additionalProperties":{},"enum":[1,null,{"type":1}],"example":{"type":1},"x":[{"items":1}]} | read
 "#;
 
-// A text or a truth value that has not its form.
+// A text or a boolean that has not its form.
 static TEXTS: &str = r#"
 12 rows: name | schema | wanted
 type | {"type":1} | S3 /type

@@ -64,7 +64,7 @@ a default and an example | {"type":"integer","default":5,"example":7} | {"/x":[5
 an example that is not stored | {"type":"integer","maximum":6,"default":5,"example":7} | {"/x":[5,0,1,6]}
 a default and a format | {"type":"string","format":"ipv4","default":"10.0.0.1"} | {"/x":["10.0.0.1","192.0.2.1","198.51.100.1"]}
 choices | {"type":"string","enum":["a","b"],"default":"a"} | -
-a truth value | {"type":"boolean","default":true} | -
+a boolean | {"type":"boolean","default":true} | -
 an integer or a text with a default | {"x-kubernetes-int-or-string":true,"default":"50%"} | {"/x":["50%",0,1,"a"]}
 a format of the items of a list | {"type":"array","items":{"type":"string","format":"uri"}}
     | {"/x/[]":["https://example.org","https://example.org/a"]}
@@ -87,7 +87,7 @@ no object | [] | {"/a":[4,0,1,8,9],"/l/[]/k":["1970-01-01","2030-12-31"]} | ["a"
 two objects | [{"a":1,"l":[{"k":"p"},{"k":"q"}],"m":{"r":"s","t":"s"},"o":{"z":[1]}},{"a":2,"l":[{"k":"q"}],"m":{"u":"v"}}]
     | {"/a":[1,2],"/l/[]/k":["p","q"],"/m/{}":["s","v"],"/o":[{"z":[1]}]} | ["r","t","u","a","b"]
 a list of lists | [{"a":3,"g":[[1,2],[],[2,3]],"l":[{"k":"p"}]}] | {"/a":[3],"/g/[]/[]":[1,2,3],"/l/[]/k":["p"]} | ["a","b"]
-a truth value that stands there | [{"a":3,"l":[{"k":"p"}],"t":false}] | {"/a":[3],"/l/[]/k":["p"],"/t":[false]} | ["a","b"]
+a boolean that stands there | [{"a":3,"l":[{"k":"p"}],"t":false}] | {"/a":[3],"/l/[]/k":["p"],"/t":[false]} | ["a","b"]
 a value that is not stored beside one that is | [{"a":10,"l":[{"k":"p"}]},{"a":3}] | {"/a":[3],"/l/[]/k":["p"]} | ["a","b"]
 only a value that is not stored, and nulls | [{"a":10,"l":[{"k":null}],"o":null}] | {"/a":[4,0,1,8,9],"/l/[]/k":["1970-01-01","2030-12-31"]}
     | ["a","b"]

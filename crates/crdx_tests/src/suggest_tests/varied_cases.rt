@@ -169,7 +169,7 @@ fn nested_members(
     Ok(text)
 }
 
-/// The schema of three objects, one in the other, with so many truth values each; and a list of the object that has all.
+/// The schema of three objects, one in the other, with so many booleans each; and a list of the object that has all.
 fn many_fields(alloc: Global, count: u32) -> Result<(String, String), AllocError> {
     let begin = r#"{"type":"object","properties":{"#;
     let mut schema = nested_members(alloc, begin, count, r#"{"type":"boolean"}"#)?;

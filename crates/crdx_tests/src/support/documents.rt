@@ -1,6 +1,6 @@
 //! Documents that more than one test reads, and what is listed of them.
 
-/// A resource with an integer `a` and a truth value `b` below `spec`.
+/// A resource with an integer `a` and a boolean `b` below `spec`.
 pub const WIDGET: &str = r#"{
     "apiVersion":"apiextensions.k8s.io/v1","kind":"CustomResourceDefinition",
     "spec":{
@@ -40,13 +40,13 @@ pub const LAST_LINES: &str = r#"{"spec":{"b":true}}
 {"spec":{"a":1,"b":true}}
 "#;
 
-/// An object with at least two of three truth values.
+/// An object with at least two of three booleans.
 pub const TRUTHS: &str = r#"{"type":"object","properties":{"o":{
     "type":"object","minProperties":2,
     "properties":{"a":{"type":"boolean"},"b":{"type":"boolean"},"c":{"type":"boolean"}}
 }}}"#;
 
-/// An object of three truth values that has exactly one of the first two.
+/// An object of three booleans that has exactly one of the first two.
 pub const ONE_OF_TWO: &str = r#"{"type":"object","properties":{"o":{
     "type":"object","oneOf":[{"required":["a"]},{"required":["b"]}],
     "properties":{"a":{"type":"boolean"},"b":{"type":"boolean"},"c":{"type":"boolean"}}
@@ -71,11 +71,11 @@ pub const LONG_MAP_LIST: &str = r#"{"type":"object","properties":{"m":{
 /// Pools of two texts and an integer.
 pub const TWO_TEXTS: &str = r#"{"strings":["a","b"],"integers":[0]}"#;
 
-/// An integer `a` and a truth value `b` below `spec`: the schema of `WIDGET`.
+/// An integer `a` and a boolean `b` below `spec`: the schema of `WIDGET`.
 pub const SPEC: &str =
     r#"{"type":"object","properties":{"spec":{"type":"object","properties":{"a":{"type":"integer"},"b":{"type":"boolean"}}}}}"#;
 
-/// Fifteen objects of three truth values.
+/// Fifteen objects of three booleans.
 pub const FIFTEEN: &str = r#"{"type":"object","required":["t"],"properties":{"t":{
     "type":"array","minItems":15,"maxItems":15,
     "items":{"type":"object","required":["a","b","c"],"properties":{
@@ -83,7 +83,7 @@ pub const FIFTEEN: &str = r#"{"type":"object","required":["t"],"properties":{"t"
     }}
 }}}"#;
 
-/// Thirty-one objects of three truth values.
+/// Thirty-one objects of three booleans.
 pub const THIRTY_ONE: &str = r#"{"type":"object","required":["t"],"properties":{"t":{
     "type":"array","minItems":31,"maxItems":31,
     "items":{"type":"object","required":["a","b","c"],"properties":{
@@ -157,7 +157,7 @@ pub const REQUIRED_LONG_MAP_LIST: &str = r#"{"type":"object","required":["m"],"p
     }
 }}}"#;
 
-/// A map list with the integers `a` and `c` as its keys and a truth value `b`.
+/// A map list with the integers `a` and `c` as its keys and a boolean `b`.
 pub const TWO_INTEGER_KEYS: &str = r#"{"type":"object","properties":{"m":{
     "type":"array","x-kubernetes-list-type":"map","x-kubernetes-list-map-keys":["a","c"],
     "items":{
@@ -172,12 +172,12 @@ pub const TWO_DEFAULTS: &str = r#"{"type":"object","properties":{"spec":{
     "type":"object","default":{},"properties":{"f":{"type":"integer","default":7}}
 }}}"#;
 
-/// A list of objects of two truth values.
+/// A list of objects of two booleans.
 pub const LIST_OF_OBJECTS: &str = r#"{"type":"object","properties":{"l":{"type":"array","items":{
     "type":"object","properties":{"a":{"type":"boolean"},"b":{"type":"boolean"}}
 }}}}"#;
 
-/// An object with at most one of two truth values.
+/// An object with at most one of two booleans.
 pub const AT_MOST_ONE: &str = r#"{"type":"object","properties":{"o":{
     "type":"object","maxProperties":1,"properties":{"a":{"type":"boolean"},"b":{"type":"boolean"}}
 }}}"#;
@@ -187,12 +187,12 @@ pub const ONE_BOUND: &str = r#"{"type":"object","required":["n"],"properties":{"
     "type":"integer","oneOf":[{"minimum":1},{"maximum":3}]
 }}}"#;
 
-/// An object of a truth value, or null.
+/// An object of a boolean, or null.
 pub const NULL_OR_TRUTH: &str = r#"{"type":"object","properties":{"n":{
     "type":"object","nullable":true,"properties":{"a":{"type":"boolean"}}
 }}}"#;
 
-/// Exactly one of two truth values, at the root.
+/// Exactly one of two booleans, at the root.
 pub const ONE_OF_TWO_AT_THE_ROOT: &str = r#"{
     "type":"object","properties":{"a":{"type":"boolean"},"b":{"type":"boolean"}},
     "oneOf":[{"required":["a"]},{"required":["b"]}]

@@ -38,7 +38,7 @@ pub fn made(alloc: Global, given: Given<'_>) -> Result<Plan<u64>, Fail>
     Ok(Plan::new(alloc, schema, pools, given.limit)?)
 }
 
-/// An integer and a truth value. The samples are `TEN_LINES`.
+/// An integer and a boolean. The samples are `TEN_LINES`.
 pub const TWO_FIELDS: Given<'static> = Given {
     schema: SPEC,
     pools: ZERO_AND_ONE,
@@ -59,7 +59,7 @@ pub const TWO_KEYED_LISTS: Given<'static> = Given {
     limit: 9,
 };
 
-/// Fifteen objects of three truth values, with 8^15 samples.
+/// Fifteen objects of three booleans, with 8^15 samples.
 pub const FIFTEEN_ITEMS: Given<'static> = Given {
     schema: FIFTEEN,
     pools: "{}",

@@ -73,7 +73,7 @@ pub fn plain_lines(alloc: Global, given: Given<'_>) -> Result<String, Fail> {
     lines_of(alloc, &listed(alloc, given)?)
 }
 
-/// A list of so many objects of three truth values: the first all true, the last this one, and the others all false.
+/// A list of so many objects of three booleans: the first all true, the last this one, and the others all false.
 fn list_of(alloc: Global, items: usize, last: &str) -> Result<String, AllocError> {
     let mut text = String::from_str(alloc, r#"{"t":[{"a":true,"b":true,"c":true},"#)?;
     for _ in 2..items {

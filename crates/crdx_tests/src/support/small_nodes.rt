@@ -36,7 +36,7 @@ a map list whose key a junctor names
 pub static SCALARS: &str = r#"
 10 rows: name | schema
 integers | {"type":"integer"}
-truth values | {"type":"boolean"}
+booleans | {"type":"boolean"}
 texts | {"type":"string"}
 integers or texts | {"x-kubernetes-int-or-string":true}
 some integers | {"type":"integer","enum":[3,1,3]}
@@ -50,7 +50,7 @@ texts of one branch | {"type":"string","oneOf":[{"maxLength":1},{"enum":["a","bb
 /// Other scalars, and open nodes.
 pub static LEAVES: &str = r#"
 4 rows: name | schema
-truth values or null | {"type":"boolean","nullable":true}
+booleans or null | {"type":"boolean","nullable":true}
 some texts or null | {"type":"string","nullable":true,"enum":["b"]}
 any value but null | {"x-kubernetes-preserve-unknown-fields":true}
 any value | {"x-kubernetes-preserve-unknown-fields":true,"nullable":true}
@@ -70,10 +70,10 @@ objects with at most one of two fields
     | {"type":"object","maxProperties":1,"properties":{"a":{"type":"boolean"},"b":{"type":"object","properties":{"c":{"type":"boolean"}}}}}
 objects with two of three fields
     | {"type":"object","minProperties":2,"maxProperties":2,"properties":{"a":{"type":"string"},"b":{"type":"object"},"c":{"type":"boolean"}}}
-maps of truth values | {"type":"object","additionalProperties":{"type":"boolean"}}
+maps of booleans | {"type":"object","additionalProperties":{"type":"boolean"}}
 maps with a member | {"type":"object","minProperties":1,"maxProperties":1,"additionalProperties":{"type":"string"}}
 maps to null and integers | {"type":"object","nullable":true,"additionalProperties":{"type":"integer","nullable":true}}
-lists of truth values | {"type":"array","items":{"type":"boolean"}}
+lists of booleans | {"type":"array","items":{"type":"boolean"}}
 lists of integers and null | {"type":"array","nullable":true,"maxItems":2,"items":{"type":"integer","nullable":true}}
 lists of lists | {"type":"array","minItems":1,"items":{"type":"array","items":{"type":"string"}}}
 sets of integers and texts | {"type":"array","x-kubernetes-list-type":"set","items":{"x-kubernetes-int-or-string":true}}

@@ -58,8 +58,8 @@ fn part_text(part: Part) -> &'static str {
         Part::Header => {
             r#""apiVersion" has to be "apiextensions.k8s.io/v1", and "kind" "CustomResourceDefinition""#
         }
-        Part::Group => r#""group" of "spec" has to be a text that is not empty"#,
-        Part::Kind => r#""kind" of "names" of "spec" has to be a text that is not empty"#,
+        Part::Group => r#""group" of "spec" has to be a string that is not empty"#,
+        Part::Kind => r#""kind" of "names" of "spec" has to be a string that is not empty"#,
         Part::Versions => {
             r#""versions" of "spec" has to be a list of objects, each with a "name" that no other has"#
         }
@@ -70,14 +70,14 @@ fn part_text(part: Part) -> &'static str {
 fn form_text(form: Form) -> &'static str {
     match form {
         Form::AnyTree => "any value",
-        Form::String => "a text",
+        Form::String => "a string",
         Form::Boolean => "true or false",
         Form::ObjectOfObjects | Form::ObjectOfWrittenSchemas => "an object of objects",
         Form::BooleanOrObject | Form::BooleanOrWrittenSchema => "true, false or an object",
         Form::Object | Form::WrittenSchema => "an object",
         Form::SomeObjects => "a list of at least one object, with nothing else in it",
         Form::WrittenSchemas => "a list of objects, with nothing else in it",
-        Form::Strings => "a list of texts",
+        Form::Strings => "a list of strings",
         Form::List => "a list",
         Form::Integer => "an integer",
         Form::Count => "an integer of at least 0",

@@ -7,7 +7,7 @@ use crate::running::documents::pool_limits_of;
 use crate::running::explanation::crd_again;
 use crate::running::explanation::values::found_text;
 use explain::{XFault, resolve};
-use jtree::{Members, Tree, push_name};
+use jtree::{MOST_BYTES, Members, Tree, push_name};
 use plan::{PFault, PoolLimits, PoolName, Pools, oversized_pool};
 use schema::{Node, Sort};
 use std::alloc::{AllocError, Global};
@@ -137,7 +137,7 @@ fn member_at<'a>(
 fn pool_text(name: &str) -> &'static str {
     match name {
         "integers" => "is a list of integers",
-        "strings" | "names" | "present" => "is a list of texts",
+        "strings" | "names" | "present" => "is a list of strings",
         "any" => "is a list",
         "paths" | "fixed" => "is an object of lists",
         _ => {
@@ -150,7 +150,7 @@ fn entry_text(name: &str) -> &'static str {
     match name {
         "integers" => "an integer",
         "paths" | "fixed" => "a list",
-        _ => "a text",
+        _ => "a string",
     }
 }
 
@@ -228,11 +228,11 @@ fn large_text(alloc: Global, limits: PoolLimits) -> Result<String, AllocError> {
     let large = PoolLimits::LARGE.paths;
     if most < large {
         format!(in alloc;
-            "the pools would be longer than 1048576 bytes, or have more than {most} paths in fixed or present, of which {large} are allowed with --large"
+            "the pools would be longer than {MOST_BYTES} bytes, or have more than {most} paths in fixed or present, of which {large} are allowed with --large"
         )
     } else {
         format!(in alloc;
-            "the pools would be longer than 1048576 bytes, or have more than {most} paths in fixed or present"
+            "the pools would be longer than {MOST_BYTES} bytes, or have more than {most} paths in fixed or present"
         )
     }
 }
