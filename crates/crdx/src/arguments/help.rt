@@ -363,8 +363,8 @@ The field then has these values alone, in place of those of the other pools and
 of an `enum`, and of true and false.
 
 Samples with fewer nodes come first. None comes twice, and none is passed over.
-Standard error says `crdx: end` when no sample is left, else `crdx: more`. The
-last line, given back by --after, goes on from there. --all lists all at once.
+Standard error says `crdx: end` when no sample is left, else `crdx: more`. Pass
+the last line to --after to continue from it. --all lists all samples at once.
 
 `crdx: end` alone is the whole answer where there is no sample: where a required
 field has no value in the pools that is valid, such as a string without --pools,
@@ -385,17 +385,17 @@ exit status."#,
 pub(super) const COVER: CommandHelp = CommandHelp {
     about: "Lists, for each field, the first sample that has it",
     long_about: r#"Lists sample objects that have every field of a schema, one on each line, as
-JSON: for each path, in the order of `crdx explain`, the first sample in which
-it is there, where it is there in no sample listed before. With --values, after
-a path that leads to a scalar, the same for each value that the scalar can have.
+JSON: for each path, in the order of `crdx explain`, the first sample that has
+it, unless an earlier line has it. With --values, after a path that leads to a
+scalar, the same for each value that the scalar can have.
 
 A path is there where each name on the way is, and an item of each list and of
 each map, with the rest of the path in every item. So nothing is below a null.
 What a sample is, `crdx sample --help` says.
 
-The last line on standard error says how many paths are there in no sample of so
-few nodes, such as a text without --pools; with --why each of them is on a line
-below. With --values a line after these says it of values, where there are any.
+The last line on standard error says how many paths are in no sample within the
+limit, as those of strings are without --pools; with --why each of them is on a
+line below. With --values a second line counts the values that are in none.
 `crdx pools` prints values to start with."#,
     end: r#"Examples, at the top of the repository:
   ./crdx cover examples/issuer/crd.json v1 \
@@ -410,8 +410,8 @@ pub(super) const VALUES: &str = "Covers the values of scalars too";
 pub(super) const VALUES_LONG: &str =
     "Covers the values of scalars too: for each value that a scalar can
 have over the pools, null among them, the first sample in which each
-value at the scalar's path is that one, where no sample listed before
-is such.";
+value at the scalar's path is that one, unless an earlier line is
+such a sample.";
 
 pub(super) const CRD: &str = "A JSON file with a CustomResourceDefinition; - is standard input";
 
