@@ -10,7 +10,7 @@ pub(crate) fn whole_sizes<Z: SizeSet>(inside: Z, nullable: bool, limit: u32) -> 
     requires room { 1 ≤ limit }
     ensures { (n : ℕ) → Z.holds result n ↔ (((nullable ≡ true) × (n ≡ 1)) ⊎ ((n ≤ limit) × IsSum (λ i. i ≡ 1) (Z.holds inside) n)) }
 {
-    let one = Z::one(1);
-    let sizes = one.sums(inside, limit);
-    if nullable { sizes.union(one) } else { sizes }
+    let itself = Z::one(1);
+    let sizes = itself.sums(inside, limit);
+    if nullable { sizes.union(itself) } else { sizes }
 }
