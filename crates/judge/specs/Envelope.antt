@@ -23,7 +23,7 @@ ends test t = passes_byte test (slice_get t (length t - 1))
 abbrev pub is_word : (ℕ → Bool) → (ℕ → Bool) → List ℕ → Bool
 is_word letter mark t = begins letter t && (ends letter t && list_all (λ b. letter b || mark b) t)
 
--- Letters count with digits: small ones alone, or, where the case does not matter, all of ASCII (`is_ascii_alphanumeric`).
+-- Digits count as letters: with the small ones, or with all of ASCII (`is_ascii_alphanumeric`) where capitals count as small letters.
 abbrev pub is_small : ℕ → Bool
 is_small b = is_ascii_lowercase b || is_ascii_digit b
 
@@ -38,7 +38,7 @@ is_mark b = b == 45 || (b == 95 || b == 46)
 abbrev pub is_label : List ℕ → Bool
 is_label t = nat_le (length t) 63 && is_word is_small is_hyphen t
 
--- IsDNS1035Label, of the text in small letters
+-- IsDNS1035Label, where capitals count as small letters
 abbrev pub is_kind_name : List ℕ → Bool
 is_kind_name t = nat_le (length t) 63 && (begins is_ascii_alphabetic t && is_word is_ascii_alphanumeric is_hyphen t)
 
@@ -49,7 +49,7 @@ is_dot b = b == 46
 abbrev pub is_subdomain : (ℕ → Bool) → List ℕ → Bool
 is_subdomain letter t = nat_le (length t) 253 && list_all (is_word letter is_hyphen) (slice_split is_dot t)
 
--- IsValidLabelValue, but that an empty one is taken; and the name in a qualified name
+-- the name in a qualified name; IsValidLabelValue takes these, and the empty text
 abbrev pub is_name : List ℕ → Bool
 is_name t = nat_le (length t) 63 && is_word is_ascii_alphanumeric is_mark t
 
@@ -101,7 +101,7 @@ if_there test (Some d) = test d
 abbrev pub is_any : List ℕ → Bool
 is_any t = true
 
--- No name is needed, since the server puts one where there is none. The keys of annotations may have letters of any case.
+-- No name is needed, since the server puts one where there is none. In the keys of annotations capitals count as small letters.
 abbrev pub is_good_metadata : Members → Bool
 is_good_metadata ms =
     if_there (is_text_where is_segment) (member_at (codes "name") ms)
