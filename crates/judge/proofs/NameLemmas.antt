@@ -1,5 +1,5 @@
 -- A text is cut at its first slash, or at each.
-use Rattle.std.proofs.Common.{◌≡◌, ℕ, List, [], ◌∷◌, ◌<◌, length, Bool, true, false, ◌⊎◌, ◌&&◌, ◌||◌, ◌==◌, ◌∙◌, refl, sym, eqb-true, arith, inl, inr}
+use Rattle.std.proofs.Common.{◌≡◌, ℕ, List, [], ◌∷◌, ◌<◌, length, Bool, true, false, ◌⊎◌, ◌&&◌, ◌||◌, ◌∙◌, refl, sym, eqb-true, arith, inl, inr}
 use Rattle.std.specs.List.{list_all, slice_split, position_or_len, before_first, after_first}
 use Rattle.std.specs.Char.{is_ascii_alphanumeric}
 use Rattle.std.proofs.lemmas.List.Splits.{slice_split_none, slice_split_first}
