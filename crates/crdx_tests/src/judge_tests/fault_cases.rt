@@ -1,5 +1,6 @@
 //! Values judged by schemas as they are written. The answers are those of the API server's validator, but that it says less of a text or an
-//! object with several faults, panics at the factor 0.5 of an integer, and judges no list types there.
+//! object with several faults, panics at the factor 0.5 of an integer, and judges no list types there. Of an embedded resource it says more,
+//! and judges all members of `metadata`.
 ghost use Rattle.std.specs.Prelude.{codes};
 ghost use Rattle.std.specs.Str.{bytes_eq};
 ghost use Rattle.patterns.specs.Meaning.{matches_pattern};
