@@ -96,7 +96,7 @@ pub fn reason_phrase(reason: Reason) -> &'static str
     }
 }
 
-/// What is wrong where an object has the fault of this number, 1 to 18.
+/// What is wrong where an object has the fault of this number, 1 to 18 or 20.
 pub fn fault_phrase(number: u8) -> &'static str
     ensures { result.now ≡ fault_phrase_of number }
 {
@@ -119,6 +119,7 @@ pub fn fault_phrase(number: u8) -> &'static str
         16 => "pattern",
         17 => "format",
         18 => "multipleOf",
+        20 => "envelope",
         _ => "",
     }
 }

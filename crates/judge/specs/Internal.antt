@@ -1,3 +1,4 @@
+pub mod NameForms
 pub mod FaultsByLevel
 pub mod PatternsByLevel
 pub mod MeetsByName

@@ -14,8 +14,9 @@ use Rattle.jtree.specs.Kind.{is_boolean, is_text, is_list, is_object}
 use Rattle.jtree.specs.NumberOrder.{number_value}
 use Rattle.jtree.specs.Path.{member_at, item_at}
 use Rattle.jtree.specs.SameValue.{same_value}
+use Rattle.judge.specs.Envelope.{has_envelope}
 use Rattle.judge.specs.declared.test.Test.{Test}
-use Rattle.judge.specs.declared.test.Test.TheVariants.{OfType, Null, Enum, Minimum, Maximum, MinLength, MaxLength, MinItems, MaxItems, MinProperties, MaxProperties, Required, Duplicate, Junctor, Pattern, Format, MultipleOf, Rule}
+use Rattle.judge.specs.declared.test.Test.TheVariants.{OfType, Null, Enum, Minimum, Maximum, MinLength, MaxLength, MinItems, MaxItems, MinProperties, MaxProperties, Required, Duplicate, Junctor, Pattern, Format, MultipleOf, Rule, Envelope}
 
 -- the tests by their numbers, which are printed after `F`
 abbrev pub number : Test → ℕ
@@ -37,11 +38,12 @@ number Pattern = 16
 number Format = 17
 number MultipleOf = 18
 number Rule = 19
+number Envelope = 20
 
 abbrev pub all_tests : List Test
 all_tests =
     OfType ∷ Null ∷ Enum ∷ Minimum ∷ Maximum ∷ MinLength ∷ MaxLength ∷ MinItems ∷ MaxItems ∷ MinProperties ∷ MaxProperties ∷ Required ∷ Duplicate ∷ Junctor
-    ∷ Pattern ∷ Format ∷ MultipleOf ∷ Rule ∷ []
+    ∷ Pattern ∷ Format ∷ MultipleOf ∷ Rule ∷ Envelope ∷ []
 
 -- how texts are tested: by a pattern, and by a format where the name is that of a format
 pub record Texts : Type 0 where
@@ -360,6 +362,12 @@ passes_not (Some branch) v = not (branch v)
 abbrev pub passes_junctors : Junctors → Data → Bool
 passes_junctors js v = passes_any js.any v && (passes_one js.one v && passes_not js.none v)
 
+-- ---- `x-kubernetes-embedded-resource`: an object has a good envelope
+
+abbrev pub passes_envelope : Members → Data → Bool
+passes_envelope ks (tree.object ms) = not (is_true (member_at (codes "x-kubernetes-embedded-resource") ks)) || has_envelope ms
+passes_envelope ks _ = true
+
 -- ---- all tests
 
 -- null is asked for its type and by `enum`, and nothing else
@@ -388,6 +396,7 @@ passes m ks js Pattern v = passes_pattern m (member_at (codes "pattern") ks) v
 passes m ks js Format v = passes_format m (member_at (codes "format") ks) v
 passes m ks js MultipleOf v = passes_multiple ks v
 passes m ks js Rule v = true
+passes m ks js Envelope v = passes_envelope ks v
 
 abbrev pub passes_if_asked : Texts → Members → Junctors → Test → Data → Bool
 passes_if_asked m ks js t v = not (is_asked t v) || passes m ks js t v

@@ -1,3 +1,4 @@
+pub mod Envelope
 pub mod Keywords
 pub mod Meets
 pub mod Asked

@@ -52,7 +52,8 @@ impl Report {
 /// a path and a test once, in path order and then by number. `Err` where an allocation fails, or a test of a text answers so.
 ///
 /// Null is asked for its type and by `enum`, and nothing else. The branches of `allOf` have their faults at their places; `anyOf`, `oneOf`
-/// and `not` give one fault at theirs. The API server shows fewer: where an object has too many members or too few, nothing else of it, and
+/// and `not` give one fault at theirs, and so does the envelope of an embedded resource (k8s.io/apiextensions-apiserver,
+/// pkg/apiserver/schema/objectmeta), of whose `metadata` names, labels and annotations are judged. The API server shows fewer: where an object has too many members or too few, nothing else of it, and
 /// of a text the first that fails of `maxLength`, `minLength` and `pattern`. The work is linear in the value and its schemas, but for the
 /// items of a set or a map list, each of which is compared with those before it.
 pub fn faults<T: TextTests + FormatTests>(

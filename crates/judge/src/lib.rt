@@ -16,9 +16,11 @@
 #![tactic(auto)]
 
 mod asking;
+mod envelope;
 mod finding;
 mod listing;
 mod meeting;
+mod names;
 mod numbers;
 mod own;
 mod places;

@@ -11,6 +11,7 @@ ghost use Rattle.judge.specs.Meets.{meets as meets_of, branches, branch_list, it
 ghost use Rattle.judge.specs.Internal.MeetsByName.{passes_each as passes_each_of, passes_at, branches_at, branches_if, junctors_of};
 ghost use Rattle.judge.specs.Internal.MeetsByName.{member_passes as member_passes_of, members_at, parts_at, meets_at};
 
+use crate::envelope::passes_envelope;
 use crate::numbers::{passes_maximum, passes_minimum, passes_multiple};
 use crate::own::{
     has_few_items, has_few_members, has_many_items, has_many_members, is_long, is_short,
@@ -119,6 +120,7 @@ fn passes_asked<T: TextTests + FormatTests>(
         Test::Format => passes_format(tests, schema.get("format"), value),
         Test::MultipleOf => Ok(passes_multiple(schema, value)),
         Test::Rule => Ok(true),
+        Test::Envelope => Ok(passes_envelope(schema, value)),
     }
 }
 

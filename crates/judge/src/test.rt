@@ -44,6 +44,8 @@ pub enum Test {
     MultipleOf,
     /// What no keyword asks, as a rule does.
     Rule,
+    /// The `apiVersion`, `kind` or `metadata` of an embedded resource is not good (`x-kubernetes-embedded-resource`).
+    Envelope,
 }
 
 impl Test {
@@ -70,6 +72,7 @@ impl Test {
             Test::Format => 17,
             Test::MultipleOf => 18,
             Test::Rule => 19,
+            Test::Envelope => 20,
         }
     }
 
@@ -86,7 +89,7 @@ impl Test {
 }
 
 /// All tests, by their numbers.
-pub(crate) fn all_tests() -> [Test; 18]
+pub(crate) fn all_tests() -> [Test; 19]
     ensures { result ≡ all_tests_of }
 {
     [
@@ -108,5 +111,6 @@ pub(crate) fn all_tests() -> [Test; 18]
         Test::Format,
         Test::MultipleOf,
         Test::Rule,
+        Test::Envelope,
     ]
 }

@@ -67,4 +67,4 @@ listed_under (entry ∷ entries) n = if n == entry.0 then entry.1 else listed_un
 abbrev pub fault_phrase_of : ℕ → List ℕ
 fault_phrase_of = listed_under ((1, codes "kind") ∷ (2, codes "null") ∷ (3, codes "enum") ∷ (4, codes "minimum") ∷ (5, codes "maximum") ∷ (6, codes "minLength") ∷ (7, codes "maxLength")
     ∷ (8, codes "minItems") ∷ (9, codes "maxItems") ∷ (10, codes "minProperties") ∷ (11, codes "maxProperties") ∷ (12, codes "required") ∷ (13, codes "duplicate") ∷ (14, codes "junctor") ∷ (15, codes "undeclared")
-    ∷ (16, codes "pattern") ∷ (17, codes "format") ∷ (18, codes "multipleOf") ∷ [])
+    ∷ (16, codes "pattern") ∷ (17, codes "format") ∷ (18, codes "multipleOf") ∷ (20, codes "envelope") ∷ [])

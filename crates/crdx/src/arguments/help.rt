@@ -102,9 +102,11 @@ Faults that an object can have:
   F14  junctor: allOf, anyOf, oneOf or not fails.
   F15  undeclared: pruning drops the member. Only --strict looks for it.
   F16  pattern: the string does not match. Only --profile cluster looks for it,
-       for F17 and for F18.
+       for F17, for F18 and for F20.
   F17  format: the string does not have it.
   F18  multipleOf: the number is no multiple.
+  F20  envelope: the apiVersion, kind or metadata of an embedded resource is
+       missing or not well formed.
 
 Codes of patterns in a schema, which --profile cluster compiles:
   C01  bad pattern: it is no regular expression of Go (RE2).

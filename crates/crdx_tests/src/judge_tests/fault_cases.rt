@@ -1,5 +1,6 @@
 //! Values judged by schemas as they are written. The answers are those of the API server's validator, but that it says less of a text or an
-//! object with several faults, panics at the factor 0.5 of an integer, and judges no list types there.
+//! object with several faults, panics at the factor 0.5 of an integer, and judges no list types there. Of an embedded resource it says more,
+//! and judges all members of `metadata`.
 ghost use Rattle.std.specs.Prelude.{codes};
 ghost use Rattle.std.specs.Str.{bytes_eq};
 ghost use Rattle.patterns.specs.Meaning.{matches_pattern};
@@ -122,6 +123,88 @@ null and a branch | {"anyOf":[{"type":"string"}]} | null | -
 not, and not again | {"not":{"not":{"anyOf":[{"type":"integer"}]}}} | "a" | F14
 "#;
 
+static ENVELOPES: &str = r#"
+70 rows: name | schema | value | faults
+@E | {"x-kubernetes-embedded-resource":true}
+a resource | @E | {"apiVersion":"v1","kind":"Pod"} | -
+one of a group | @E | {"apiVersion":"apps.example/v1","kind":"A-1"} | -
+no resource asked for | {"x-kubernetes-embedded-resource":false} | {} | -
+what is no object | @E | ["a"] | -
+null | @E | null | -
+neither version nor kind | @E | {} | F20
+no version | @E | {"kind":"A"} | F20
+no kind | @E | {"apiVersion":"v1"} | F20
+an empty version | @E | {"apiVersion":"","kind":"A"} | F20
+a slash as a version | @E | {"apiVersion":"/","kind":"A"} | -
+a version with two slashes | @E | {"apiVersion":"a/b/c","kind":"A"} | F20
+a version that is no text | @E | {"apiVersion":1,"kind":"A"} | F20
+a version that is null | @E | {"apiVersion":null,"kind":"A"} | F20
+an empty kind | @E | {"apiVersion":"v1","kind":""} | F20
+a kind that is no text | @E | {"apiVersion":"v1","kind":["A"]} | F20
+a kind that begins with a digit | @E | {"apiVersion":"v1","kind":"1A"} | F20
+a kind that ends with a hyphen | @E | {"apiVersion":"v1","kind":"A-"} | F20
+a kind with an underscore | @E | {"apiVersion":"v1","kind":"A_B"} | F20
+a kind of 63 letters | @E | {"apiVersion":"v1","kind":"AAAAAAAAAAAAAAAAAAAAAAAAAAAAAAAAAAAAAAAAAAAAAAAAAAAAAAAAAAAAAAA"} | -
+a kind of 64 letters | @E | {"apiVersion":"v1","kind":"AAAAAAAAAAAAAAAAAAAAAAAAAAAAAAAAAAAAAAAAAAAAAAAAAAAAAAAAAAAAAAAA"} | F20
+metadata that are null | @E | {"apiVersion":"v1","kind":"A","metadata":null} | -
+no metadata to speak of | @E | {"apiVersion":"v1","kind":"A","metadata":{}} | -
+metadata that are no object | @E | {"apiVersion":"v1","kind":"A","metadata":[]} | F20
+names as in paths | @E | {"apiVersion":"v1","kind":"A","metadata":{"name":"A_b:c d","generateName":".."}} | -
+empty names and nulls | @E | {"apiVersion":"v1","kind":"A","metadata":{"name":"","generateName":"","namespace":"","uid":null,"labels":null,
+    "annotations":null}} | -
+a dot as a name | @E | {"apiVersion":"v1","kind":"A","metadata":{"name":"."}} | F20
+two dots as a name | @E | {"apiVersion":"v1","kind":"A","metadata":{"name":".."}} | F20
+a name with a slash | @E | {"apiVersion":"v1","kind":"A","metadata":{"name":"a/b"}} | F20
+a name with a percent sign | @E | {"apiVersion":"v1","kind":"A","metadata":{"name":"a%2f"}} | F20
+a name that is no text | @E | {"apiVersion":"v1","kind":"A","metadata":{"name":1}} | F20
+a beginning of names with a slash | @E | {"apiVersion":"v1","kind":"A","metadata":{"generateName":"a/"}} | F20
+a beginning of names that is no text | @E | {"apiVersion":"v1","kind":"A","metadata":{"generateName":{}}} | F20
+a namespace | @E | {"apiVersion":"v1","kind":"A","metadata":{"namespace":"0-a"}} | -
+a namespace with a dot | @E | {"apiVersion":"v1","kind":"A","metadata":{"namespace":"a.b"}} | F20
+a namespace with a capital | @E | {"apiVersion":"v1","kind":"A","metadata":{"namespace":"A"}} | F20
+a namespace that begins with a hyphen | @E | {"apiVersion":"v1","kind":"A","metadata":{"namespace":"-a"}} | F20
+a namespace of 63 letters | @E | {"apiVersion":"v1","kind":"A","metadata":{"namespace":"aaaaaaaaaaaaaaaaaaaaaaaaaaaaaaaaaaaaaaaaaaaaaaaaaaaaaaaaaaaaaaa"}} | -
+a namespace of 64 letters | @E | {"apiVersion":"v1","kind":"A","metadata":{"namespace":"aaaaaaaaaaaaaaaaaaaaaaaaaaaaaaaaaaaaaaaaaaaaaaaaaaaaaaa
+    aaaaaaaaa"}} | F20
+a link that is no text | @E | {"apiVersion":"v1","kind":"A","metadata":{"selfLink":1}} | F20
+an identifier that is no text | @E | {"apiVersion":"v1","kind":"A","metadata":{"uid":1}} | F20
+a version of the resource that is no text | @E | {"apiVersion":"v1","kind":"A","metadata":{"resourceVersion":1}} | F20
+what is not judged | @E | {"apiVersion":"v1","kind":"A","metadata":{"generation":"a","finalizers":1,"other":[]}} | -
+labels | @E | {"apiVersion":"v1","kind":"A","metadata":{"labels":{"a":"b","A_b.C-d":"","a-b.c0/D":"B_c.d-E","0":null}}} | -
+labels that are no object | @E | {"apiVersion":"v1","kind":"A","metadata":{"labels":["a"]}} | F20
+a label that is no text | @E | {"apiVersion":"v1","kind":"A","metadata":{"labels":{"a":1}}} | F20
+a value that ends with a mark | @E | {"apiVersion":"v1","kind":"A","metadata":{"labels":{"a":"b_"}}} | F20
+a value with a slash | @E | {"apiVersion":"v1","kind":"A","metadata":{"labels":{"a":"b/c"}}} | F20
+a value of 63 letters | @E | {"apiVersion":"v1","kind":"A","metadata":{"labels":{"a":"bbbbbbbbbbbbbbbbbbbbbbbbbbbbbbbbbbbbbbbbbbbbbbbbbbbbbbbbbbbbbbb"}}} | -
+a value of 64 letters | @E | {"apiVersion":"v1","kind":"A","metadata":{"labels":{"a":"bbbbbbbbbbbbbbbbbbbbbbbbbbbbbbbbbbbbbbbbbbbbbbbbbbbbbbbbbbbbbbbb"}}} | F20
+an empty key | @E | {"apiVersion":"v1","kind":"A","metadata":{"labels":{"":"b"}}} | F20
+a key that begins with a mark | @E | {"apiVersion":"v1","kind":"A","metadata":{"labels":{".a":"b"}}} | F20
+a key of 64 letters | @E | {"apiVersion":"v1","kind":"A","metadata":{"labels":{"aaaaaaaaaaaaaaaaaaaaaaaaaaaaaaaaaaaaaaaaaaaaaaaaaaaaaaaaaaaaaaaa":"b"}}} | F20
+a key with two slashes | @E | {"apiVersion":"v1","kind":"A","metadata":{"labels":{"a/b/c":"d"}}} | F20
+a key that ends with a slash | @E | {"apiVersion":"v1","kind":"A","metadata":{"labels":{"a/":"b"}}} | F20
+an empty prefix | @E | {"apiVersion":"v1","kind":"A","metadata":{"labels":{"/a":"b"}}} | F20
+a prefix with a capital | @E | {"apiVersion":"v1","kind":"A","metadata":{"labels":{"A/a":"b"}}} | F20
+a prefix with an empty part | @E | {"apiVersion":"v1","kind":"A","metadata":{"labels":{"a..b/c":"d"}}} | F20
+a prefix with an underscore | @E | {"apiVersion":"v1","kind":"A","metadata":{"labels":{"a_b/c":"d"}}} | F20
+a prefix of 253 letters | @E | {"apiVersion":"v1","kind":"A","metadata":{"labels":{"aaaaaaaaaaaaaaaaaaaaaaaaaaaaaaaaaaaaaaaaaaaaaaaaaaaaaaaaa
+    aaaaaaaaaaaaaaaaaaaaaaaaaaaaaaaaaaaaaaaaaa.aaaaaaaaaaaaaaaaaaaaaaaaaaaaaaaaaaaaaaaaaaaaaaaaaaaaaaaaaaaaaaaaaaa
+    aaaaaaaaaaaaaaaaaaaaaaaaaaaaaaaa.bbbbbbbbbbbbbbbbbbbbbbbbbbbbbbbbbbbbbbbbbbbbbbbbbbbbb/c":"d"}}} | -
+a prefix of 254 letters | @E | {"apiVersion":"v1","kind":"A","metadata":{"labels":{"aaaaaaaaaaaaaaaaaaaaaaaaaaaaaaaaaaaaaaaaaaaaaaaaaaaaaaaaa
+    aaaaaaaaaaaaaaaaaaaaaaaaaaaaaaaaaaaaaaaaaa.aaaaaaaaaaaaaaaaaaaaaaaaaaaaaaaaaaaaaaaaaaaaaaaaaaaaaaaaaaaaaaaaaaa
+    aaaaaaaaaaaaaaaaaaaaaaaaaaaaaaaa.bbbbbbbbbbbbbbbbbbbbbbbbbbbbbbbbbbbbbbbbbbbbbbbbbbbbbb/c":"d"}}} | F20
+annotations | @E | {"apiVersion":"v1","kind":"A","metadata":{"annotations":{"A.b-C/D_e":" any, text ","a":"","b":null}}} | -
+annotations that are no object | @E | {"apiVersion":"v1","kind":"A","metadata":{"annotations":"a"}} | F20
+an annotation that is no text | @E | {"apiVersion":"v1","kind":"A","metadata":{"annotations":{"a":true}}} | F20
+a key of annotations with a space | @E | {"apiVersion":"v1","kind":"A","metadata":{"annotations":{"a b":""}}} | F20
+a prefix of annotations with an underscore | @E | {"apiVersion":"v1","kind":"A","metadata":{"annotations":{"A_b/c":""}}} | F20
+resources of a list | {"items":{"x-kubernetes-embedded-resource":true}} | [{"apiVersion":"v1","kind":"A"},{"kind":"A"},1] | F20 /1
+a resource below a name | {"properties":{"a":{"x-kubernetes-embedded-resource":true}}} | {"a":{"kind":1},"b":{}} | F20 /a
+a resource with other faults | {"x-kubernetes-embedded-resource":true,"maxProperties":0,"properties":{"kind":{"type":"string"}}} | {"kind":1}
+ | F11, F20, F01 /kind
+one resource of two schemas | {"x-kubernetes-embedded-resource":true,"allOf":[{"x-kubernetes-embedded-resource":true}]} | {} | F20
+a resource in a branch | {"anyOf":[{"x-kubernetes-embedded-resource":true}]} | {} | F14
+"#;
+
 /// Tests by patterns, and of one format, with one text.
 #[derive(Drop)]
 pub struct OneFormat<'p> {
@@ -200,6 +283,6 @@ fn faults_by_schemas(rt: HostRuntime) -> Result<(), Fail> {
         &rt,
         rt.alloc(),
         &FaultRow,
-        &[TYPES, SCALARS, PARTS, JUNCTORS],
+        &[TYPES, SCALARS, PARTS, JUNCTORS, ENVELOPES],
     )
 }

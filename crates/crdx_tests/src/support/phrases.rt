@@ -39,6 +39,7 @@ F15 undeclared
 F16 pattern
 F17 format
 F18 multipleOf
+F20 envelope
 C01 bad pattern
 C02 pattern too big
 "#;
