@@ -23,9 +23,10 @@ ends test t = passes_byte test (slice_get t (length t - 1))
 abbrev pub is_word : (ℕ → Bool) → (ℕ → Bool) → List ℕ → Bool
 is_word letter mark t = begins letter t && (ends letter t && list_all (λ b. letter b || mark b) t)
 
--- Digits count as letters: with the small ones, or with all of ASCII (`is_ascii_alphanumeric`) where capitals count as small letters.
-abbrev pub is_small : ℕ → Bool
-is_small b = is_ascii_lowercase b || is_ascii_digit b
+-- Digits count as letters: with the lowercase ones, or with all of ASCII (`is_ascii_alphanumeric`) where case does not matter. Go lowercases
+-- U+212A and U+0130 to letters of ASCII too, which are refused here.
+abbrev pub is_lower : ℕ → Bool
+is_lower b = is_ascii_lowercase b || is_ascii_digit b
 
 -- marks: `-`, and in names `_` and `.` too
 abbrev pub is_hyphen : ℕ → Bool
@@ -36,9 +37,9 @@ is_mark b = b == 45 || (b == 95 || b == 46)
 
 -- IsDNS1123Label
 abbrev pub is_label : List ℕ → Bool
-is_label t = nat_le (length t) 63 && is_word is_small is_hyphen t
+is_label t = nat_le (length t) 63 && is_word is_lower is_hyphen t
 
--- IsDNS1035Label, where capitals count as small letters
+-- IsDNS1035Label, whatever the case
 abbrev pub is_kind_name : List ℕ → Bool
 is_kind_name t = nat_le (length t) 63 && (begins is_ascii_alphabetic t && is_word is_ascii_alphanumeric is_hyphen t)
 
@@ -101,7 +102,7 @@ if_there test (Some d) = test d
 abbrev pub is_any : List ℕ → Bool
 is_any t = true
 
--- No name is needed, since the server puts one where there is none. In the keys of annotations capitals count as small letters.
+-- No name is needed, since the server puts one where there is none. In the keys of annotations case does not matter.
 abbrev pub is_good_metadata : Members → Bool
 is_good_metadata ms =
     if_there (is_text_where is_segment) (member_at (codes "name") ms)
@@ -110,7 +111,7 @@ is_good_metadata ms =
     && (if_there (is_text_where is_any) (member_at (codes "selfLink") ms)
     && (if_there (is_text_where is_any) (member_at (codes "uid") ms)
     && (if_there (is_text_where is_any) (member_at (codes "resourceVersion") ms)
-    && (if_there (is_map_where (is_qualified_name is_small) is_name) (member_at (codes "labels") ms)
+    && (if_there (is_map_where (is_qualified_name is_lower) is_name) (member_at (codes "labels") ms)
     && if_there (is_map_where (is_qualified_name is_ascii_alphanumeric) is_any) (member_at (codes "annotations") ms)))))))
 
 abbrev pub is_metadata : Data → Bool

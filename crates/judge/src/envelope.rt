@@ -40,7 +40,7 @@ impl Form {
             Form::Name => is_name(text),
             Form::Segment => is_segment(text),
             Form::SegmentPrefix => is_segment_prefix(text),
-            Form::LabelKey => is_qualified_name(text, Letters::Small),
+            Form::LabelKey => is_qualified_name(text, Letters::Lower),
             Form::AnnotationKey => is_qualified_name(text, Letters::All),
         }
     }

@@ -7,7 +7,7 @@ ghost use Rattle.judge.specs.Internal.NameForms.{letter_of, mark_of};
 /// Which letters count. Digits count with them.
 #[derive(Clone, Copy)]
 pub(crate) enum Letters {
-    Small,
+    Lower,
     All,
 }
 
@@ -24,7 +24,7 @@ impl Letters {
         ensures { result ≡ letter_of self byte }
     {
         match self {
-            Letters::Small => byte.is_ascii_lowercase() || byte.is_ascii_digit(),
+            Letters::Lower => byte.is_ascii_lowercase() || byte.is_ascii_digit(),
             Letters::All => byte.is_ascii_alphanumeric(),
         }
     }
@@ -74,10 +74,10 @@ fn is_word(text: &[u8], letters: Letters, marks: Marks) -> bool
 pub(crate) fn is_label(text: &str) -> bool
     ensures { result ≡ spec.is_label text.now }
 {
-    text.len() <= 63 && is_word(text.as_bytes(), Letters::Small, Marks::Hyphen)
+    text.len() <= 63 && is_word(text.as_bytes(), Letters::Lower, Marks::Hyphen)
 }
 
-/// Whether a text in small letters is a DNS label that begins with a letter (RFC 1035).
+/// Whether a text, whatever its case, is a DNS label that begins with a letter (RFC 1035).
 pub(crate) fn is_kind_name(text: &str) -> bool
     ensures { result ≡ spec.is_kind_name text.now }
 {

@@ -1,7 +1,7 @@
 -- For private contracts: which bytes and which texts the code's words for forms stand for.
 use Rattle.std.specs.Prelude.{ℕ, List, Bool}
 use Rattle.std.specs.Char.{is_ascii_alphanumeric}
-use Rattle.judge.specs.Envelope.{is_small, is_hyphen, is_mark, is_any, is_label, is_name, is_qualified_name, is_segment, is_segment_prefix}
+use Rattle.judge.specs.Envelope.{is_lower, is_hyphen, is_mark, is_any, is_label, is_name, is_qualified_name, is_segment, is_segment_prefix}
 use Rattle.judge.specs.declared.envelope.Form.{Form}
 use Rattle.judge.specs.declared.envelope.Form.TheVariants as form
 use Rattle.judge.specs.declared.names.Letters.{Letters}
@@ -10,7 +10,7 @@ use Rattle.judge.specs.declared.names.Marks.{Marks}
 use Rattle.judge.specs.declared.names.Marks.TheVariants as marks
 
 abbrev pub letter_of : Letters → ℕ → Bool
-letter_of letters.Small = is_small
+letter_of letters.Lower = is_lower
 letter_of letters.All = is_ascii_alphanumeric
 
 abbrev pub mark_of : Marks → ℕ → Bool
@@ -23,5 +23,5 @@ test_of form.Label = is_label
 test_of form.Name = is_name
 test_of form.Segment = is_segment
 test_of form.SegmentPrefix = is_segment_prefix
-test_of form.LabelKey = is_qualified_name is_small
+test_of form.LabelKey = is_qualified_name is_lower
 test_of form.AnnotationKey = is_qualified_name is_ascii_alphanumeric
