@@ -1,5 +1,7 @@
 -- What `check` says of a schema, as an answer.
-use Rattle.std.proofs.Common.{◌≡◌, ◌≢◌, ◌∙◌, ◌++◌, ℕ, List, [], ◌∷◌, Bool, true, false, refl, ap, sym, inl, inr, map, string_bytes, codes}
+use Rattle.std.proofs.Common.{◌≡◌, ◌≢◌, ◌∙◌, ◌++◌, ℕ, List, [], ◌∷◌, Bool, true, false, refl, ap, sym, inl, inr, map, flat_map, Ok, Err, string_bytes, codes}
+use Rattle.std.specs.Prelude.{Result, IfOk}
+use Rattle.std.specs.declared.alloc.AllocError.{AllocError}
 use Rattle.std.proofs.lemmas.List.Folds.{flat_map-map}
 use Rattle.jtree.specs.Data.{Data}
 use Rattle.jtree.specs.Internal.Rising.{contained}
@@ -56,7 +58,7 @@ module _ (raw : Data) (profile : Profile) (said shown : List ℕ) (a : Answer) (
   written : (A B : List ℕ) → said ≡ A → shown ≡ B → said ++ shown ≢ [] → (a.status ≡ 1) × (string_bytes a.out ≡ A ++ B)
   written A B same is not_empty = let yes = some not_empty in (yes.0, yes.1 ∙ (ap (λ s. s ++ shown) same ∙ ap (λ s. A ++ s) is))
 
-  pub check_answer : (why : Bool) → IsViolationText raw why said → IsPatternText raw profile why shown → IsCheckAnswer raw profile why a.status (string_bytes a.out)
+  check_answer : (why : Bool) → IsViolationText raw why said → IsPatternText raw profile why shown → IsCheckAnswer raw profile why a.status (string_bytes a.out)
   check_answer true ([], are, same) ([], under, is) = nothing_said true same is (none_explained raw are) under
   check_answer true ([], are, same) (r ∷ refused, under, is) =
       let yes = written _ _ same is (λ empty. some_pattern_line true r (empty_left _ _ (sym is ∙ empty_right said shown empty))) in
@@ -71,3 +73,9 @@ module _ (raw : Data) (profile : Profile) (said shown : List ℕ) (a : Answer) (
   check_answer false (v ∷ vs, are, same) (refused, under, is) =
       let yes = written _ _ (lines_of_breaks raw (v ∷ vs) are said same) is (λ empty. some_line (reported v) (empty_left _ _ (sym same ∙ empty_left said shown empty))) in
       rw (yes.0, yes.1) (violations are.0 refused are.1 under (inl (some_break (v ∷ vs) are.0 are.2 (λ no. cc))))
+
+pub check_result : (raw : Data) (profile : Profile) (why : Bool) (said shown : List ℕ) (r : Result Answer AllocError) → (said ++ shown ≡ [] → IfOk r (λ a. (a.status ≡ 0) × (string_bytes a.out ≡ codes "structural\n")))
+    → (said ++ shown ≢ [] → IfOk r (λ a. (a.status ≡ 1) × (string_bytes a.out ≡ said ++ shown))) → IsViolationText raw why said → IsPatternText raw profile why shown
+    → IfOk r (λ a. IsCheckAnswer raw profile why a.status (string_bytes a.out))
+check_result raw profile why said shown (Ok a) none some is are = check_answer raw profile said shown a none some why is are
+check_result raw profile why said shown (Err e) none some is are = tt
