@@ -6,8 +6,7 @@ use Rattle.std.proofs.lemmas.List.Elements.{All-head}
 use Rattle.jtree.specs.Data.{Data}
 use Rattle.jtree.specs.Internal.Rising.{Among, contained}
 use Rattle.jtree.specs.Path.{Path}
-use Rattle.judge.specs.Patterns.{PatternAt, ReportedPattern, HasPattern, ArePatterns, reported, reported_of}
-use Rattle.judge.specs.declared.listing.SchemaPattern.{SchemaPattern}
+use Rattle.judge.specs.Patterns.{PatternAt, ReportedPattern, HasPattern, reported_of}
 use Rattle.patterns.specs.Meaning.{is_pattern}
 use Rattle.patterns.specs.declared.fault.PatternFault.{PatternFault}
 use Rattle.crdx.specs.Internal.PatternsFound.{refused_of}
@@ -25,11 +24,8 @@ pub refused_more : (ps : List ReportedPattern) (rs : List Refused) (p : Reported
     → AreRefusedOf (ps ++ p ∷ []) (rs ++ record { pattern = p; fault = fault } ∷ [])
 refused_more [] rs p fault none is = inr (fault, [], ap (λ l. l ++ record { pattern = p; fault = fault } ∷ []) none, is, refl)
 refused_more (q ∷ ps) rs p fault (inl (good, rest)) is = inl (good, refused_more ps rs p fault rest is)
-refused_more (q ∷ ps) rs p fault (inr (first, later, same, why, rest)) is = inr (first, later ++ record { pattern = p; fault = fault } ∷ [], ap (λ l. l ++ record { pattern = p; fault = fault } ∷ []) same, why, refused_more ps later p fault rest is)
-
--- those of all patterns of a schema
-pub refused_of_schema : (raw : Data) (found : List SchemaPattern) (rs : List Refused) → ArePatterns raw found → AreRefusedOf (map reported found) rs → AreRefusedPatterns raw rs
-refused_of_schema raw found rs (fs, are, same) refused = (fs, are, subst (λ ps. AreRefusedOf ps rs) same refused)
+refused_more (q ∷ ps) rs p fault (inr (first, later, same, why, rest)) is =
+    let more = record { pattern = p; fault = fault } ∷ [] in inr (first, later ++ more, ap (λ l. l ++ more) same, why, refused_more ps later p fault rest is)
 
 pub none_among : (raw : Data) (rs : List RefusedPattern) → AreRefusedPatterns raw (map refused_of rs) → (length rs == 0) ≡ true → AreRefusedPatterns raw []
 none_among raw [] are none = are

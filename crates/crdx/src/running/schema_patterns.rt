@@ -163,7 +163,10 @@ fn found_line(alloc: Global, pattern: &RefusedPattern) -> Result<String, AllocEr
     ensures { IfOk result (λ s. string_bytes s ≡ said.found_line (refused_of pattern.now)) }
 {
     let found = json_text(alloc, pattern.text.as_str())?;
-    format!(in alloc; "    \"pattern\": found {found}; {}\n", allowed_by(pattern.fault))
+    format!(in alloc;
+        "    \"pattern\": found {found}; {}\n",
+        allowed_by(pattern.fault)
+    )
 }
 
 fn code_of(fault: PatternFault) -> &'static str
