@@ -120,6 +120,12 @@ cat >"$folder/bad-patterns" <<'LINES'
 C01 "/properties/a" bad pattern
     "pattern": found "["; a pattern is a regular expression of Go's regexp (RE2 syntax)
 LINES
+cat - "$folder/bad-patterns" >"$folder/checked-patterns" <<'LINES'
+V17 "/properties/a" outside the profile
+    "pattern": not a keyword of scalars for crdx; crdx-relax drops it
+V17 "/properties/b" outside the profile
+    "pattern": not a keyword of scalars for crdx; crdx-relax drops it
+LINES
 define '{"type":"object","properties":{"a":{"type":"object","default":{},"properties":{"f":{"type":"integer","maximum":6,"default":7}}}}}' >"$folder/bad-default.json"
 cat >"$folder/bad-default" <<'LINES'
 V14 "/properties/a" bad default
@@ -283,6 +289,8 @@ row 'check with reasons' nothing 1 "$folder/reasons" /dev/null \
     check --why "$folder/two-reasons.json" v1
 row 'check of a bad default, with reasons' nothing 1 "$folder/bad-default" /dev/null \
     check --why "$folder/bad-default.json" v1
+row 'check of patterns as a cluster compiles them, with reasons' nothing 1 "$folder/checked-patterns" /dev/null \
+    check --why "$folder/bad-patterns.json" v1 --profile cluster
 row 'check of many fields, explained' nothing 3 /dev/null "$folder/too-wide" check "$folder/wide.json" v1 --why
 row 'check of many fields' nothing 0 "$folder/structural" /dev/null check "$folder/wide.json" v1 --large --why
 row 'validate of a fraction, explained' nothing 3 /dev/null "$folder/fraction" validate "$folder/crd.json" v1 "$folder/fraction.json" --why

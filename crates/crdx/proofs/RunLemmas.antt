@@ -61,6 +61,12 @@ use Rattle.crdx.proofs.PageLemmas.{PagesAgree}
 use Rattle.crdx.proofs.WalkLemmas.{Appends-nothing}
 use Rattle.crdx.proofs.PatternLemmas.{some_refused}
 
+-- where there are violations, they report breaks
+pub some_break : (vs : List Violation) (breaks : List Break) → map reported vs ≡ map reported_of breaks → vs ≢ [] → breaks ≢ []
+some_break [] breaks same some none = some refl
+some_break (v ∷ vs) [] same some none = cc
+some_break (v ∷ vs) (b ∷ breaks) same some none = cc
+
 module _ (has : Documents) (unread read : ℕ) (arguments : CommonArguments) where
   pub cause_of_fault : (f : Form) (d : Data) (fault : SFault) → has (numbers_of arguments) (file_name arguments.crd) (Ok d) → IsReadFaultOf f (limits_of arguments) d arguments.version.now fault
       → IsReadCauseAs f has unread read arguments (cause_of_reading fault)
@@ -80,11 +86,6 @@ module _ (has : Documents) (unread read : ℕ) (arguments : CommonArguments) whe
   input_of_reading f request (Place input.Crd code.TooLarge p) refuse why = refuse (inr (s.TooLarge p, why))
   input_of_reading f request NoMemory refuse why = tt
   input_of_reading f request _ refuse why = absurd why
-
-  some_break : (vs : List Violation) (breaks : List Break) → map reported vs ≡ map reported_of breaks → vs ≢ [] → breaks ≢ []
-  some_break [] breaks same some none = some refl
-  some_break (v ∷ vs) [] same some none = cc
-  some_break (v ∷ vs) (b ∷ breaks) same some none = cc
 
   -- the breaks that violations report
   pub broken : (raw : Data) (vs : List Violation) → IsRequestedSchema has arguments raw → AreViolations (IsBroken raw) vs → vs ≢ []

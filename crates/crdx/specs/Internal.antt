@@ -3,7 +3,7 @@ pub mod Members
 pub mod Block
 pub mod PartialLines
 pub mod Progress
-pub mod RefusedPatterns
+pub mod PatternsFound
 pub mod Cause
 pub mod Found
 pub mod Judge

@@ -5,6 +5,9 @@ pub mod Profiles
 pub mod InputFault
 pub mod Phrases
 pub mod ViolationLines
+pub mod RefusedPatterns
+pub mod PatternLines
+pub mod CheckAnswer
 pub mod Envelope
 pub mod TextList
 pub mod Standard

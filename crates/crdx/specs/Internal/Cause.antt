@@ -23,7 +23,8 @@ use Rattle.crdx.specs.Program.FieldAnswer.{IsFieldAnswer}
 use Rattle.crdx.specs.Program.ObjectAnswer.{IsAnswerBy}
 use Rattle.crdx.specs.Program.Requested.{numbers_of, IsRequestedSchema, IsRequestedWritten, HasReadFaultAs, HasPoolsFault, IsAcceptedSchema, IsRequested, IsRequestedWalk, pool_limits_of, total_of}
 use Rattle.crdx.specs.Program.Standard.{Standard}
-use Rattle.crdx.specs.Internal.RefusedPatterns.{AreRefusedPatterns}
+use Rattle.crdx.specs.Internal.PatternsFound.{refused_of}
+use Rattle.crdx.specs.Program.RefusedPatterns.{AreRefusedPatterns}
 use Rattle.crdx.specs.Program.Objects.{HasInput, IsNoText, IsBrokenAt}
 use Rattle.crdx.specs.Program.RunResult.{IsAnswer, IsCoverBegunOut, IsCoverCut, IsInputRefused, IsWanted, Effects, WritesNothing, lines_of}
 use Rattle.crdx.specs.Program.Requested.{numbers_of, IsRequestedStandard}
@@ -121,7 +122,7 @@ IsFieldCause root path _ = ⊥
 
 -- why a schema as it is written is refused: it has patterns that are none, or too big
 abbrev pub IsPatternsCause : Data → Cause → Type 0
-IsPatternsCause raw (Patterns found) = AreRefusedPatterns raw found.items × (found.items ≢ [])
+IsPatternsCause raw (Patterns found) = AreRefusedPatterns raw (map refused_of found.items) × (found.items ≢ [])
 IsPatternsCause raw NoMemory = Unit {0}
 IsPatternsCause raw _ = ⊥
 

@@ -1,24 +1,22 @@
 -- What a run answers: its exit status, and what it leaves on standard output (this project's own).
-use Rattle.std.specs.Prelude.{◌≡◌, ◌≢◌, ◌⊎◌, ℕ, List, [], take, Bool, true, false, Option, Some, None, IfSome, String, map, string_bytes, codes}
+use Rattle.std.specs.Prelude.{◌≡◌, ◌≢◌, ◌⊎◌, ℕ, List, [], take, Bool, true, false, Option, Some, None, IfSome, String, map, string_bytes}
 use Rattle.std.specs.Global.{Global}
 use Rattle.std.specs.Io.KnownBytes.{Appends, Keeps}
 use Rattle.jtree.specs.Data.{Data}
 use Rattle.schema.specs.Nodes.Node.{Node}
 use Rattle.schema.specs.Nodes.ByPlace.{AreNodesOf}
-use Rattle.schema.specs.Rules.Breaks.{Break, AreBreaks, reported_of}
-use Rattle.schema.specs.Rules.Explained.{AreExplained}
-use Rattle.schema.specs.declared.reason.Explained.{Explained}
+use Rattle.schema.specs.Rules.Breaks.{Break, AreBreaks}
 use Rattle.stored.specs.Schemas.Accepted.{IsBroken}
 use Rattle.crdx.specs.Output.Line.{line, lines}
 use Rattle.crdx.specs.Output.PartialOutput.{IsCutBetweenLines, IsCutByFailure}
 use Rattle.jtree.specs.Failures.{HasFailed}
+use Rattle.crdx.specs.Program.CheckAnswer.{IsCheckAnswer}
 use Rattle.crdx.specs.Program.Documents.{Documents, Lines, file_name}
 use Rattle.crdx.specs.Program.FieldAnswer.{IsFieldAnswer}
 use Rattle.crdx.specs.Program.LineAnswers.{AreAnswered, AreOut, AreCut}
 use Rattle.crdx.specs.Program.ObjectAnswer.{IsAnswerBy}
 use Rattle.crdx.specs.Program.Objects.{AreObjects, AreRefused}
 use Rattle.crdx.specs.Program.Standard.{Standard, asks_as_written}
-use Rattle.crdx.specs.Program.ViolationLines.{violation_lines, explained_lines}
 use Rattle.suggest.specs.Suggested.Document.{suggested_document}
 use Rattle.suggest.specs.Suggested.Fault.{IsSuggestFault}
 use Rattle.suggest.specs.Suggested.Wanted.{Wanted as PoolsWanted}
@@ -47,12 +45,8 @@ HasBreaks has arguments breaks = (raw : Data) × IsRequestedSchema has arguments
 
 -- the answer to a request: the exit status, and the whole text on standard output
 pub data IsAnswer (has : Documents) : Request → ℕ → List ℕ → Type 0 where
-  structural : (arguments : CommonArguments) → HasAcceptedSchema has arguments → IsAnswer has (Check arguments) 0 (codes "structural\n")
-  violations : (arguments : CommonArguments) (breaks : List Break) → arguments.why ≡ false → HasBreaks has arguments breaks
-      → IsAnswer has (Check arguments) 1 (violation_lines (map reported_of breaks))
-  -- the violations with their reasons
-  explained : (arguments : CommonArguments) (raw : Data) (found : List Explained) → arguments.why ≡ true → IsRequestedSchema has arguments raw
-      → AreExplained (IsBroken raw) raw found → found ≢ [] → IsAnswer has (Check arguments) 1 (explained_lines found)
+  checked : (arguments : CommonArguments) (raw : Data) (status : ℕ) (answer : List ℕ) → IsRequestedSchema has arguments raw
+      → IsCheckAnswer raw arguments.profile arguments.why status answer → IsAnswer has (Check arguments) status answer
   fields : (arguments : ExplainArguments) (N : Node) (status : ℕ) (answer : List ℕ) → IsRequestedRoot has arguments.common N
       → IsFieldAnswer N arguments.path status answer → IsAnswer has (Explain arguments) status answer
   -- the violations are on standard error

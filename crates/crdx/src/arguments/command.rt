@@ -10,24 +10,17 @@ use crate::arguments::help::CommandHelp;
 use clap::{Arg, ArgAction, Command};
 use std::alloc::{AllocError, Global};
 
-// The greatest node limit as a number, and as the text that `clap` takes.
-macro_rules! most_limit {
-    ($most:literal) => {
-        /// The greatest node limit that may be asked for.
-        pub const MOST_LIMIT: u32 = $most;
-
-        /// The node limit of `cover` where none is given: the greatest one.
-        const COVER_LIMIT: &str = stringify!($most);
-    };
-}
-
-most_limit!(127);
+/// The greatest node limit that may be asked for.
+pub const MOST_LIMIT: u32 = 127;
 
 /// The greatest number of samples that may be asked for.
 pub const MOST_COUNT: u32 = 10_000;
 
 /// The node limit of `sample` where none is given.
 const SAMPLE_LIMIT: &str = "8";
+
+/// The node limit of `cover` where none is given: the greatest one.
+const COVER_LIMIT: &str = "127";
 
 /// The number of samples where none is given.
 const USUAL_COUNT: &str = "100";

@@ -41,12 +41,12 @@ pub(super) const PROGRAM_END: &str = r#"Examples, at the top of the repository:
 
 Exit status:
   0  The whole answer is on standard output.
-  1  The schema breaks rules: they are on standard output under `check`, and
-     on standard error under the other commands. Or the object has faults:
-     they are on standard output under `validate`. Or `explain` finds no field
-     at PATH, or the object of `leaves` is not stored: standard error has a line
-     with the code, such as `crdx: explain: X2`. Or what `sample` is to go on
-     from is no sample.
+  1  The schema breaks rules, or has patterns that are refused: they are on
+     standard output under `check`, and on standard error under the other
+     commands. Or the object has faults: they are on standard output under
+     `validate`. Or `explain` finds no field at PATH, or the object of `leaves`
+     is not stored: standard error has a line with the code, such as
+     `crdx: explain: X2`. Or what `sample` is to go on from is no sample.
   2  The command line is refused. Standard error says why.
   3  An input is refused. Standard error has a line with its code, such as
      `crdx: crd: S2`, `crdx: object: J3`, `crdx: after: J3`,
@@ -108,7 +108,8 @@ Faults that an object can have:
   F20  envelope: the apiVersion, kind or metadata of an embedded resource is
        missing or not well formed.
 
-Codes of patterns in a schema, which --profile cluster compiles:
+Codes of patterns in a schema, which `check` and `validate` compile with
+--profile cluster:
   C01  bad pattern: it is no regular expression of Go (RE2).
   C02  pattern too big: what it compiles to is above 10 MiB.
 
@@ -182,7 +183,16 @@ as
     V17 "/properties/spec/properties/name" outside the profile
         "pattern": not a keyword of scalars for crdx; crdx-relax drops it
 
-V03, V05, V11, V12, V16 and V17 have reasons; the other rules say it all."#,
+V03, V05, V11, V12, V16 and V17 have reasons; the other rules say it all.
+
+With --profile cluster the lines of rules are followed by one for each pattern
+that is no regular expression of Go, or is too big: the code, a JSON pointer to
+the schema that has the pattern, and what is wrong with it, such as
+
+    C01 "/properties/spec/properties/name" bad pattern
+
+With --why the line below it has the pattern and what is allowed. A schema with
+such a pattern is not structural."#,
     end: "Examples, at the top of the repository:
   ./crdx check examples/widget/crd.json v1
   ./crdx check --why examples/workflow/crd.json v1
@@ -465,7 +475,8 @@ document that has another number (J1). cluster reads each number of
 JSON within the range of floats, as a cluster does: 1.0 and 1e2 are
 the integers 1 and 100, and 0.5 stays as it is written. With cluster
 `validate` judges an object by the schema as it is written, as the API
-server does. Elsewhere schemas are judged alike under both.";
+server does, and `check` compiles the patterns of the schema. Elsewhere
+schemas are judged alike under both.";
 
 pub(super) const FROM: &str = "A JSON file of objects whose values are listed";
 

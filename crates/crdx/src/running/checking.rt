@@ -1,8 +1,10 @@
 //! What `check` answers.
 ghost use Rattle.std.specs.Prelude.{◌≡◌, ◌≢◌, [], IfOk, IfErr, string_bytes, codes};
+ghost use Rattle.jtree.specs.View.{data_of};
 ghost use Rattle.schema.specs.Rules.Breaks.{reported};
 ghost use Rattle.crdx.specs.Internal.Cause.{IsInputCause};
-ghost use Rattle.crdx.specs.Internal.CheckText.{IsCheckText};
+ghost use Rattle.crdx.specs.Internal.CheckText.{IsViolationText, IsPatternText};
+ghost use Rattle.crdx.specs.Program.CheckAnswer.{IsCheckAnswer};
 ghost use Rattle.crdx.specs.Program.RunResult.{IsAnswer};
 ghost use Rattle.crdx.specs.Program.ViolationLines.{violation_line, reason_line, explained_line};
 ghost use Rattle.crdx.specs.declared.arguments.request.Request.TheVariants.{Check};
@@ -10,17 +12,20 @@ ghost use Rattle.crdx.specs.declared.arguments.request.Request.TheVariants.{Chec
 use crate::arguments::CommonArguments;
 use crate::inputs::Inputs;
 use crate::phrases::{phrase, reason_phrase};
+use crate::profile::Profile;
 use crate::running::answer::{Answer, json_text};
 use crate::running::documents::read_definition;
 use crate::running::exit_status::{DONE, NO};
 use crate::running::lines::{Lines, all_lines};
 use crate::running::refusal::Refusal;
+use crate::running::schema_patterns::{pattern_lines, refused_patterns};
+use jtree::Tree;
 use schema::{Explained, Finding, RawSchema, Violation};
 use std::alloc::{AllocError, Global};
 use stored::{explained, violations};
 
-/// `structural` of a schema that breaks no rule, and else a line for each rule and place; where the reasons are asked for, a
-/// line for each of them below it.
+/// `structural` of a schema of which nothing is said, and else a line for each rule and place and for each pattern that is refused;
+/// where the reasons are asked for, a line for each of them below it.
 pub(crate) fn check<'a, I: Inputs>(
     alloc: Global,
     arguments: &CommonArguments<'a>,
@@ -30,9 +35,24 @@ pub(crate) fn check<'a, I: Inputs>(
     ensures cause { IfErr result (λ r. IsInputCause (I.has inputs.old) (I.failures inputs.old) (I.failures inputs.new) (Check arguments.now) r.cause) }
 {
     let definition = read_definition(alloc, arguments, inputs)?;
-    let text = check_text(alloc, &definition.crd.raw, arguments.why);
+    let raw = &definition.crd.raw;
+    let answer = check_schema(alloc, raw, arguments.profile, arguments.why);
     drop(definition);
-    Ok(verdict(alloc, text?)?)
+    Ok(answer?)
+}
+
+/// The same of the schema alone.
+fn check_schema(
+    alloc: Global,
+    raw: &RawSchema,
+    profile: Profile,
+    why: bool,
+) -> Result<Answer, AllocError>
+    ensures { IfOk result (λ a. IsCheckAnswer raw.now profile why a.status (string_bytes a.out)) }
+{
+    let mut text = violation_text(alloc, raw, why)?;
+    text.push_str(pattern_text(alloc, raw.tree(), profile, why)?.as_str())?;
+    verdict(alloc, text)
 }
 
 /// `structural` where no line is said of a schema, and else the lines.
@@ -56,13 +76,31 @@ fn verdict(alloc: Global, text: String) -> Result<Answer, AllocError>
 }
 
 /// The lines of all that is broken in a schema, with the reasons where they are asked for.
-fn check_text(alloc: Global, raw: &RawSchema, why: bool) -> Result<String, AllocError>
-    ensures { IfOk result (λ s. IsCheckText raw.now why (string_bytes s)) }
+fn violation_text(alloc: Global, raw: &RawSchema, why: bool) -> Result<String, AllocError>
+    ensures { IfOk result (λ s. IsViolationText raw.now why (string_bytes s)) }
 {
     if why {
         all_lines(alloc, explained(alloc, raw)?.as_slice())
     } else {
         all_lines(alloc, violations(alloc, raw)?.as_slice())
+    }
+}
+
+/// The lines of the patterns of a schema that are refused, which `cluster` alone asks for.
+fn pattern_text(
+    alloc: Global,
+    schema: &Tree,
+    profile: Profile,
+    why: bool,
+) -> Result<String, AllocError>
+    ensures { IfOk result (λ s. IsPatternText (data_of schema.now) profile why (string_bytes s)) }
+{
+    match profile {
+        Profile::Core => Ok(String::new(alloc)),
+        Profile::Cluster => {
+            let refused = refused_patterns(alloc, schema)?;
+            pattern_lines(alloc, refused.as_slice(), why)
+        }
     }
 }
 

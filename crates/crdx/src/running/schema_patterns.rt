@@ -1,9 +1,11 @@
-//! The patterns of a schema, compiled.
-ghost use Rattle.std.specs.Prelude.{◌≡◌, ◌++◌, ◌∷◌, [], List, OnOk, IfOk, IfErr, map};
+//! The patterns of a schema, compiled, and what is said of those that are refused.
+ghost use Rattle.std.specs.Prelude.{◌≡◌, ◌++◌, ◌∷◌, [], List, OnOk, IfOk, IfErr, map, string_bytes};
 ghost use Rattle.jtree.specs.View.{data_of};
 ghost use Rattle.judge.specs.Patterns.{ReportedPattern, reported};
 ghost use Rattle.crdx.specs.Internal.Cause.{IsPatternsCause};
-ghost use Rattle.crdx.specs.Internal.RefusedPatterns.{IsPatternFault, AreRefusedOf};
+ghost use Rattle.crdx.specs.Internal.PatternsFound.{refused_of};
+ghost use Rattle.crdx.specs.Program.PatternLines as said;
+ghost use Rattle.crdx.specs.Program.RefusedPatterns.{IsPatternFault, AreRefusedOf, AreRefusedPatterns};
 ghost use Rattle.crdx.specs.Program.Requested.{HasPatterns};
 
 use crate::running::answer::json_text;
@@ -34,8 +36,7 @@ pub(crate) fn compile_patterns(alloc: Global, schema: &Tree) -> Result<Vec<Patte
     ensures patterns { OnOk result (HasPatterns (data_of schema.now)) }
     ensures cause { IfErr result (IsPatternsCause (data_of schema.now)) }
 {
-    let found = judge::patterns(alloc, schema)?;
-    let Compiled { patterns, refused } = compile_all(alloc, found.as_slice())?;
+    let Compiled { patterns, refused } = compile_schema(alloc, schema)?;
     if refused.as_slice().is_empty() {
         Ok(patterns)
     } else {
@@ -44,9 +45,31 @@ pub(crate) fn compile_patterns(alloc: Global, schema: &Tree) -> Result<Vec<Patte
     }
 }
 
+/// The patterns of a schema that are refused, in path order.
+pub(crate) fn refused_patterns(
+    alloc: Global,
+    schema: &Tree,
+) -> Result<Vec<RefusedPattern>, AllocError>
+    ensures { IfOk result (λ refused. AreRefusedPatterns (data_of schema.now) (map refused_of refused.items)) }
+{
+    let Compiled {
+        patterns: _,
+        refused,
+    } = compile_schema(alloc, schema)?;
+    Ok(refused)
+}
+
+/// What comes of the patterns of a schema.
+fn compile_schema(alloc: Global, schema: &Tree) -> Result<Compiled, AllocError>
+    ensures { IfOk result (λ c. AreRefusedPatterns (data_of schema.now) (map refused_of c.refused.items)) }
+{
+    let found = judge::patterns(alloc, schema)?;
+    compile_all(alloc, found.as_slice())
+}
+
 /// What comes of these patterns.
 fn compile_all(alloc: Global, found: &[SchemaPattern<'_>]) -> Result<Compiled, AllocError>
-    ensures { IfOk result (λ c. AreRefusedOf (map reported found.now) c.refused.items) }
+    ensures { IfOk result (λ c. AreRefusedOf (map reported found.now) (map refused_of c.refused.items)) }
 {
     let mut compiled = Compiled {
         patterns: Vec::new(alloc),
@@ -64,7 +87,8 @@ fn compile_one(
     pattern: &SchemaPattern<'_>,
     compiled: &mut Compiled,
 ) -> Result<(), AllocError>
-    ensures { OnOk result ((ps : List ReportedPattern) → AreRefusedOf ps compiled.old.refused.items → AreRefusedOf (ps ++ reported pattern.now ∷ []) compiled.new.refused.items) }
+    ensures { OnOk result ((ps : List ReportedPattern) → AreRefusedOf ps (map refused_of compiled.old.refused.items)
+        → AreRefusedOf (ps ++ reported pattern.now ∷ []) (map refused_of compiled.new.refused.items)) }
 {
     match Pattern::new(alloc, pattern.text) {
         Ok(made) => Ok(compiled.patterns.push(made)?),
@@ -84,7 +108,8 @@ fn refuse(
     compiled: &mut Compiled,
 ) -> Result<(), AllocError>
     requires { IsPatternFault fault pattern.now.text.now }
-    ensures { OnOk result ((ps : List ReportedPattern) → AreRefusedOf ps compiled.old.refused.items → AreRefusedOf (ps ++ reported pattern.now ∷ []) compiled.new.refused.items) }
+    ensures { OnOk result ((ps : List ReportedPattern) → AreRefusedOf ps (map refused_of compiled.old.refused.items)
+        → AreRefusedOf (ps ++ reported pattern.now ∷ []) (map refused_of compiled.new.refused.items)) }
 {
     let refused = RefusedPattern {
         pointer: pattern.pointer.clone()?,
@@ -94,40 +119,79 @@ fn refuse(
     Ok(compiled.refused.push(refused)?)
 }
 
-/// A line for each pattern: a code, the pointer of its schema as a JSON text, and what is wrong there; where the reasons are asked for, what
-/// was found below it.
+/// The lines of patterns that are refused; where the reasons are asked for, what was found below each.
 pub(crate) fn pattern_lines(
     alloc: Global,
     refused: &[RefusedPattern],
     why: bool,
-) -> Result<String, AllocError> {
+) -> Result<String, AllocError>
+    ensures { IfOk result (λ s. string_bytes s ≡ said.pattern_lines why (map refused_of refused.now)) }
+{
     let mut lines = String::new(alloc);
     for pattern in refused {
-        let pointer = json_text(alloc, pattern.pointer.as_str())?;
-        let (code, phrase, allowed) = words_of(pattern.fault);
-        let line = format!(in alloc; "{code} {pointer} {phrase}\n")?;
-        lines.push_str(line.as_str())?;
-        if why {
-            let found = json_text(alloc, pattern.text.as_str())?;
-            let line = format!(in alloc; "    \"pattern\": found {found}; {allowed}\n")?;
-            lines.push_str(line.as_str())?;
-        }
+        lines.push_str(lines_of_pattern(alloc, pattern, why)?.as_str())?;
     }
     Ok(lines)
 }
 
-/// The code and the phrase of a fault, and what is allowed.
-fn words_of(fault: PatternFault) -> (&'static str, &'static str, &'static str) {
+/// The same of one of them.
+fn lines_of_pattern(
+    alloc: Global,
+    pattern: &RefusedPattern,
+    why: bool,
+) -> Result<String, AllocError>
+    ensures { IfOk result (λ s. string_bytes s ≡ said.lines_of_pattern why (refused_of pattern.now)) }
+{
+    let mut lines = pattern_line(alloc, pattern)?;
+    if why {
+        lines.push_str(found_line(alloc, pattern)?.as_str())?;
+    }
+    Ok(lines)
+}
+
+/// The code, the pointer of the schema as a JSON text, and what is wrong there.
+fn pattern_line(alloc: Global, pattern: &RefusedPattern) -> Result<String, AllocError>
+    ensures { IfOk result (λ s. string_bytes s ≡ said.pattern_line (refused_of pattern.now)) }
+{
+    let pointer = json_text(alloc, pattern.pointer.as_str())?;
+    let fault = pattern.fault;
+    format!(in alloc; "{} {pointer} {}\n", code_of(fault), phrase_of(fault))
+}
+
+/// The pattern as a JSON text, and what is allowed.
+fn found_line(alloc: Global, pattern: &RefusedPattern) -> Result<String, AllocError>
+    ensures { IfOk result (λ s. string_bytes s ≡ said.found_line (refused_of pattern.now)) }
+{
+    let found = json_text(alloc, pattern.text.as_str())?;
+    format!(in alloc;
+        "    \"pattern\": found {found}; {}\n",
+        allowed_by(pattern.fault)
+    )
+}
+
+fn code_of(fault: PatternFault) -> &'static str
+    ensures { result.now ≡ said.code_of fault }
+{
     match fault {
-        PatternFault::TooBig => (
-            "C02",
-            "pattern too big",
-            "what a pattern compiles to may have 10 MiB",
-        ),
-        _ => (
-            "C01",
-            "bad pattern",
-            "a pattern is a regular expression of Go's regexp (RE2 syntax)",
-        ),
+        PatternFault::TooBig => "C02",
+        _ => "C01",
+    }
+}
+
+fn phrase_of(fault: PatternFault) -> &'static str
+    ensures { result.now ≡ said.phrase_of fault }
+{
+    match fault {
+        PatternFault::TooBig => "pattern too big",
+        _ => "bad pattern",
+    }
+}
+
+fn allowed_by(fault: PatternFault) -> &'static str
+    ensures { result.now ≡ said.allowed_by fault }
+{
+    match fault {
+        PatternFault::TooBig => "what a pattern compiles to may have 10 MiB",
+        _ => "a pattern is a regular expression of Go's regexp (RE2 syntax)",
     }
 }

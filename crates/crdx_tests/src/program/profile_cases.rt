@@ -1,5 +1,5 @@
-//! `--profile`: numbers that are no integers of 64 bits, read as a cluster reads them, and refused without it; and objects judged by the schema
-//! as it is written.
+//! `--profile`: numbers that are no integers of 64 bits, read as a cluster reads them, and refused without it; objects judged by the schema as
+//! it is written; and its patterns, which `check` compiles.
 use crate::support::harness::SchemaRunRow;
 use crate::support::rows::try_tables;
 use std::test::Fail;
@@ -117,6 +117,68 @@ no document | crdx validate crd.json v1 object.json --profile cluster | @PATTERN
     ! crdx: object: J3
 "#;
 
+// Patterns of a schema, each of which breaks V16 or V17 too, but where there is no type.
+static PATTERNS: &str = r#"
+13 rows: name | command | schema | second | status
+@BAD | {"type":"object","properties":{"a":{"type":"string","pattern":"^a"},"b":{"type":"string","pattern":"["},"c":{"type":"string","pattern":""}}}
+a bad one beside good ones | crdx check crd.json v1 --profile cluster | @BAD | - | 1
+    > V17 "/properties/a"
+    > V17 "/properties/b"
+    > V17 "/properties/c"
+    > C01 "/properties/b"
+the same with core, which is usual | crdx check crd.json v1 | @BAD | - | 1
+    > V17 "/properties/a"
+    > V17 "/properties/b"
+    > V17 "/properties/c"
+the same with core, which is named | crdx check crd.json v1 --profile core --why
+    | {"type":"object","properties":{"a":{"type":"string","pattern":"["}}} | - | 1
+    > V17 "/properties/a"
+    >     "pattern": NotOfScalars
+two bad ones, by names and not by pointers | crdx check crd.json v1 --profile cluster
+    | {"type":"object","properties":{"a-b":{"type":"string","pattern":"a{2,1}"},"a":{"type":"array","items":{"type":"string","pattern":"a(?=b)"}}}} | - | 1
+    > V17 "/properties/a/items"
+    > V17 "/properties/a-b"
+    > C01 "/properties/a/items"
+    > C01 "/properties/a-b"
+one too big before a bad one, with reasons | crdx check crd.json v1 --why --profile cluster
+    | {"type":"object","properties":{"a/b":{"type":"string","pattern":"((a{1000}){1000}){10}"},
+    "c":{"type":"object","additionalProperties":{"type":"string","pattern":"\"["}}}} | - | 1
+    > V17 "/properties/a~1b"
+    >     "pattern": NotOfScalars
+    > V17 "/properties/c/additionalProperties"
+    >     "pattern": NotOfScalars
+    > C02 "/properties/a~1b"
+    >     "pattern": found "((a{1000}){1000}){10}"; what a pattern compiles to may have 10 MiB
+    > C01 "/properties/c/additionalProperties"
+    >     "pattern": found "\"["; a pattern is a regular expression of Go's regexp (RE2 syntax)
+in branches of junctors | crdx check crd.json v1 --profile cluster
+    | {"type":"object","properties":{"a":{"type":"string","not":{"pattern":")"},"anyOf":[{"pattern":"a"},{"pattern":"("}]}}} | - | 1
+    > V16 "/properties/a/anyOf/0"
+    > V16 "/properties/a/anyOf/1"
+    > V16 "/properties/a/not"
+    > C01 "/properties/a/anyOf/1"
+    > C01 "/properties/a/not"
+beside no type | crdx check crd.json v1 --profile cluster | {"type":"object","properties":{"a":{"pattern":"("},"b":{"type":"string","default":1}}} | - | 1
+    > V01 "/properties/a"
+    > C01 "/properties/a"
+what is no text | crdx check crd.json v1 --profile cluster | {"type":"object","properties":{"a":{"type":"string","pattern":1}}} | - | 1
+    > V17 "/properties/a"
+good ones alone | crdx check crd.json v1 --profile cluster | @PATTERN | - | 1
+    > V17 "/properties/a"
+none | crdx check crd.json v1 --profile cluster | {"type":"object","properties":{"a":{},"pattern":{"type":"string"}}} | - | 1
+    > V01 "/properties/a"
+a form before them | crdx check crd.json v1 --profile cluster | {"type":"object","properties":{"a":{"type":"string","pattern":"[","minimum":"1"}}} | - | 3
+    ! crdx: crd: S3 "/properties/a/minimum"
+another command | crdx explain crd.json v1 --profile cluster | @BAD | - | 1
+    ! V17 "/properties/a"
+    ! V17 "/properties/b"
+    ! V17 "/properties/c"
+a strict question | crdx validate crd.json v1 object.json --strict --profile cluster | @BAD | {} | 1
+    ! V17 "/properties/a"
+    ! V17 "/properties/b"
+    ! V17 "/properties/c"
+"#;
+
 #[test]
 fn numbers_by_profile(rt: HostRuntime) -> Result<(), Fail> {
     try_tables(&rt, rt.alloc(), &SchemaRunRow, &[NAMED, FRACTIONS, OTHERS])
@@ -124,5 +186,5 @@ fn numbers_by_profile(rt: HostRuntime) -> Result<(), Fail> {
 
 #[test]
 fn as_written(rt: HostRuntime) -> Result<(), Fail> {
-    try_tables(&rt, rt.alloc(), &SchemaRunRow, &[WRITTEN])
+    try_tables(&rt, rt.alloc(), &SchemaRunRow, &[WRITTEN, PATTERNS])
 }

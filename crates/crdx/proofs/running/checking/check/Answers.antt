@@ -1,8 +1,7 @@
-use Rattle.std.proofs.Common.{refl, string_bytes}
 use Rattle.std.proofs.lemmas.Result.{err_from_is_err_and}
 use Rattle.schema.specs.Document.Forms as form
+use Rattle.crdx.specs.Program.RunResult.{checked}
 use Rattle.crdx.specs.declared.arguments.request.Request.TheVariants.{Check}
-use Rattle.crdx.proofs.CheckLemmas.{check_answer}
 use Rattle.crdx.proofs.RunLemmas.{input_of_reading}
 use Rattle.crdx.proofs.running.checking.check.Goals as goal
 
@@ -16,6 +15,4 @@ returns-in_err-definition-clause-cause g c =
 pub returns-clause-answer : goal.returns-clause-answer
 returns-clause-answer g c =
     let crd = c.in_ok-definition.definition.crd in
-    let arguments = c.args.arguments.now in
-    check_answer (g.I.Inputs.has c.args.inputs.now) arguments crd.raw (string_bytes c.in_ok-text.field-0) c.in_ok-verdict.field-0 (crd.group, (crd.kind, c.in_ok-definition.ensures.ok))
-    c.in_ok-verdict.ensures.none c.in_ok-verdict.ensures.some arguments.why refl c.in_ok-text.ensures
+    checked c.args.arguments.now crd.raw _ _ (crd.group, (crd.kind, c.in_ok-definition.ensures.ok)) c.in_ok-answer.ensures
