@@ -10,8 +10,21 @@ use crate::arguments::help::CommandHelp;
 use clap::{Arg, ArgAction, Command};
 use std::alloc::{AllocError, Global};
 
+macro_rules! number {
+    ($number:literal) => {
+        $number
+    };
+}
+
+/// The greatest node limit, in the form that a macro gives it.
+macro_rules! most_limit {
+    ($form:ident) => {
+        $form!(127)
+    };
+}
+
 /// The greatest node limit that may be asked for.
-pub const MOST_LIMIT: u32 = 127;
+pub const MOST_LIMIT: u32 = most_limit!(number);
 
 /// The greatest number of samples that may be asked for.
 pub const MOST_COUNT: u32 = 10_000;
@@ -20,7 +33,7 @@ pub const MOST_COUNT: u32 = 10_000;
 const SAMPLE_LIMIT: &str = "8";
 
 /// The node limit of `cover` where none is given: the greatest one.
-const COVER_LIMIT: &str = "127";
+const COVER_LIMIT: &str = most_limit!(stringify);
 
 /// The number of samples where none is given.
 const USUAL_COUNT: &str = "100";
