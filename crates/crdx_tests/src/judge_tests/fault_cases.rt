@@ -199,8 +199,8 @@ a key of annotations with a space | @E | {"apiVersion":"v1","kind":"A","metadata
 a prefix of annotations with an underscore | @E | {"apiVersion":"v1","kind":"A","metadata":{"annotations":{"A_b/c":""}}} | F20
 resources of a list | {"items":{"x-kubernetes-embedded-resource":true}} | [{"apiVersion":"v1","kind":"A"},{"kind":"A"},1] | F20 /1
 a resource below a name | {"properties":{"a":{"x-kubernetes-embedded-resource":true}}} | {"a":{"kind":1},"b":{}} | F20 /a
-a resource with other faults | {"x-kubernetes-embedded-resource":true,"maxProperties":0,"properties":{"kind":{"type":"string"}}} | {"kind":1}
- | F11, F20, F01 /kind
+a resource with other faults
+    | {"x-kubernetes-embedded-resource":true,"maxProperties":0,"properties":{"kind":{"type":"string"}}} | {"kind":1} | F11, F20, F01 /kind
 one resource of two schemas | {"x-kubernetes-embedded-resource":true,"allOf":[{"x-kubernetes-embedded-resource":true}]} | {} | F20
 a resource in a branch | {"anyOf":[{"x-kubernetes-embedded-resource":true}]} | {} | F14
 "#;
