@@ -1,7 +1,7 @@
 -- How the reading of a string goes on.
-use Rattle.std.proofs.Common.{◌≡◌, ◌<◌, ◌≤◌, ◌∙◌, ℕ, zero, suc, List, [], ◌∷◌, ◌++◌, length, Option, Some, None, option_map, refl, sym, ap, arith, append_assoc, append-nil}
+use Rattle.std.proofs.Common.{◌≡◌, ◌<◌, ◌∙◌, ℕ, zero, suc, List, [], ◌∷◌, ◌++◌, length, Some, None, option_map, refl, sym, ap, arith, append_assoc, append-nil}
 use Rattle.cel_read.specs.Lexemes.{Text, Quoting, after_mark}
-use Rattle.cel_read.specs.Internal.Reading.{Part, Body, with_value, then_body, body_turn, read_part, read_body}
+use Rattle.cel_read.specs.Internal.Reading.{Body, with_value, then_body, body_turn, read_part, read_body}
 
 abbrev pub behind : List ℕ → Body → Body
 behind vs o = option_map (λ x. (vs ++ x.0, x.1)) o

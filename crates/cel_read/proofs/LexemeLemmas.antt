@@ -1,10 +1,10 @@
 -- The longest lexeme at the front of a text is what is read.
-use Rattle.std.proofs.Common.{◌≡◌, ◌<◌, ◌≤◌, ◌⊎◌, ◌∙◌, ℕ, Bool, true, false, [], ◌∷◌, ◌++◌, length, Option, Some, None, refl, sym, ap, subst, inl, inr, arith}
-use Rattle.std.proofs.lemmas.List.{length-append, append_cancel_left}
+use Rattle.std.proofs.Common.{◌≡◌, ◌≤◌, ◌∙◌, Bool, true, false, [], ◌∷◌, length, Some, None, refl, sym, ap, subst, inl, inr, arith}
+use Rattle.std.proofs.lemmas.List.{length-append}
 use Rattle.cel_read.specs.Lexemes.{Text, Lexeme, IsBlank, IsWord, IsNumber, IsStringLiteral, IsSymbol, IsLexeme}
 use Rattle.cel_read.specs.Tokens.{IsNext, NoneBegins}
 use Rattle.cel_read.specs.Internal.Reading.{Found, longer, read_literal, read_word, read_number, read_blank, read_symbol, read_lexeme}
-use Rattle.cel_read.proofs.Readers.{Front, Sound, Reaches, Longest, Disjoint, Either, some_is, fronts_alike, longer_sound, longer_longest}
+use Rattle.cel_read.proofs.Readers.{Sound, Reaches, Longest, Disjoint, Either, longer_sound, longer_longest}
 use Rattle.cel_read.proofs.PlainLemmas.{blank_sound, blank_longest, word_sound, word_longest, symbol_sound, symbol_longest, begins_name, begins_string, begins_number, begins_blank, symbol_no_name, symbol_no_number, symbol_no_blank, blank_is, blank_no_name, blank_no_number, word_is, word_no_string}
 use Rattle.cel_read.proofs.NumberLemmas.{number_sound, number_longest, number_is, number_no_name}
 use Rattle.cel_read.proofs.StringLemmas.{literal_sound, literal_longest, literal_is, literal_name}

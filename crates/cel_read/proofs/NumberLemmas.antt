@@ -1,17 +1,16 @@
 -- Numbers: what is read, and that it is as long as can be.
-use Rattle.std.proofs.Common.{◌≡◌, ◌<◌, ◌≤◌, ◌⊎◌, ◌∙◌, ℕ, Bool, true, false, not, ◌&&◌, ◌||◌, ◌==◌, ◌-◌, List, [], ◌∷◌, ◌++◌, length, take, drop, Option, Some, None, refl, sym, ap, subst, inl, inr, arith, append_assoc, append-nil, if◌then◌else◌}
+use Rattle.std.proofs.Common.{◌≡◌, ◌<◌, ◌≤◌, ◌⊎◌, ◌∙◌, ℕ, Bool, true, false, not, ◌&&◌, ◌||◌, ◌==◌, ◌-◌, [], ◌∷◌, ◌++◌, length, take, drop, Option, Some, None, refl, sym, ap, subst, inl, inr, arith, append_assoc, append-nil, if◌then◌else◌}
 use Rattle.std.specs.List.{list_all}
-use Rattle.std.specs.Char.{is_digit}
 use Rattle.std.specs.Str.Parse.{digits_value}
 use Rattle.std.proofs.lemmas.Bool.{eqb-true}
 use Rattle.std.proofs.lemmas.List.{length-append, length-drop}
 use Rattle.std.proofs.Math.Seq.{take-length}
-use Rattle.cel_read.specs.Lexemes.{Text, Lexeme, integer, unsigned, double, are_digits, IsInteger, decimal, hexadecimal, IsExponent, exponent, signed_exponent, IsDouble, fraction, fraction_with_exponent, with_exponent, IsNumber, an_integer, an_unsigned, a_double, ◌∈◌, is_letter, is_quote}
+use Rattle.cel_read.specs.Lexemes.{Text, Lexeme, integer, unsigned, double, are_digits, IsInteger, decimal, hexadecimal, IsExponent, exponent, signed_exponent, IsDouble, fraction, fraction_with_exponent, with_exponent, IsNumber, an_integer, an_unsigned, a_double, ◌∈◌}
 use Rattle.cel_read.specs.Internal.Runs.{run}
-use Rattle.cel_read.specs.Internal.Reading.{Found, before, is_decimal, is_hexadecimal, begins_with_digit, begins_hexadecimal, begins_fraction, after_sign, after_exponent_sign, after_exponent, or_else, suffixed, double_to, read_integer, after_fraction, read_decimal, read_hexadecimal, read_number}
+use Rattle.cel_read.specs.Internal.Reading.{before, is_decimal, is_hexadecimal, begins_with_digit, begins_hexadecimal, begins_fraction, after_sign, after_exponent_sign, after_exponent, or_else, suffixed, double_to, read_integer, after_fraction, read_decimal, read_hexadecimal, read_number}
 use Rattle.cel_read.proofs.RunLemmas.{both, run_yes, run_splits, run_passes, run_shorter, run_over, run_to, run_cases, run_over_cases}
 use Rattle.cel_read.proofs.Readers.{Front, Sound, Reaches, Longest, at, front_is, before_is}
-use Rattle.cel_read.proofs.PlainLemmas.{among_not, begins_number, begins_name, begins_quoted, begins_raw, begins_string, digit_no_name, or_both}
+use Rattle.cel_read.proofs.PlainLemmas.{among_not, begins_number, begins_name, digit_no_name}
 
 -- ---- suffixes
 

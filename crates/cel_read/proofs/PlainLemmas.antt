@@ -1,14 +1,14 @@
 -- Blanks, words and symbols: what is read, and that it is as long as can be. And which texts are lexemes of one sort alone.
-use Rattle.std.proofs.Common.{◌≡◌, ◌<◌, ◌≤◌, ◌⊎◌, ◌∙◌, ℕ, Bool, true, false, not, ◌&&◌, ◌||◌, ◌==◌, nat_eq, List, [], ◌∷◌, ◌++◌, length, Option, Some, None, refl, sym, ap, subst, inl, inr, arith, codes, if◌then◌else◌}
+use Rattle.std.proofs.Common.{◌≡◌, ◌<◌, ◌⊎◌, ◌∙◌, ℕ, Bool, true, false, not, ◌&&◌, ◌||◌, ◌==◌, List, [], ◌∷◌, ◌++◌, length, Option, Some, None, refl, sym, ap, subst, inl, inr, arith, codes, if◌then◌else◌}
 use Rattle.std.specs.List.{list_all}
 use Rattle.std.specs.Cmp.Lexicographic.{same_text}
 use Rattle.std.proofs.lemmas.Bool.{eqb-true}
 use Rattle.std.proofs.lemmas.Bool.Decides.{nat_tests}
 use Prim.Native.String.{String}
 use Rattle.cel_read.specs.declared.token.Symbol.{Symbol}
-use Rattle.cel_read.specs.Lexemes.{Text, Lexeme, blank, symbol, word, is_among, spells, is_white, is_of_comment, IsBlank, white, comment, is_letter, is_of_word, IsWord, a_word, is_quote, listed, signs_of_one, signs_of_two, one_sign, two_signs, IsSymbol, one, two, ◌∈◌}
+use Rattle.cel_read.specs.Lexemes.{Text, Lexeme, blank, symbol, word, is_among, spells, is_white, is_of_comment, IsBlank, white, comment, is_letter, is_of_word, IsWord, a_word, is_quote, listed, signs_of_one, signs_of_two, one_sign, two_signs, IsSymbol, one, two}
 use Rattle.cel_read.specs.Internal.Runs.{run}
-use Rattle.cel_read.specs.Internal.Reading.{Found, read_comment, read_blank, read_word, is_decimal, begins_with_digit, begins_fraction, one_symbol, two_symbol, read_symbol}
+use Rattle.cel_read.specs.Internal.Reading.{read_comment, read_blank, read_word, is_decimal, begins_with_digit, begins_fraction, one_symbol, two_symbol, read_symbol}
 use Rattle.cel_read.proofs.RunLemmas.{both, run_splits, run_passes, run_over_cases}
 use Rattle.cel_read.proofs.Readers.{Front, Sound, Reaches, Longest, at, front_is}
 

@@ -1,10 +1,10 @@
 -- Readers that are sound, and that go as far as the longest lexeme; two of them as one.
-use Rattle.std.proofs.Common.{◌≡◌, ◌<◌, ◌≤◌, ◌⊎◌, ◌∙◌, ◌+◌, ◌-◌, ℕ, Bool, true, false, [], ◌∷◌, ◌++◌, length, take, nat_lt, Option, Some, None, refl, sym, ap, subst, inl, inr, arith, append_assoc, if◌then◌else◌}
-use Rattle.std.proofs.lemmas.List.{length-append, append_cancel_right}
+use Rattle.std.proofs.Common.{◌≡◌, ◌<◌, ◌≤◌, ◌⊎◌, ◌∙◌, ◌+◌, ◌-◌, Bool, true, false, ◌++◌, length, take, nat_lt, Some, None, refl, sym, ap, subst, inl, inr, arith, if◌then◌else◌}
+use Rattle.std.proofs.lemmas.List.{length-append}
 use Rattle.std.proofs.lemmas.Bool.Decides.{nat_tests}
 use Rattle.std.proofs.Math.Seq.{take-append_seam}
 use Rattle.cel_read.specs.Lexemes.{Text, Lexeme}
-use Rattle.cel_read.specs.Internal.Reading.{Found, before, longer_of, longer}
+use Rattle.cel_read.specs.Internal.Reading.{Found, before, longer}
 
 pub some_is : {A : Type 0} (a b : A) → Some a ≡ Some b → a ≡ b
 some_is a b e = cc

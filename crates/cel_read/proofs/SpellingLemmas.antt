@@ -1,8 +1,8 @@
 -- The characters and the digits of a text.
-use Rattle.std.proofs.Common.{◌≡◌, ◌<◌, ◌≤◌, ◌∙◌, ◌^◌, ℕ, List, [], ◌∷◌, ◌++◌, Bool, true, false, ◌&&◌, length, ap, sym, refl, chars, encode_utf8, encode_utf8_all, string_bytes, append-nil, String, zero, suc, arith, nat_lt, cond, drop, ◌==◌}
+use Rattle.std.proofs.Common.{◌≡◌, ◌<◌, ◌≤◌, ◌∙◌, ◌^◌, ℕ, [], ◌∷◌, ◌++◌, Bool, true, false, length, ap, sym, refl, chars, encode_utf8, encode_utf8_all, string_bytes, append-nil, String, zero, suc, arith, nat_lt, cond, drop, ◌==◌}
 use Rattle.std.proofs.lemmas.Bool.Decides.{nat_tests}
 use Rattle.std.specs.Global.{Global}
-use Rattle.std.proofs.lemmas.Str.{chars-append, chars-nil, chars_past_char, chars-IsAscii, chars_from_encodes, encodes-IsAscii, IsUtf8-string_bytes, IsUtf8-encode}
+use Rattle.std.proofs.lemmas.Str.{chars-append, chars-nil, chars_past_char, chars_from_encodes, encodes-IsAscii, IsUtf8-string_bytes, IsUtf8-encode}
 use Rattle.std.specs.Str.Parse.{without_leading_plus}
 use Rattle.std.specs.Char.{IsScalar, digit_value, is_digit}
 use Rattle.std.specs.Str.{IsAscii}

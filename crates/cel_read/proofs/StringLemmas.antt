@@ -7,7 +7,7 @@ use Rattle.std.proofs.lemmas.Bool.Decides.{nat_tests}
 use Rattle.std.proofs.lemmas.List.{length-append, take-append-drop, length-take-le}
 use Rattle.std.proofs.Math.Seq.{take-append_seam, drop-append_seam}
 use Rattle.cel_read.specs.Lexemes.{Text, Lexeme, string, bytes, are_digits, Escape, stands_for, in_hexadecimal, in_octal, escape_of, IsEscape, a_sign, a_hexadecimal, an_octal, Quoting, is_letter, is_quote, closing_mark, after_one_quote, after_three_quotes, after_mark, is_plain, IsPart, a_character, an_escape, IsBody, closed, a_part, IsQuoted, in_quotes, in_three_quotes, IsString, a_string, a_raw_string, IsStringLiteral, a_text, some_bytes, ◌∈◌}
-use Rattle.cel_read.specs.Internal.Reading.{Found, Part, Body, read_digits, read_escaped, read_escape, read_part, with_value, then_body, body_turn, read_body, in_lines, on_a_line, whole_body, read_threefold, read_single, or_body, read_quoted, read_string, text_found, bytes_found, read_literal}
+use Rattle.cel_read.specs.Internal.Reading.{Part, Body, read_digits, read_escaped, read_escape, read_part, with_value, then_body, body_turn, read_body, in_lines, on_a_line, whole_body, read_threefold, read_single, or_body, read_quoted, read_string, text_found, bytes_found, read_literal}
 use Rattle.cel_read.proofs.RunLemmas.{both}
 use Rattle.cel_read.proofs.Readers.{Front, Sound, Reaches, Longest, front_is}
 use Rattle.cel_read.proofs.PlainLemmas.{among_not, begins_name, begins_quoted, begins_raw, begins_string}

@@ -1,11 +1,9 @@
 -- The tokens of a text, one after another.
-use Rattle.std.proofs.Common.{◌≡◌, ◌<◌, ◌≤◌, ◌∙◌, ◌-◌, ◌+◌, ℕ, Bool, true, false, List, [], ◌∷◌, ◌++◌, length, drop, Option, Some, None, refl, sym, ap, subst, arith, append_assoc}
-use Rattle.std.specs.List.{list_all}
-use lib.Utf8.{scalar}
+use Rattle.std.proofs.Common.{◌≡◌, ◌<◌, ◌≤◌, ◌∙◌, ◌-◌, ℕ, true, false, List, [], ◌∷◌, ◌++◌, length, drop, Option, Some, None, refl, sym, ap, subst, arith, append_assoc}
 use Rattle.std.proofs.lemmas.List.{length-append}
 use Rattle.std.proofs.Math.Seq.{drop-append_seam}
 use Rattle.cel_read.specs.Lexemes.{Text, Lexeme, blank, integer, string}
-use Rattle.cel_read.specs.Tokens.{IsNext, is_small, is_token, Reads, nothing, a_blank, a_token, AreTokens, IsReached, NoneBegins, IsFault, HasNoTokens}
+use Rattle.cel_read.specs.Tokens.{IsNext, is_token, Reads, nothing, a_blank, a_token, AreTokens, IsReached, NoneBegins, IsFault, HasNoTokens}
 use Rattle.cel_read.specs.declared.fault.LexFault.{LexFault}
 use Rattle.cel_read.specs.declared.fault.LexFault.TheVariants.{NoLexeme, IntegerTooLarge, NoCodePoint, NoMemory}
 use Rattle.cel_read.specs.Internal.Reading.{read_lexeme}
@@ -67,6 +65,37 @@ goes_on : (t : Text) (ls : List Lexeme) (rest : Text) → Reads t ls rest → (a
 goes_on t ls rest (nothing u) all k = (all, k)
 goes_on t ls rest (a_blank u v w ms m h) all k = let r = after_next u v blank m all [] k refl in goes_on v ms w h r.0 r.1
 goes_on t ls rest (a_token u v w l ms m j h) all k = let r = after_next u v l m all [] k refl in goes_on v ms w h r.0 r.1
+
+-- ---- a text has one list of tokens
+
+nothing_left : (t left : Text) (ls : List Lexeme) → Reads t ls left → t ≡ [] → [] ≡ ls
+nothing_left t left ls (nothing x) e = refl
+nothing_left t left ls (a_blank x y z ms m h) e = absurd (no_next blank y (subst (λ u. IsNext u blank y) e m))
+nothing_left t left ls (a_token x y z o ms m j h) e = absurd (no_next o y (subst (λ u. IsNext u o y) e m))
+
+after_blank : (u v left : Text) (all : List Lexeme) → IsNext u blank v → Reads u all left → left ≡ [] → Reads v all []
+after_blank u v left all n (nothing x) e = absurd (no_next blank v (subst (λ t. IsNext t blank v) e n))
+after_blank u v left all n (a_blank x y z ms m h) e = subst (λ t. Reads t ms []) (same_next x blank blank y v m n).1 (subst (Reads y ms) e h)
+after_blank u v left all n (a_token x y z o ms m j h) e =
+    let i : is_token o ≡ false = ap is_token (same_next x o blank y v m n).0 in
+    cc
+
+after_token : (u v left : Text) (l : Lexeme) (all : List Lexeme) → IsNext u l v → is_token l ≡ true → Reads u all left → left ≡ []
+    → (more : List Lexeme) × (l ∷ more ≡ all) × Reads v more []
+after_token u v left l all n k (nothing x) e = absurd (no_next l v (subst (λ t. IsNext t l v) e n))
+after_token u v left l all n k (a_blank x y z ms m h) e =
+    let i : is_token l ≡ false = ap is_token (same_next x l blank v y n m).0 in
+    cc
+after_token u v left l all n k (a_token x y z o ms m j h) e =
+    let s = same_next x o l y v m n in
+    (ms, ap (λ p. p ∷ ms) (sym s.0), subst (λ t. Reads t ms []) s.1 (subst (Reads y ms) e h))
+
+pub same_tokens : (t : Text) (ls : List Lexeme) (left : Text) → Reads t ls left → left ≡ [] → (all : List Lexeme) → AreTokens t all → ls ≡ all
+same_tokens t ls left (nothing u) e all k = nothing_left u [] all k e
+same_tokens t ls left (a_blank u v w ms m h) e all k = same_tokens v ms w h e all (after_blank u v [] all m k refl)
+same_tokens t ls left (a_token u v w l ms m j h) e all k =
+    let a = after_token u v [] l all m j k refl in
+    ap (λ x. l ∷ x) (same_tokens v ms w h e a.0 a.2) ∙ a.1
 
 -- ---- faults
 

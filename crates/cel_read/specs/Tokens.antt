@@ -1,6 +1,6 @@
 -- The tokens of a text: it is cut into lexemes from the front, each as long as can be, and those that are not blank are its tokens. Common
 -- Expression Language specification, "Syntax" (langdef.md).
-use Rattle.std.specs.Prelude.{◌≡◌, ◌<◌, ◌≤◌, ◌^◌, ⊤, ℕ, Bool, true, false, List, [], ◌∷◌, ◌++◌, length, drop, nat_lt, not, map}
+use Rattle.std.specs.Prelude.{◌≡◌, ◌<◌, ◌≤◌, ◌^◌, ⊤, ℕ, Bool, true, false, List, [], ◌∷◌, ◌++◌, length, drop, nat_lt, not}
 use Rattle.std.specs.List.{list_all}
 use lib.Utf8.{scalar}
 use Rattle.cel_read.specs.Lexemes.{Text, Lexeme, blank, integer, string, IsLexeme}

@@ -1,6 +1,6 @@
 -- What values of the code are to contracts.
 use Rattle.std.specs.Global.{Global}
-use Rattle.std.specs.Prelude.{String, ℕ, List, map, chars, string_bytes}
+use Rattle.std.specs.Prelude.{String, List, map, chars, string_bytes}
 use Rattle.cel_read.specs.Lexemes as spec
 use Rattle.cel_read.specs.declared.token.Token.{Token}
 use Rattle.cel_read.specs.declared.token.Token.TheVariants.{Name, Keyword, Integer, Unsigned, Double, Text, Bytes, Symbol}

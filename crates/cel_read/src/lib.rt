@@ -11,6 +11,7 @@
 mod blanks;
 mod escapes;
 mod fault;
+mod laws;
 mod lexeme;
 mod lexing;
 mod numbers;
@@ -22,5 +23,6 @@ mod token;
 mod words;
 
 pub use fault::LexFault;
+pub use laws::tokens_are_unique;
 pub use lexing::tokens;
 pub use token::{Keyword, Symbol, Token};

@@ -1,8 +1,9 @@
 //! What characters write: a text, or a number.
-ghost use Rattle.std.specs.Prelude.{◌≡◌, ◌≤◌, ◌^◌, ◌∷◌, [], ◌++◌, length, true, IfOk, OnOk, MatchOption};
+ghost use Rattle.std.specs.Prelude.{◌≡◌, ◌≤◌, ◌∷◌, [], ◌++◌, length, true, IfOk, OnOk};
 ghost use Rattle.std.specs.Str.Parse.{digits_value};
 ghost use Rattle.cel_read.specs.Lexemes.{are_digits};
 ghost use Rattle.cel_read.specs.View.{text_of};
+ghost use Rattle.cel_read.specs.Internal.Kept.{IsValueOf};
 
 use std::alloc::{AllocError, Global};
 
@@ -37,7 +38,7 @@ pub(crate) fn spelled(alloc: Global, text: &[char]) -> Result<String, AllocError
 
 /// The number that digits write; `None` where it has more than 64 bits.
 pub(crate) fn number(alloc: Global, numeral: Numeral<'_>) -> Result<Option<u64>, AllocError>
-    ensures { IfOk result (λ n. MatchOption n (2 ^ 64 ≤ digits_value numeral.entry.radix numeral.entry.digits.now) (λ n. n ≡ digits_value numeral.entry.radix numeral.entry.digits.now)) }
+    ensures { IfOk result (λ value. IsValueOf numeral.entry.radix numeral.entry.digits.now value) }
 {
     let text = spelled(alloc, numeral.digits)?;
     match u64::from_str_radix(text.as_str(), numeral.radix) {

@@ -1,7 +1,8 @@
 -- Which token is kept of a lexeme, and what is refused.
 use Rattle.std.specs.Global.{Global}
-use Rattle.std.specs.Prelude.{◌≡◌, ⊤, ℕ, List, [], ◌∷◌, ◌++◌, Bool, true, false, Option, Some, None, String}
+use Rattle.std.specs.Prelude.{◌≡◌, ◌≤◌, ◌^◌, ⊤, ℕ, List, [], ◌∷◌, ◌++◌, true, false, Option, Some, None, String}
 use Rattle.std.specs.List.{list_all}
+use Rattle.std.specs.Str.Parse.{digits_value}
 use lib.Utf8.{scalar}
 use Rattle.cel_read.specs.Lexemes.{Text, Lexeme, blank, name, keyword, integer, string, word}
 use Rattle.cel_read.specs.Tokens.{is_small, is_token}
@@ -10,6 +11,11 @@ use Rattle.cel_read.specs.declared.token.Token.{Token}
 use Rattle.cel_read.specs.declared.token.Keyword.{Keyword}
 use Rattle.cel_read.specs.declared.fault.LexFault.{LexFault}
 use Rattle.cel_read.specs.declared.fault.LexFault.TheVariants.{NoLexeme, IntegerTooLarge, NoCodePoint, NoMemory}
+
+-- the number that digits write, or none, where it has more than 64 bits
+abbrev pub IsValueOf : ℕ → Text → Option ℕ → Type 0
+IsValueOf radix digits None = 2 ^ 64 ≤ digits_value radix digits
+IsValueOf radix digits (Some value) = value ≡ digits_value radix digits
 
 abbrev pub IsKept : Lexeme → Option Token → Type 0
 IsKept l None = l ≡ blank

@@ -1,5 +1,5 @@
 -- Reading as functions: what stands at the front of a text, and what follows it.
-use Rattle.std.specs.Prelude.{ℕ, zero, suc, Bool, true, false, not, ◌&&◌, ◌||◌, ◌==◌, ◌-◌, nat_lt, List, [], ◌∷◌, length, take, drop, Option, Some, None, option_map, if◌then◌else◌}
+use Rattle.std.specs.Prelude.{ℕ, zero, suc, Bool, true, false, not, ◌&&◌, ◌==◌, ◌-◌, nat_lt, List, [], ◌∷◌, length, take, drop, Option, Some, None, option_map, if◌then◌else◌}
 use Rattle.std.specs.Char.{is_digit}
 use Rattle.std.specs.Str.Parse.{digits_value}
 use Rattle.cel_read.specs.Lexemes.{Text, Lexeme, blank, integer, unsigned, double, string, bytes, symbol, ◌∈◌, is_white, is_of_comment, is_letter, is_of_word, word, are_digits, Escape, stands_for, in_hexadecimal, in_octal, escape_of, Quoting, is_quote, after_mark, is_plain, one_sign, two_signs}

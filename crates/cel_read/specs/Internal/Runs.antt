@@ -1,5 +1,5 @@
 -- How far characters of one class go on.
-use Rattle.std.specs.Prelude.{ℕ, Bool, List, [], ◌∷◌, if◌then◌else◌}
+use Rattle.std.specs.Prelude.{ℕ, Bool, [], ◌∷◌, if◌then◌else◌}
 use Rattle.std.specs.Char.{is_digit}
 use Rattle.cel_read.specs.Lexemes.{Text, is_of_word, is_of_comment}
 use Rattle.cel_read.specs.declared.runs.Class.{Class}

@@ -1,4 +1,4 @@
-use Rattle.std.proofs.Common.{◌≡◌, ◌≤◌, ◌<◌, ◌-◌, ◌∙◌, List, [], length, chars, Some, None, ap, sym, subst, rules, arith}
+use Rattle.std.proofs.Common.{◌≡◌, ◌<◌, ◌-◌, ◌∙◌, length, chars, Some, None, ap, sym, subst, rules, arith}
 use Rattle.std.proofs.lemmas.Str.{chars_from_encodes}
 use Rattle.cel_read.specs.Tokens.{Reads, nothing}
 use Rattle.cel_read.specs.View.{token_lexemes}

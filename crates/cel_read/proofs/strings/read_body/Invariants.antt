@@ -1,5 +1,5 @@
-use Rattle.std.proofs.Common.{◌≡◌, ◌<◌, ℕ, length}
-use Rattle.cel_read.specs.Internal.Reading.{read_body, whole_body}
+use Rattle.std.proofs.Common.{length}
+use Rattle.cel_read.specs.Internal.Reading.{whole_body}
 use Rattle.cel_read.specs.Internal.Found.{quoting_of}
 use Rattle.cel_read.proofs.BodyLemmas.{IsAhead}
 use Rattle.cel_read.proofs.strings.read_body.Given as goal
