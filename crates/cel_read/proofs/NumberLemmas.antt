@@ -9,7 +9,7 @@ use Rattle.cel_read.specs.Lexemes.{Text, Lexeme, integer, unsigned, double, are_
 use Rattle.cel_read.specs.Internal.Runs.{run}
 use Rattle.cel_read.specs.Internal.Reading.{before, is_decimal, is_hexadecimal, begins_with_digit, begins_hexadecimal, begins_fraction, after_sign, after_exponent_sign, after_exponent, or_else, suffixed, double_to, read_integer, after_fraction, read_decimal, read_hexadecimal, read_number}
 use Rattle.cel_read.proofs.RunLemmas.{both, run_yes, run_splits, run_passes, run_shorter, run_over, run_to, run_cases, run_over_cases}
-use Rattle.cel_read.proofs.Readers.{Front, Sound, Reaches, Longest, at, front_is, before_is}
+use Rattle.cel_read.proofs.Readers.{some_is, Front, Sound, Reaches, Longest, at, front_is, before_is}
 use Rattle.cel_read.proofs.PlainLemmas.{among_not, begins_number, begins_name, digit_no_name}
 
 -- ---- suffixes
@@ -64,9 +64,6 @@ digits_first : (t : Text) → begins_with_digit t ≡ true → (d : ℕ) × (u :
 digits_first [] h = cc
 digits_first (d ∷ u) h = (d, u, refl, h)
 
-some_rest : (a b : Text) → Some a ≡ Some b → a ≡ b
-some_rest a b e = cc
-
 digits_run : (d : ℕ) (u : Text) → is_decimal d ≡ true → are_digits 10 (d ∷ (run is_decimal u).0) ≡ true
 digits_run d u e = ap (λ b. b && list_all is_decimal (run is_decimal u).0) e ∙ run_passes is_decimal u
 
@@ -83,7 +80,7 @@ sign_sound e s t r he h = by (s ∈ "+-" && begins_with_digit t) refl h
         let whole : t ≡ f.0 ∷ (ds ++ (run is_decimal t').1) = f.2 ∙ ap (λ k. f.0 ∷ k) (run_splits is_decimal t') in
         let end : (run is_decimal t).1 ≡ (run is_decimal t').1 = ap (λ k. (run is_decimal k).1) f.2 ∙ ap (λ x. x.1) (run_yes is_decimal f.0 t' f.3) in (
           e ∷ s ∷ f.0 ∷ ds,
-          ap (λ k. e ∷ s ∷ k) (whole ∙ ap (λ k. f.0 ∷ (ds ++ k)) (sym end ∙ some_rest _ _ h)),
+          ap (λ k. e ∷ s ∷ k) (whole ∙ ap (λ k. f.0 ∷ (ds ++ k)) (sym end ∙ some_is _ _ h)),
           signed_exponent e s f.0 ds he q'.0 (digits_run f.0 t' f.3),
         )
 
@@ -94,7 +91,7 @@ exponent_sign_sound e (s ∷ t) r he h = by (is_decimal s) refl h
     by : (b : Bool) → is_decimal s ≡ b → (if b then Some (run is_decimal t).1 else after_sign s t) ≡ Some r → Power (e ∷ s ∷ t) r
     by true q h = (
       e ∷ s ∷ (run is_decimal t).0,
-      ap (λ k. e ∷ s ∷ k) (run_splits is_decimal t ∙ ap (λ k. (run is_decimal t).0 ++ k) (some_rest _ _ h)),
+      ap (λ k. e ∷ s ∷ k) (run_splits is_decimal t ∙ ap (λ k. (run is_decimal t).0 ++ k) (some_is _ _ h)),
       exponent e s (run is_decimal t).0 he (digits_run s t q),
     )
     by false q h = sign_sound e s t r he h

@@ -127,11 +127,11 @@ abbrev pub begins_blank : Text → Bool
 begins_blank [] = false
 begins_blank (c ∷ t) = is_white c || begins_comment c t
 
-not_true : (b : Bool) → not b ≡ true → b ≡ false
+pub not_true : (b : Bool) → not b ≡ true → b ≡ false
 not_true true e = cc
 not_true false e = refl
 
-or_right : (a b : Bool) → b ≡ true → (a || b) ≡ true
+pub or_right : (a b : Bool) → b ≡ true → (a || b) ≡ true
 or_right true b e = refl
 or_right false b e = e
 

@@ -10,7 +10,7 @@ use Rattle.cel_read.specs.Lexemes.{Text, Lexeme, string, bytes, are_digits, Esca
 use Rattle.cel_read.specs.Internal.Reading.{Part, Body, read_digits, read_escaped, read_escape, read_part, with_value, then_body, body_turn, read_body, in_lines, on_a_line, whole_body, read_threefold, read_single, or_body, read_quoted, read_string, text_found, bytes_found, read_literal}
 use Rattle.cel_read.proofs.RunLemmas.{both}
 use Rattle.cel_read.proofs.Readers.{Front, Sound, Reaches, Longest, front_is}
-use Rattle.cel_read.proofs.PlainLemmas.{among_not, begins_name, begins_quoted, begins_raw, begins_string}
+use Rattle.cel_read.proofs.PlainLemmas.{not_true, or_right, among_not, begins_name, begins_quoted, begins_raw, begins_string}
 
 -- ---- escapes
 
@@ -86,10 +86,6 @@ part_read : (q : Quoting) (x : Text) (v : ℕ) (z : Text) → IsPart q x v → r
 part_read q x v z (a_character c h) = ap (λ b. if b then Some (with c z) else if c == 0x5C && not q.raw then read_escape z else None) h
 part_read q x v z (an_escape e w r h) = backslash_read q (e ++ z) r ∙ escape_read e w z h
 
-not_false : (b : Bool) → not b ≡ true → b ≡ false
-not_false true e = cc
-not_false false e = refl
-
 part_sound : (q : Quoting) (t : Text) (v : ℕ) (rest : Text) → read_part q t ≡ Some (v, rest) → PartFront (IsPart q) t v rest
 part_sound q [] v rest h = cc
 part_sound q (c ∷ t) v rest h = by (is_plain q c) refl h
@@ -100,7 +96,7 @@ part_sound q (c ∷ t) v rest h = by (is_plain q c) refl h
         let e' = both (c == 0x5C) (not q.raw) e in
         let here : c ≡ 0x5C = eqb-true c 0x5C e'.0 in
         let d = escape_sound t v rest h in
-        (0x5C ∷ d.0, ap (λ k. k ∷ t) here ∙ ap (λ u. 0x5C ∷ u) d.1, an_escape d.0 v (not_false q.raw e'.1) d.2)
+        (0x5C ∷ d.0, ap (λ k. k ∷ t) here ∙ ap (λ u. 0x5C ∷ u) d.1, an_escape d.0 v (not_true q.raw e'.1) d.2)
 
     by : (b : Bool) → is_plain q c ≡ b → (if b then Some (with c t) else if c == 0x5C && not q.raw then read_escape t else None) ≡ Some (v, rest)
         → PartFront (IsPart q) (c ∷ t) v rest
@@ -406,10 +402,6 @@ literal_longest x z l (some_bytes b y vs e h) =
     (bytes_reaches (read_string (y ++ z)) vs z (string_reaches y vs z h))
 
 -- ---- strings are no lexemes of another sort
-
-or_right : (a b : Bool) → b ≡ true → (a || b) ≡ true
-or_right true b e = refl
-or_right false b e = e
 
 or_left : (a b : Bool) → a ≡ true → (a || b) ≡ true
 or_left true b e = refl
