@@ -24,6 +24,7 @@
 //! | `explain_tests/field_cases` | the fields of a listing, and the field and the node of a path |
 //! | `formats_tests/format_cases` | formats: which texts are of them, and names of none |
 //! | `patterns_tests/pattern_cases` | patterns: what they match, what is none or too big, how they are written for the kit, and matchers that are kept |
+//! | `cel_tests/token_cases` | the tokens of expressions, and why a text has none |
 //! | `judge_tests/fault_cases` | values judged by schemas as they are written |
 //! | `judge_tests/pattern_cases` | the patterns of a schema, with their pointers |
 //! | `plan_tests/pools_cases`, `pool_limit_cases` | documents of pools, and how many entries they may have |
@@ -60,6 +61,8 @@
 //! | `support` | tables and what tries their rows, reports of rows, documents, fakes, phrases, the plain reference, and what several files use |
 #![tactic(auto)]
 
+#[cfg(test)]
+mod cel_tests;
 #[cfg(test)]
 mod enumerate_tests;
 #[cfg(test)]

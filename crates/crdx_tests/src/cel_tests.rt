@@ -1,0 +1,2 @@
+//! Tests of `cel_read`.
+mod token_cases;
