@@ -1,5 +1,5 @@
--- Which texts are lexemes, and what each one is. Texts are lists of code points. Common Expression Language specification, "Syntax" and
--- "Lexis" (langdef.md); where it leaves a form open, the rules of the grammar of cel-go (CEL.g4).
+-- Which texts are lexemes, and what each one is. Texts are lists of code points. Common Expression Language specification,
+-- "Syntax" (langdef.md); where it leaves a form open, the rules of the grammar of cel-go (CEL.g4).
 use Rattle.std.specs.Prelude.{◌≡◌, ◌⊎◌, ℕ, Bool, true, false, not, ◌&&◌, ◌||◌, ◌==◌, nat_eq, List, [], ◌∷◌, ◌++◌, length, Option, Some, None, if◌then◌else◌, codes}
 use Rattle.std.specs.List.{list_all}
 use Rattle.std.specs.Char.{is_ascii_alphabetic, is_ascii_alphanumeric, is_digit}
