@@ -62,7 +62,8 @@ fn formats(rt: HostRuntime) -> Result<(), Fail> {
 
 #[test]
 fn tokens_of_an_expression(rt: HostRuntime) -> Result<(), Fail> {
-    let tokens = cel_read::tokens(rt.alloc(), "self.size() <= 0x10 // at most")?;
+    let alloc = rt.alloc();
+    let tokens = cel_read::tokens(alloc, "self.size() <= 0x10 // at most")?;
     assert_eq!(rt; tokens.len(), 7);
     Ok(())
 }
