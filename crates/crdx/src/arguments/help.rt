@@ -475,8 +475,8 @@ document that has another number (J1). cluster reads each number of
 JSON within the range of floats, as a cluster does: 1.0 and 1e2 are
 the integers 1 and 100, and 0.5 stays as it is written. With cluster
 `validate` judges an object by the schema as it is written, as the API
-server does, and `check` compiles the patterns of the schema. Elsewhere
-schemas are judged alike under both.";
+server does, and `check` compiles the patterns of the schema.
+Elsewhere schemas are judged alike under both.";
 
 pub(super) const FROM: &str = "A JSON file of objects whose values are listed";
 
