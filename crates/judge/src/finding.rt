@@ -305,8 +305,8 @@ fn find_in_members<'v, A: PlaceTests>(
 ) -> Result<(), AllocError>
     ensures { OnOk result (progress report.new ≡ added (progress report.old) (joined (slot_parts A.asking (schemas_of schemas.now) (with_slots (required (schemas_of schemas.now)) (member_slots members.now))))) }
 {
-    let slots = slots(*report.pointer.allocator(), schemas, members)?;
-    for slot in &slots {
+    let named = slots(*report.pointer.allocator(), schemas, members)?;
+    for slot in &named {
         find_slot(report, tests, schemas, slot)?;
     }
     Ok(())

@@ -23,7 +23,7 @@ find_in_members-find_slot-requires g t c κs within =
     let xs = c.deref-slot-items.result.now in
     let ss = schemas_of c.args.schemas.now in
     let ms = c.args.members.now in
-    let all : slots_depth (slots_of xs) ≡ members_depth ms = ap slots_depth (ap slots_of c.deref-slot-items.ensures.value ∙ c.in_ok-slots.ensures) ∙ all_depth (required ss) ms in
+    let all : slots_depth (slots_of xs) ≡ members_depth ms = ap slots_depth (ap slots_of c.deref-slot-items.ensures.value ∙ c.in_ok-named.ensures) ∙ all_depth (required ss) ms in
     let one : value_depth (Named.value (named_by x)) ≤ slots_depth (slots_of xs) =
     subst (λ (y : Slot). value_depth (Named.value (named_by y)) ≤ slots_depth (slots_of xs)) (sym c.slot-item.is) (slot_depth xs c.loop-slot.slot-index x c.loop-slot-test.true) in
     let deep : value_depth (Named.value (named_by x)) ≤ members_depth ms = omega (arith, one, all) in
