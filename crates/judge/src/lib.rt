@@ -3,7 +3,8 @@
 //!
 //! [`faults`] lists what is wrong with a value, and where; [`is_valid`] says whether anything is. Texts are tested by what the caller has
 //! for patterns and formats, a `TextTests` and a `FormatTests`. Tests that no keyword asks, such as rules, join by a [`PlaceTests`] of their
-//! own, in [`faults_by`]. [`patterns`] lists the patterns of a schema, with their places.
+//! own, in [`faults_by`]. [`patterns`] lists the patterns of a schema, with their places. [`is_label`], [`is_kind_name`] and [`is_subdomain`] say
+//! whether a text is a name of such a form.
 //!
 //! ```
 //! let schema = Tree::from_bytes(alloc, r#"{"required":["a"],"maxProperties":1}"#.as_bytes())?;
@@ -33,5 +34,6 @@ mod validity;
 pub use asking::{KeywordTests, PlaceTests};
 pub use finding::{Fault, faults, faults_by};
 pub use listing::{SchemaPattern, patterns};
+pub use names::{Letters, is_kind_name, is_label, is_subdomain};
 pub use test::Test;
 pub use validity::is_valid;

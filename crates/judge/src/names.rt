@@ -6,8 +6,10 @@ ghost use Rattle.judge.specs.Internal.NameForms.{letter_of, mark_of};
 
 /// Which letters count. Digits count with them.
 #[derive(Clone, Copy)]
-pub(crate) enum Letters {
+pub enum Letters {
+    /// The lowercase ones of ASCII.
     Lower,
+    /// All of ASCII.
     All,
 }
 
@@ -71,14 +73,14 @@ fn is_word(text: &[u8], letters: Letters, marks: Marks) -> bool
 }
 
 /// Whether a text is a DNS label of at most 63 bytes (RFC 1123).
-pub(crate) fn is_label(text: &str) -> bool
+pub fn is_label(text: &str) -> bool
     ensures { result ≡ spec.is_label text.now }
 {
     text.len() <= 63 && is_word(text.as_bytes(), Letters::Lower, Marks::Hyphen)
 }
 
 /// Whether a text, whatever its case, is a DNS label that begins with a letter (RFC 1035).
-pub(crate) fn is_kind_name(text: &str) -> bool
+pub fn is_kind_name(text: &str) -> bool
     ensures { result ≡ spec.is_kind_name text.now }
 {
     text.len() <= 63
@@ -95,8 +97,8 @@ fn begins_with_letter(text: &[u8]) -> bool
     }
 }
 
-/// Whether a text is a DNS subdomain.
-fn is_subdomain(text: &str, letters: Letters) -> bool
+/// Whether a text is a DNS subdomain of at most 253 bytes (RFC 1123): words of these letters and hyphens, with dots between them.
+pub fn is_subdomain(text: &str, letters: Letters) -> bool
     ensures { result ≡ spec.is_subdomain (letter_of letters) text.now }
 {
     text.len() <= 253

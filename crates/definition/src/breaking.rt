@@ -1,0 +1,194 @@
+//! Which rules a part of a definition breaks.
+ghost use Rattle.std.specs.Prelude.{◌≡◌, option_map};
+ghost use Rattle.jtree.specs.View.{data_of, items_of};
+ghost use Rattle.definition.specs.Broken as spec;
+
+use crate::fields::{lacks, lacks_required};
+use crate::part::{Listed, Metadata, Part, Value};
+use crate::rule::Rule;
+use crate::texts::{
+    is_below_spec, is_below_status, is_column_format, is_column_type, is_group, is_name, is_scope,
+    is_simple_path, is_strategy,
+};
+use jtree::Tree;
+use judge::is_kind_name;
+
+impl Value {
+    /// The rule that a bad value breaks.
+    fn rule(self) -> Rule
+        ensures { result ≡ spec.rule_of self }
+    {
+        match self {
+            Value::DefinitionName => Rule::WrongName,
+            Value::Group => Rule::BadGroup,
+            Value::Scope => Rule::BadScope,
+            Value::PreserveUnknownFields => Rule::PreserveUnknownFields,
+            Value::ColumnType | Value::ColumnFormat | Value::ColumnPath => Rule::BadColumn,
+            Value::SpecReplicasPath | Value::StatusReplicasPath | Value::LabelSelectorPath => {
+                Rule::BadScalePath
+            }
+            Value::Strategy => Rule::BadConversion,
+            _ => Rule::BadName,
+        }
+    }
+
+    /// Whether a text has the form of the value.
+    fn has_form(self, text: &str) -> bool
+        ensures { result ≡ spec.has_form self text.now }
+    {
+        match self {
+            Value::Group => is_group(text),
+            Value::Scope => is_scope(text),
+            Value::Name | Value::ListedName => is_name(text),
+            Value::Kind | Value::ListKind => is_kind_name(text),
+            Value::ColumnType => is_column_type(text),
+            Value::ColumnFormat => is_column_format(text),
+            Value::ColumnPath => is_simple_path(text.as_bytes()),
+            Value::SpecReplicasPath => is_below_spec(text),
+            Value::StatusReplicasPath => is_below_status(text),
+            Value::LabelSelectorPath => is_below_spec(text) || is_below_status(text),
+            Value::Strategy => is_strategy(text),
+            _ => true,
+        }
+    }
+
+    /// Whether a text counts as one that is there.
+    fn is_given(self, text: &str) -> bool
+        ensures { result ≡ spec.is_given self text.now }
+    {
+        match self {
+            Value::ListedName => true,
+            _ => !text.is_empty(),
+        }
+    }
+
+    /// Whether a value is no text that has its form, or does not agree with what stands beside it.
+    fn is_bad_text(self, agrees: bool, value: &Tree) -> bool
+        ensures { result ≡ spec.is_bad_text self agrees (data_of value.now) }
+    {
+        match value {
+            Tree::Null => false,
+            Tree::Text(text) => {
+                let text = text.as_str();
+                self.is_given(text) && !(agrees && self.has_form(text))
+            }
+            _ => true,
+        }
+    }
+
+    fn is_bad(self, agrees: bool, value: &Tree) -> bool
+        ensures { result ≡ spec.is_bad self agrees (data_of value.now) }
+    {
+        match self {
+            Value::PreserveUnknownFields => matches!(value, Tree::Bool(true)),
+            _ => self.is_bad_text(agrees, value),
+        }
+    }
+}
+
+fn is_same_text(name: Option<&Tree>, other: Option<&Tree>) -> bool
+    ensures { result ≡ spec.same_text (option_map (λ t. data_of t.now) name.entry) (option_map (λ t. data_of t.now) other.entry) }
+{
+    match (name, other) {
+        (Some(Tree::Text(name)), Some(Tree::Text(other))) => name.as_str() == other.as_str(),
+        _ => false,
+    }
+}
+
+/// Whether one of these versions has the name.
+fn is_name_among(name: Option<&Tree>, versions: &[Tree]) -> bool
+    ensures { result ≡ spec.is_name_among (option_map (λ t. data_of t.now) name.entry) (items_of versions.now) }
+{
+    for version in versions {
+        if is_same_text(name, version.get("name")) {
+            return true;
+        }
+    }
+    false
+}
+
+fn repeats_name(versions: &[Tree]) -> bool
+    ensures { result ≡ spec.repeats_name (items_of versions.now) }
+{
+    for (i, version) in versions.iter().enumerate() {
+        if is_name_among(version.get("name"), &versions[i + 1..]) {
+            return true;
+        }
+    }
+    false
+}
+
+fn is_stored(version: &Tree) -> bool
+    ensures { result ≡ spec.is_stored (data_of version.now) }
+{
+    matches!(version.get("storage"), Some(Tree::Bool(true)))
+}
+
+/// Whether exactly one version is stored.
+fn one_stored(versions: &[Tree]) -> bool
+    ensures { result ≡ spec.one_stored (items_of versions.now) }
+{
+    let mut found = false;
+    for version in versions {
+        if is_stored(version) {
+            if found {
+                return false;
+            }
+            found = true;
+        }
+    }
+    found
+}
+
+fn repeats_version(versions: &Tree) -> bool
+    ensures { result ≡ spec.repeats_version (data_of versions.now) }
+{
+    match versions {
+        Tree::List(versions) => repeats_name(&versions.items),
+        _ => false,
+    }
+}
+
+fn stores_another_number(versions: &Tree) -> bool
+    ensures { result ≡ spec.stores_another_number (data_of versions.now) }
+{
+    match versions {
+        Tree::Null => false,
+        Tree::List(versions) => !one_stored(&versions.items),
+        _ => true,
+    }
+}
+
+fn metadata_breaks(rule: Rule, metadata: Metadata, tree: &Tree) -> bool
+    ensures { result ≡ spec.metadata_breaks rule metadata (data_of tree.now) }
+{
+    match rule {
+        Rule::MissingField => lacks(tree, &["name"]),
+        Rule::ProtectedGroup => !metadata.is_approved,
+        _ => false,
+    }
+}
+
+fn versions_break(rule: Rule, tree: &Tree) -> bool
+    ensures { result ≡ spec.versions_break rule (data_of tree.now) }
+{
+    match rule {
+        Rule::RepeatedVersion => repeats_version(tree),
+        Rule::StorageVersions => stores_another_number(tree),
+        _ => false,
+    }
+}
+
+/// Whether a part of a definition breaks a rule.
+pub(crate) fn breaks(rule: Rule, part: Part, tree: &Tree) -> bool
+    ensures { result ≡ spec.breaks rule part (data_of tree.now) }
+{
+    match part {
+        Part::Value(value, agrees) => rule.is(value.rule()) && value.is_bad(agrees, tree),
+        Part::Fields(fields) => rule.is(Rule::MissingField) && lacks_required(fields, tree),
+        Part::Metadata(metadata) => metadata_breaks(rule, metadata, tree),
+        Part::Listed(Listed::Versions) => versions_break(rule, tree),
+        Part::UnknownField => rule.is(Rule::UnknownField),
+        _ => false,
+    }
+}
