@@ -16,13 +16,13 @@ use Rattle.jtree.specs.Internal.Rising.{Among, Rising, among_left, among_right, 
 use Rattle.definition.specs.Rules.{number, all_rules}
 use Rattle.definition.specs.Parts.{item_in, member_in, below}
 use Rattle.definition.specs.Broken.{breaks}
-use Rattle.definition.specs.Faults.{IsBrokenFrom, Break, break_cmp, AreBreaks}
+use Rattle.definition.specs.Faults.{IsBroken, Break, break_cmp, AreBreaks}
 use Rattle.definition.specs.Internal.ByLevel.{here, broken_of, own, down, under, found, in_items, in_members}
 use Rattle.definition.specs.declared.part.Part.{Part}
 use Rattle.definition.specs.declared.rule.Rule.{Rule}
 
-abbrev broken : Path → Rule → Break
-broken path r = record { path = path; rule = r }
+abbrev broken : Path → Rule → Part → Break
+broken path r q = record { path = path; rule = r; part = q }
 
 abbrev Precedes : Break → Break → Type 0
 Precedes f g = break_cmp f g ≡ Less
@@ -30,20 +30,20 @@ Precedes f g = break_cmp f g ≡ Less
 -- ---- of the part itself
 
 module _ (p : Part) (d : Data) where
-  among_own : (rs : List Rule) (f : Break) → Among (broken_of p d rs) f → (f.path ≡ []) × (breaks f.rule p d ≡ true) × Among rs f.rule
+  among_own : (rs : List Rule) (f : Break) → Among (broken_of p d rs) f → (f.path ≡ []) × (breaks f.rule p d ≡ true) × Among rs f.rule × (p ≡ f.part)
   among_own [] f a = elim a [ ]
   among_own (r ∷ rs) f a = elim (bool_cases (breaks r p d)) [
-    | inl e ↦ let b : (here r ≡ f) ⊎ Among (broken_of p d rs) f = rw e at a in elim b [
-      | inl h ↦ (ap (λ x. x.path) (sym h), subst (λ x. breaks x p d ≡ true) (ap (λ x. x.rule) h) e, inl (ap (λ x. x.rule) h))
-      | inr h ↦ let x = among_own rs f h in (x.0, x.1, inr x.2)
+    | inl e ↦ let b : (here p r ≡ f) ⊎ Among (broken_of p d rs) f = rw e at a in elim b [
+      | inl h ↦ (ap (λ x. x.path) (sym h), subst (λ x. breaks x p d ≡ true) (ap (λ x. x.rule) h) e, inl (ap (λ x. x.rule) h), ap (λ x. x.part) h)
+      | inr h ↦ let x = among_own rs f h in (x.0, x.1, inr x.2, x.3)
     ]
-    | inr e ↦ let x = among_own rs f (rw e at a) in (x.0, x.1, inr x.2)
+    | inr e ↦ let x = among_own rs f (rw e at a) in (x.0, x.1, inr x.2, x.3)
   ]
 
-  own_among : (rs : List Rule) (r : Rule) → Among rs r → breaks r p d ≡ true → Among (broken_of p d rs) (here r)
+  own_among : (rs : List Rule) (r : Rule) → Among rs r → breaks r p d ≡ true → Among (broken_of p d rs) (here p r)
   own_among [] r a e = elim a [ ]
-  own_among (s ∷ rs) r (inl h) e = let same : breaks s p d ≡ true = subst (λ x. breaks x p d ≡ true) (sym h) e in rw same (inl (ap here h))
-  own_among (s ∷ rs) r (inr a) e = among_right (if breaks s p d then here s ∷ [] else []) (broken_of p d rs) (here r) (own_among rs r a e)
+  own_among (s ∷ rs) r (inl h) e = let same : breaks s p d ≡ true = subst (λ x. breaks x p d ≡ true) (sym h) e in rw same (inl (ap (here p) h))
+  own_among (s ∷ rs) r (inr a) e = among_right (if breaks s p d then here p s ∷ [] else []) (broken_of p d rs) (here p r) (own_among rs r a e)
 
 -- the numbers ascend
 abbrev Ascend : ℕ → List Rule → Type 0
@@ -214,23 +214,23 @@ own_or_below p (object ms) t f a = elim (among_parts (own p (object ms)) (in_mem
 ]
 own_or_below p _ t f a = inl a
 
-is_broken : (path : Path) (r : Rule) (p : Part) (d : Data) → IsTree d → Among (found p d) (broken path r) → IsBrokenFrom p d path r
-is_broken [] r p d t a = elim (own_or_below p d t (broken [] r) a) [
-  | inl o ↦ (among_own p d all_rules (broken [] r) o).1
+is_broken : (path : Path) (r : Rule) (q : Part) (p : Part) (d : Data) → IsTree d → Among (found p d) (broken path r q) → IsBroken p d path r q
+is_broken [] r q p d t a = elim (own_or_below p d t (broken [] r q) a) [
+  | inl o ↦ let x = among_own p d all_rules (broken [] r q) o in (x.1, x.3)
   | inr x ↦ let e : x.step ∷ x.rest.path ≡ [] = ap (λ f. f.path) x.is in cc
 ]
-is_broken (s ∷ path) r p d t a = elim (own_or_below p d t (broken (s ∷ path) r) a) [
-  | inl o ↦ let e : s ∷ path ≡ [] = (among_own p d all_rules (broken (s ∷ path) r) o).0 in cc
+is_broken (s ∷ path) r q p d t a = elim (own_or_below p d t (broken (s ∷ path) r q) a) [
+  | inl o ↦ let e : s ∷ path ≡ [] = (among_own p d all_rules (broken (s ∷ path) r q) o).0 in cc
   | inr x ↦
       let e : x.step ∷ x.rest.path ≡ s ∷ path = ap (λ f. f.path) x.is in
       let same : x.step ≡ s = cc in
       let rest_path : x.rest.path ≡ path = cc in
-      let rest : x.rest ≡ broken path r = λ i. broken (rest_path i) (ap (λ f. f.rule) x.is i) in
-      let there : part_by d s ≡ Some x.part = subst (λ q. part_by d q ≡ Some x.part) same x.there in (
+      let rest : x.rest ≡ broken path r q = λ i. broken (rest_path i) (ap (λ f. f.rule) x.is i) (ap (λ f. f.part) x.is i) in
+      let there : part_by d s ≡ Some x.part = subst (λ u. part_by d u ≡ Some x.part) same x.there in (
         x.part,
         there,
-        is_broken path r (below p d s) x.part (part_tree d s x.part t there)
-            (subst (λ q. Among (found (below p d q) x.part) (broken path r)) same (subst (Among (found (below p d x.step) x.part)) rest x.among)),
+        is_broken path r q (below p d s) x.part (part_tree d s x.part t there)
+            (subst (λ u. Among (found (below p d u) x.part) (broken path r q)) same (subst (Among (found (below p d x.step) x.part)) rest x.among)),
       )
 ]
 
@@ -245,13 +245,13 @@ deeper_found p (index i) (list ds) e g there a = among_right (own p (list ds)) (
 deeper_found p (name k) _ e g there a = cc
 deeper_found p (index i) _ e g there a = cc
 
-is_found : (path : Path) (r : Rule) (p : Part) (d : Data) → IsBrokenFrom p d path r → Among (found p d) (broken path r)
-is_found [] r p d h = own_found p d (broken [] r) (own_among p d all_rules r (listed r) h)
-is_found (s ∷ path) r p d h = deeper_found p s d h.0 (broken path r) h.1 (is_found path r (below p d s) h.0 h.2)
+is_found : (path : Path) (r : Rule) (q : Part) (p : Part) (d : Data) → IsBroken p d path r q → Among (found p d) (broken path r q)
+is_found [] r q p d h = own_found p d (broken [] r q) (subst (λ u. Among (own p d) (broken [] r u)) h.1 (own_among p d all_rules r (listed r) h.0))
+is_found (s ∷ path) r q p d h = deeper_found p s d h.0 (broken path r q) h.1 (is_found path r q (below p d s) h.0 h.2)
 
-pub all_breaks : (p : Part) (d : Data) → IsTree d → AreBreaks (IsBrokenFrom p d) (found p d)
+pub all_breaks : (p : Part) (d : Data) → IsTree d → AreBreaks (IsBroken p d) (found p d)
 all_breaks p d t = record {
-  each = each_of (λ (f : Break). IsBrokenFrom p d f.path f.rule) (found p d) (λ f a. is_broken f.path f.rule p d t a);
-  all = λ path r h. contains (found p d) (broken path r) (is_found path r p d h);
+  each = each_of (λ (f : Break). IsBroken p d f.path f.rule f.part) (found p d) (λ f a. is_broken f.path f.rule f.part p d t a);
+  all = λ path r q h. contains (found p d) (broken path r q) (is_found path r q p d h);
   ascending = all_pairs Precedes (found p d) (rising p d t);
 }

@@ -1,16 +1,17 @@
--- Which rules a part of a definition breaks (apiextensions.k8s.io/v1; k8s.io/apiextensions-apiserver, pkg/apis/apiextensions/validation).
+-- Which rules a part breaks (apiextensions.k8s.io/v1; k8s.io/apiextensions-apiserver, pkg/apis/apiextensions/validation).
 use Rattle.std.specs.Prelude.{ℕ, List, [], ◌∷◌, Bool, true, false, Option, Some, None, not, ◌&&◌, ◌||◌, ◌==◌, length, if◌then◌else◌, codes}
 use Rattle.std.specs.Str.{bytes_eq}
 use Rattle.jtree.specs.Data.{Data, null, boolean, text, list, Items, no_items, item}
 use Rattle.jtree.specs.Path.{under}
 use Rattle.judge.specs.Envelope.{is_kind_name}
-use Rattle.judge.specs.Keywords.{is_true}
-use Rattle.definition.specs.Texts.{is_among, is_name, is_group, scopes, column_types, column_formats, strategies, is_below_spec, is_below_status}
+use Rattle.definition.specs.Texts.{is_among, is_name, is_group, is_below_spec, is_below_status}
 use Rattle.definition.specs.Fields.{required}
-use Rattle.definition.specs.Parts.{is_absent}
+use Rattle.definition.specs.Reading.{is_true, is_absent}
+use Rattle.definition.specs.Schemas.{place_breaks}
 use Rattle.definition.specs.Rules.{is}
 use Rattle.definition.specs.declared.rule.Rule.{Rule}
 use Rattle.definition.specs.declared.rule.Rule.TheVariants as rule
+use Rattle.definition.specs.declared.part.Fields.TheVariants as fields
 use Rattle.definition.specs.declared.part.Listed.TheVariants as listed
 use Rattle.definition.specs.declared.part.Value.{Value}
 use Rattle.definition.specs.declared.part.Value.TheVariants as value
@@ -51,21 +52,32 @@ abbrev pub is_simple_path : List ℕ → Bool
 is_simple_path [] = false
 is_simple_path (b ∷ bs) = b == 46
 
+-- the texts that a value may be, where they are few
+abbrev pub choices : Value → List (List ℕ)
+choices value.Scope = codes "Cluster" ∷ codes "Namespaced" ∷ []
+choices value.ColumnType = codes "boolean" ∷ codes "date" ∷ codes "integer" ∷ codes "number" ∷ codes "string" ∷ []
+choices value.ColumnFormat = codes "byte" ∷ codes "date" ∷ codes "date-time" ∷ codes "double" ∷ codes "float" ∷ codes "int32" ∷ codes "int64" ∷ codes "password" ∷ []
+choices value.Strategy = codes "None" ∷ codes "Webhook" ∷ []
+choices _ = []
+
+abbrev pub is_choice : Value → List ℕ → Bool
+is_choice v t = is_among t (choices v)
+
 -- the text has the form of the value; `kind` and `listKind` in any case
 abbrev pub has_form : Value → List ℕ → Bool
 has_form value.Group t = is_group t
-has_form value.Scope t = is_among t scopes
+has_form value.Scope t = is_choice value.Scope t
 has_form value.Name t = is_name t
 has_form value.ListedName t = is_name t
 has_form value.Kind t = is_kind_name t
 has_form value.ListKind t = is_kind_name t
-has_form value.ColumnType t = is_among t column_types
-has_form value.ColumnFormat t = is_among t column_formats
+has_form value.ColumnType t = is_choice value.ColumnType t
+has_form value.ColumnFormat t = is_choice value.ColumnFormat t
 has_form value.ColumnPath t = is_simple_path t
 has_form value.SpecReplicasPath t = is_below_spec t
 has_form value.StatusReplicasPath t = is_below_status t
 has_form value.LabelSelectorPath t = is_below_spec t || is_below_status t
-has_form value.Strategy t = is_among t strategies
+has_form value.Strategy t = is_choice value.Strategy t
 has_form _ t = true
 
 -- an empty text is absent, but in a list it is a name
@@ -123,7 +135,7 @@ stores_another_number _ = true
 -- ---- all rules
 
 abbrev pub metadata_breaks : Rule → Metadata → Data → Bool
-metadata_breaks rule.MissingField m d = lacks (codes "name" ∷ []) d
+metadata_breaks rule.MissingField m d = lacks (required fields.Metadata) d
 metadata_breaks rule.ProtectedGroup m d = not m.is_approved
 metadata_breaks _ m d = false
 
@@ -132,11 +144,12 @@ versions_break rule.RepeatedVersion d = repeats_version d
 versions_break rule.StorageVersions d = stores_another_number d
 versions_break _ d = false
 
--- a part of the definition breaks the rule
+-- a part breaks the rule
 abbrev pub breaks : Rule → Part → Data → Bool
 breaks r (part.Value v agrees) d = is r (rule_of v) && is_bad v agrees d
 breaks r (part.Fields o) d = is r rule.MissingField && lacks (required o) d
 breaks r (part.Metadata m) d = metadata_breaks r m d
 breaks r (part.Listed listed.Versions) d = versions_break r d
-breaks r part.UnknownField d = is r rule.UnknownField
+breaks r (part.UnknownField o) d = is r rule.UnknownField
+breaks r (part.Place p) d = place_breaks r p d
 breaks r _ d = false

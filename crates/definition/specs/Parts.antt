@@ -1,33 +1,25 @@
--- What the parts of a definition are: which one stands where, and what it has to agree with (apiextensions.k8s.io/v1).
-use Rattle.std.specs.Prelude.{ℕ, List, [], ◌∷◌, ◌++◌, length, Bool, true, false, Option, Some, None, if◌then◌else◌, not, ◌&&◌, ◌||◌, ◌==◌, nat_le, codes}
+-- What the parts of a definition and of a schema are: which one stands where, and what is known of it from there (apiextensions.k8s.io/v1).
+use Rattle.std.specs.Prelude.{ℕ, List, [], ◌∷◌, ◌++◌, length, Bool, true, false, if◌then◌else◌, not, ◌&&◌, ◌||◌, nat_le, codes}
 use Rattle.std.specs.Str.{bytes_eq}
-use Rattle.jtree.specs.Data.{Data, null, text, list, object, Members}
+use Rattle.jtree.specs.Data.{Data, list, object, Members}
 use Rattle.jtree.specs.Path.{Step, name, index, member_at, under2, under3}
 use Rattle.definition.specs.Texts.{is_among, is_protected}
-use Rattle.definition.specs.Fields.{metadata_fields, has_field}
+use Rattle.definition.specs.Reading.{is_true, is_there, is_absent, text_or_empty}
+use Rattle.definition.specs.Fields.{has_field}
 use Rattle.definition.specs.declared.part.Fields.{Fields}
 use Rattle.definition.specs.declared.part.Fields.TheVariants.{Definition, Spec, Names, Version, Validation, Subresources, Scale, Column, SelectableField, Conversion, Webhook, ClientConfig, Service, Schema, ExternalDocs, ValidationRule}
+use Rattle.definition.specs.declared.part.Fields.TheVariants as fields
 use Rattle.definition.specs.declared.part.Listed.{Listed}
 use Rattle.definition.specs.declared.part.Listed.TheVariants as listed
 use Rattle.definition.specs.declared.part.Value.{Value}
 use Rattle.definition.specs.declared.part.Value.TheVariants as value
 use Rattle.definition.specs.declared.part.Metadata.{Metadata}
+use Rattle.definition.specs.declared.part.Needed.{Needed}
+use Rattle.definition.specs.declared.part.Needed.TheVariants as needed
+use Rattle.definition.specs.declared.part.Place.{Place}
+use Rattle.definition.specs.declared.part.Properties.{Properties}
 use Rattle.definition.specs.declared.part.Part.{Part}
 use Rattle.definition.specs.declared.part.Part.TheVariants as part
-
--- ---- values
-
--- null and an empty text count as absent
-abbrev pub is_absent : Option Data → Bool
-is_absent None = true
-is_absent (Some null) = true
-is_absent (Some (text t)) = length t == 0
-is_absent _ = false
-
--- the text, or an empty one
-abbrev pub text_or_empty : Option Data → List ℕ
-text_or_empty (Some (text t)) = t
-text_or_empty _ = []
 
 -- ---- what has to agree
 
@@ -55,7 +47,7 @@ is_other_kind ms = not (bytes_eq (text_or_empty (member_at (codes "listKind") ms
 abbrev pub has_its_webhook : Members → Bool
 has_its_webhook ms =
     if bytes_eq (text_or_empty (member_at (codes "strategy") ms)) (codes "Webhook")
-    then not (is_absent (member_at (codes "webhook") ms)) else is_absent (member_at (codes "webhook") ms)
+    then is_there (member_at (codes "webhook") ms) else not (is_there (member_at (codes "webhook") ms))
 
 -- ---- the parts of an object
 
@@ -147,7 +139,45 @@ field ClientConfig ms k = only_in (codes "service") Service k
 field Schema ms k = in_schema k
 field _ ms k = part.Other
 
--- ---- the parts of a part
+-- ---- the parts of a schema that is judged
+
+-- a schema in another, and one in a branch of a junctor
+abbrev pub part_place : Place → Place
+part_place p = record { is_root = false; has_status = false; is_inside = p.is_inside; is_in_metadata = p.is_in_metadata; needed = needed.Anything }
+
+abbrev pub branch_place : Place → Place
+branch_place p = record { is_root = false; has_status = false; is_inside = true; is_in_metadata = p.is_in_metadata; needed = needed.Anything }
+
+-- a resource is the root, and what is embedded in one, outside junctors
+abbrev pub properties_of : Place → Members → Properties
+properties_of p ms = record {
+  place = part_place p;
+  is_resource = not p.is_inside && (p.is_root || is_true (member_at (codes "x-kubernetes-embedded-resource") ms));
+  is_root = p.is_root;
+}
+
+abbrev pub in_place : Place → Members → List ℕ → Part
+in_place p ms k =
+    if is_among k (codes "additionalProperties" ∷ codes "items" ∷ []) then part.Place (part_place p) else
+    if is_among k (codes "allOf" ∷ codes "anyOf" ∷ codes "oneOf" ∷ []) then part.Branches (branch_place p) else
+    if bytes_eq k (codes "not") then part.Place (branch_place p) else
+    if bytes_eq k (codes "properties") then part.Properties (properties_of p ms) else part.Other
+
+-- What `metadata` of the whole resource has to be is said of every structural schema, and not here.
+abbrev pub metadata_needs : Properties → Needed
+metadata_needs q = if q.is_root then needed.Anything else needed.Object
+
+abbrev pub place_in_envelope : Place → Needed → Place
+place_in_envelope p n = record { is_root = false; has_status = false; is_inside = p.is_inside; is_in_metadata = true; needed = n }
+
+abbrev pub property_place : Properties → List ℕ → Place
+property_place q k =
+    if q.is_resource then
+    (if is_among k (codes "apiVersion" ∷ codes "kind" ∷ []) then place_in_envelope q.place needed.String else
+    if bytes_eq k (codes "metadata") then place_in_envelope q.place (metadata_needs q) else q.place)
+    else q.place
+
+-- ---- the parts of any part
 
 abbrev pub item_of : Listed → Part
 item_of listed.Versions = part.Fields Version
@@ -159,22 +189,25 @@ item_of listed.ValidationRules = part.Fields ValidationRule
 
 abbrev pub item_in : Part → Part
 item_in (part.Listed l) = item_of l
+item_in (part.Branches p) = part.Place p
 item_in _ = part.Other
 
--- a field that the object does not have is an unknown one
+-- what an object has no field for is unknown
 abbrev pub member_of : Fields → Members → List ℕ → Part
-member_of o ms k = if has_field o k then field o ms k else part.UnknownField
+member_of o ms k = if has_field o k then field o ms k else part.UnknownField o
 
 abbrev pub member_of_metadata : Metadata → List ℕ → Part
-member_of_metadata m k = if is_among k metadata_fields then in_metadata m k else part.UnknownField
+member_of_metadata m k = if has_field fields.Metadata k then in_metadata m k else part.UnknownField fields.Metadata
 
 abbrev pub member_in : Part → Members → List ℕ → Part
 member_in (part.Fields o) ms k = member_of o ms k
 member_in (part.Metadata m) ms k = member_of_metadata m k
 member_in part.NamedSchemas ms k = part.Fields Schema
+member_in (part.Place p) ms k = in_place p ms k
+member_in (part.Properties q) ms k = part.Place (property_place q k)
 member_in _ ms k = part.Other
 
--- what stands at a step from a part of the definition
+-- what stands at a step from a part
 abbrev pub below : Part → Data → Step → Part
 below p (object ms) (name k) = member_in p ms k
 below p (list ds) (index i) = item_in p

@@ -36,18 +36,6 @@ text_ends t u = ends_with eqb t u
 abbrev pub is_protected : List ℕ → Bool
 is_protected t = is_among t (codes "k8s.io" ∷ codes "kubernetes.io" ∷ []) || (text_ends t (codes ".k8s.io") || text_ends t (codes ".kubernetes.io"))
 
-abbrev pub scopes : List (List ℕ)
-scopes = codes "Cluster" ∷ codes "Namespaced" ∷ []
-
-abbrev pub column_types : List (List ℕ)
-column_types = codes "integer" ∷ codes "number" ∷ codes "string" ∷ codes "boolean" ∷ codes "date" ∷ []
-
-abbrev pub column_formats : List (List ℕ)
-column_formats = codes "int32" ∷ codes "int64" ∷ codes "float" ∷ codes "double" ∷ codes "byte" ∷ codes "date" ∷ codes "date-time" ∷ codes "password" ∷ []
-
-abbrev pub strategies : List (List ℕ)
-strategies = codes "None" ∷ codes "Webhook" ∷ []
-
 -- the path leads below `spec`, or below `status`
 abbrev pub is_below_spec : List ℕ → Bool
 is_below_spec t = text_begins t (codes ".spec.")

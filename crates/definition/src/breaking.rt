@@ -1,15 +1,13 @@
-//! Which rules a part of a definition breaks.
+//! Which rules a part breaks.
 ghost use Rattle.std.specs.Prelude.{◌≡◌, option_map};
 ghost use Rattle.jtree.specs.View.{data_of, items_of};
 ghost use Rattle.definition.specs.Broken as spec;
+ghost use Rattle.definition.specs.Fields.{texts_at};
 
-use crate::fields::{lacks, lacks_required};
-use crate::part::{Listed, Metadata, Part, Value};
+use crate::part::{Fields, Listed, Metadata, Part, Value};
 use crate::rule::Rule;
-use crate::texts::{
-    is_below_spec, is_below_status, is_column_format, is_column_type, is_group, is_name, is_scope,
-    is_simple_path, is_strategy,
-};
+use crate::schemas::place_breaks;
+use crate::texts::{is_below_spec, is_below_status, is_group, is_name, is_one_of, is_simple_path};
 use jtree::Tree;
 use judge::is_kind_name;
 
@@ -32,22 +30,49 @@ impl Value {
         }
     }
 
+    /// The texts that the value may be, where they are few, by their bytes. None where it has another form.
+    pub fn choices(self) -> &'static [&'static str]
+        ensures { texts_at result.now ≡ spec.choices self }
+    {
+        match self {
+            Value::Scope => &["Cluster", "Namespaced"],
+            Value::ColumnType => &["boolean", "date", "integer", "number", "string"],
+            Value::ColumnFormat => &[
+                "byte",
+                "date",
+                "date-time",
+                "double",
+                "float",
+                "int32",
+                "int64",
+                "password",
+            ],
+            Value::Strategy => &["None", "Webhook"],
+            _ => &[],
+        }
+    }
+
+    fn is_choice(self, text: &str) -> bool
+        ensures { result ≡ spec.is_choice self text.now }
+    {
+        is_one_of(text, self.choices())
+    }
+
     /// Whether a text has the form of the value.
     fn has_form(self, text: &str) -> bool
         ensures { result ≡ spec.has_form self text.now }
     {
         match self {
             Value::Group => is_group(text),
-            Value::Scope => is_scope(text),
             Value::Name | Value::ListedName => is_name(text),
             Value::Kind | Value::ListKind => is_kind_name(text),
-            Value::ColumnType => is_column_type(text),
-            Value::ColumnFormat => is_column_format(text),
             Value::ColumnPath => is_simple_path(text.as_bytes()),
             Value::SpecReplicasPath => is_below_spec(text),
             Value::StatusReplicasPath => is_below_status(text),
             Value::LabelSelectorPath => is_below_spec(text) || is_below_status(text),
-            Value::Strategy => is_strategy(text),
+            Value::Scope | Value::ColumnType | Value::ColumnFormat | Value::Strategy => {
+                self.is_choice(text)
+            }
             _ => true,
         }
     }
@@ -163,7 +188,7 @@ fn metadata_breaks(rule: Rule, metadata: Metadata, tree: &Tree) -> bool
     ensures { result ≡ spec.metadata_breaks rule metadata (data_of tree.now) }
 {
     match rule {
-        Rule::MissingField => lacks(tree, &["name"]),
+        Rule::MissingField => Fields::Metadata.lacks(tree),
         Rule::ProtectedGroup => !metadata.is_approved,
         _ => false,
     }
@@ -179,16 +204,17 @@ fn versions_break(rule: Rule, tree: &Tree) -> bool
     }
 }
 
-/// Whether a part of a definition breaks a rule.
+/// Whether a part breaks a rule.
 pub(crate) fn breaks(rule: Rule, part: Part, tree: &Tree) -> bool
     ensures { result ≡ spec.breaks rule part (data_of tree.now) }
 {
     match part {
         Part::Value(value, agrees) => rule.is(value.rule()) && value.is_bad(agrees, tree),
-        Part::Fields(fields) => rule.is(Rule::MissingField) && lacks_required(fields, tree),
+        Part::Fields(fields) => rule.is(Rule::MissingField) && fields.lacks(tree),
         Part::Metadata(metadata) => metadata_breaks(rule, metadata, tree),
         Part::Listed(Listed::Versions) => versions_break(rule, tree),
-        Part::UnknownField => rule.is(Rule::UnknownField),
+        Part::UnknownField(_) => rule.is(Rule::UnknownField),
+        Part::Place(place) => place_breaks(rule, place, tree),
         _ => false,
     }
 }

@@ -1,29 +1,31 @@
-//! All faults of a definition, in order.
+//! All faults of a definition, and of a schema, in order.
 ghost use Rattle.std.specs.Prelude.{◌≡◌, ◌++◌, ◌∷◌, [], OnOk, IfOk, string_bytes};
 ghost use Rattle.jtree.specs.Path.{name as name_step, index as index_step};
 ghost use Rattle.jtree.specs.Pointer.{name_token, index_token};
 ghost use Rattle.jtree.specs.View.{data_of};
-ghost use Rattle.definition.specs.Faults.{AreFaults};
+ghost use Rattle.definition.specs.Faults.{AreFaults, AreSchemaFaults, AreFaultsFrom};
 ghost use Rattle.definition.specs.Parts.{item_in as item_in_of, member_in as member_in_of};
 ghost use Rattle.definition.specs.Internal.ByLevel.{here, broken_of, own as own_of, found, in_items, in_members, under, progress, added};
 
 use crate::breaking::breaks;
-use crate::part::{Fields, Part};
+use crate::part::{Fields, Part, Place};
 use crate::parts::{item_in, member_in};
 use crate::rule::{Rule, all_rules};
 use jtree::{Items, Members, Tree};
 use std::alloc::{AllocError, Global};
 
-/// A rule that is broken in a definition.
+/// A rule that is broken in a definition or in a schema, and where.
 #[derive(Drop)]
 pub struct Fault {
-    /// The JSON pointer of the part that breaks it, counted from the whole document (RFC 6901).
+    /// The JSON pointer of the part that breaks it, counted from the whole document or the whole schema (RFC 6901).
     pub pointer: String,
     /// The rule.
     pub rule: Rule,
+    /// What the part is.
+    pub part: Part,
 }
 
-/// How far the walk over a definition has come.
+/// How far a walk has come.
 #[derive(Drop)]
 struct Walk {
     /// The pointer of the part.
@@ -34,30 +36,57 @@ struct Walk {
 
 impl Walk {
     /// Adds a rule that the part breaks.
-    fn add(&mut self, rule: Rule) -> Result<(), AllocError>
-        ensures { OnOk result (progress self.new ≡ added (progress self.old) (here rule ∷ [])) }
+    fn add(&mut self, part: Part, rule: Rule) -> Result<(), AllocError>
+        ensures { OnOk result (progress self.new ≡ added (progress self.old) (here part rule ∷ [])) }
     {
         let pointer = self.pointer.clone()?;
-        self.found.push(Fault { pointer, rule })?;
+        self.found.push(Fault {
+            pointer,
+            rule,
+            part,
+        })?;
         Ok(())
     }
 }
 
-/// All faults of a CustomResourceDefinition (apiextensions.k8s.io/v1) as the API server finds them before it looks at what the schemas ask:
-/// each pair of a path and a rule once, in path order and then by number. `Err` where an allocation fails.
+/// All faults of a CustomResourceDefinition (apiextensions.k8s.io/v1), those of [`schema_faults`] aside: each pair of a path and a rule
+/// once, in path order and then by number. Pointers begin at the document's root. `Err` where an allocation fails.
 ///
-/// `document` is read with all its numbers. A field that is null or an empty text counts as absent. Fields that no rule speaks of may have
-/// any value. The work is linear in the document and the pointers of the faults, but for the names of versions, each of which is compared
-/// with those after it.
+/// A field that is null or an empty text counts as absent. Fields that no rule speaks of may have any value. Of a schema it is asked, at
+/// any depth, whether its keywords are known. The work is linear in the document and the pointers of the faults, but for the names of
+/// versions, each of which is compared with those after it.
 pub fn faults(alloc: Global, document: &Tree) -> Result<Vec<Fault>, AllocError>
     ensures { IfOk result (λ found. AreFaults (data_of document.now) found.items) }
 {
-    document.reveal_invariant();
+    faults_from(alloc, Part::Fields(Fields::Definition), document)
+}
+
+/// All faults of the schema of a resource as it is written (apiextensions.k8s.io/v1, JSONSchemaProps), with the subresource `status` or
+/// without it: each pair of a path and a rule once, in path order and then by number. Pointers begin at the schema itself. `Err` where an
+/// allocation fails.
+///
+/// What the rules of `schema` say already is not asked, nor what a keyword that is not supported has in it. The work is linear in the
+/// schema and the pointers of the faults.
+pub fn schema_faults(
+    alloc: Global,
+    schema: &Tree,
+    has_status: bool,
+) -> Result<Vec<Fault>, AllocError>
+    ensures { IfOk result (λ found. AreSchemaFaults has_status (data_of schema.now) found.items) }
+{
+    faults_from(alloc, Part::Place(Place::root(has_status)), schema)
+}
+
+/// All faults from a part on.
+fn faults_from(alloc: Global, part: Part, tree: &Tree) -> Result<Vec<Fault>, AllocError>
+    ensures { IfOk result (λ found. AreFaultsFrom part (data_of tree.now) found.items) }
+{
+    tree.reveal_invariant();
     let mut walk = Walk {
         pointer: String::new(alloc),
         found: Vec::new(alloc),
     };
-    add_part(&mut walk, Part::Fields(Fields::Definition), document)?;
+    add_part(&mut walk, part, tree)?;
     Ok(walk.found)
 }
 
@@ -67,7 +96,7 @@ fn add_broken(walk: &mut Walk, part: Part, tree: &Tree, rules: &[Rule]) -> Resul
 {
     for rule in rules {
         if breaks(*rule, part, tree) {
-            walk.add(*rule)?;
+            walk.add(part, *rule)?;
         }
     }
     Ok(())

@@ -17,8 +17,12 @@ mod fields;
 mod finding;
 mod part;
 mod parts;
+mod places;
+mod reading;
 mod rule;
+mod schemas;
 mod texts;
 
-pub use finding::{Fault, faults};
+pub use finding::{Fault, faults, schema_faults};
+pub use part::{Fields, Listed, Metadata, Needed, Part, Place, Properties, Value};
 pub use rule::Rule;

@@ -1,10 +1,12 @@
-//! The parts of a definition.
+//! The parts of a definition and of a schema.
 
 /// An object of a definition whose fields are known (apiextensions.k8s.io/v1).
 #[derive(Clone, Copy, Drop)]
 pub enum Fields {
     /// The CustomResourceDefinition itself.
     Definition,
+    /// Its `metadata` (ObjectMeta).
+    Metadata,
     /// Its `spec`.
     Spec,
     /// The `names` of the resources.
@@ -40,13 +42,17 @@ pub enum Fields {
 /// A list of a definition.
 #[derive(Clone, Copy, Drop)]
 pub enum Listed {
+    /// `versions`
     Versions,
+    /// `additionalPrinterColumns`
     Columns,
+    /// `selectableFields`
     SelectableFields,
-    /// The short names or the categories.
+    /// `shortNames` or `categories`
     Names,
-    /// The schemas of `allOf`, `anyOf` or `oneOf`.
+    /// `allOf`, `anyOf` or `oneOf`
     Schemas,
+    /// `x-kubernetes-validations`
     ValidationRules,
 }
 
@@ -55,25 +61,33 @@ pub enum Listed {
 pub enum Value {
     /// `metadata.name`
     DefinitionName,
+    /// `spec.group`
     Group,
+    /// `spec.scope`
     Scope,
-    /// The `plural` or `singular` of the names, or the name of a version.
+    /// `plural` or `singular`, or the name of a version.
     Name,
-    /// One of the short names or of the categories.
+    /// One of `shortNames` or of `categories`.
     ListedName,
+    /// `spec.names.kind`
     Kind,
+    /// `spec.names.listKind`
     ListKind,
+    /// `spec.preserveUnknownFields`
     PreserveUnknownFields,
+    /// The type of a printer column.
     ColumnType,
+    /// The format of a printer column.
     ColumnFormat,
     /// The path of a printer column.
     ColumnPath,
-    /// Where `scale` finds the replicas that are wanted.
+    /// Where `scale` finds how many replicas are wanted.
     SpecReplicasPath,
-    /// Where `scale` finds the replicas that are there.
+    /// Where `scale` finds how many replicas there are.
     StatusReplicasPath,
+    /// Where `scale` finds the selector of the replicas.
     LabelSelectorPath,
-    /// The `strategy` of a conversion.
+    /// The strategy of a conversion.
     Strategy,
 }
 
@@ -86,20 +100,64 @@ pub struct Metadata {
     pub is_approved: bool,
 }
 
-/// What a part of a definition is.
+/// The type that a schema has to have by its place.
+#[derive(Clone, Copy, Drop)]
+pub enum Needed {
+    /// Any.
+    Anything,
+    /// `string`, as `apiVersion` and `kind` of a resource.
+    String,
+    /// `object`, as `metadata` of an embedded resource.
+    Object,
+}
+
+/// What is known of a schema from where it stands.
+#[derive(Clone, Copy, Drop)]
+pub struct Place {
+    /// It is the schema of the whole resource.
+    pub is_root: bool,
+    /// It is so, and the resource has the subresource `status`.
+    pub has_status: bool,
+    /// It is in a branch of a junctor: `allOf`, `anyOf`, `oneOf` or `not`.
+    pub is_inside: bool,
+    /// It is that of `apiVersion`, `kind` or `metadata` of a resource, or below one.
+    pub is_in_metadata: bool,
+    /// The type that it has to have.
+    pub needed: Needed,
+}
+
+/// What is known of the schemas by name under `properties`.
+#[derive(Clone, Copy, Drop)]
+pub struct Properties {
+    /// A schema among them, but for what its name says.
+    pub place: Place,
+    /// They are those of a resource: of the root, or of an embedded one.
+    pub is_resource: bool,
+    /// They are those of the root.
+    pub is_root: bool,
+}
+
+/// What a part of a definition, or of a schema in it, is.
 #[derive(Clone, Copy, Drop)]
 pub enum Part {
     /// The `metadata` of the definition.
     Metadata(Metadata),
     /// Another object whose fields are known.
     Fields(Fields),
+    /// A list.
     Listed(Listed),
-    /// Schemas by name.
+    /// Schemas by name, of which the fields alone are judged.
     NamedSchemas,
     /// A value, and whether it agrees with what stands beside it.
     Value(Value, bool),
-    /// A field that the object does not have.
-    UnknownField,
+    /// What an object of this kind has no field for.
+    UnknownField(Fields),
+    /// A schema.
+    Place(Place),
+    /// Schemas in the list of a junctor.
+    Branches(Place),
+    /// Schemas by name.
+    Properties(Properties),
     /// Anything else.
     Other,
 }

@@ -1,35 +1,14 @@
 //! What stands where in a definition.
-ghost use Rattle.std.specs.Prelude.{◌≡◌, ℕ, List, option_map, codes};
+ghost use Rattle.std.specs.Prelude.{◌≡◌, option_map};
 ghost use Rattle.jtree.specs.Data.{object};
 ghost use Rattle.jtree.specs.Path.{under2, under3};
 ghost use Rattle.jtree.specs.View.{data_of};
 ghost use Rattle.definition.specs.Parts as spec;
 
-use crate::fields::{has_field, is_metadata_field};
 use crate::part::{Fields, Listed, Metadata, Part, Value};
+use crate::reading::{is_absent, is_there, text_or_empty};
 use crate::texts::{is_joined, is_one_of, is_protected};
 use jtree::{Members, Tree};
-
-/// Whether a field is null, an empty text, or not there.
-pub(crate) fn is_absent(field: Option<&Tree>) -> bool
-    ensures { result ≡ spec.is_absent (option_map (λ t. data_of t.now) field.entry) }
-{
-    match field {
-        None | Some(Tree::Null) => true,
-        Some(Tree::Text(text)) => text.as_str().is_empty(),
-        _ => false,
-    }
-}
-
-/// The text of a field, or an empty one.
-fn text_or_empty(field: Option<&Tree>) -> &str
-    ensures { result.now ≡ spec.text_or_empty (option_map (λ t. data_of t.now) field.entry) }
-{
-    match field {
-        Some(Tree::Text(text)) => text.as_str(),
-        _ => "",
-    }
-}
 
 /// What is under a name below another.
 fn get2<'t>(members: &'t Members, outer: &str, inner: &str) -> Option<&'t Tree>
@@ -99,11 +78,11 @@ fn is_other_kind(names: &Members) -> bool
 fn has_its_webhook(conversion: &Members) -> bool
     ensures { result ≡ spec.has_its_webhook conversion.now }
 {
-    let is_there = !is_absent(conversion.get("webhook"));
+    let has_webhook = is_there(conversion.get("webhook"));
     if text_or_empty(conversion.get("strategy")) == "Webhook" {
-        is_there
+        has_webhook
     } else {
-        !is_there
+        !has_webhook
     }
 }
 
@@ -296,6 +275,7 @@ pub(crate) fn item_in(part: Part) -> Part
 {
     match part {
         Part::Listed(list) => item_of(list),
+        Part::Branches(place) => Part::Place(place),
         _ => Part::Other,
     }
 }
@@ -308,6 +288,8 @@ pub(crate) fn member_in(part: Part, members: &Members, name: &str) -> Part
         Part::Fields(fields) => member_of(fields, members, name),
         Part::Metadata(metadata) => member_of_metadata(metadata, name),
         Part::NamedSchemas => Part::Fields(Fields::Schema),
+        Part::Place(place) => place.part_under(members, name),
+        Part::Properties(properties) => Part::Place(properties.place_of(name)),
         _ => Part::Other,
     }
 }
@@ -315,19 +297,19 @@ pub(crate) fn member_in(part: Part, members: &Members, name: &str) -> Part
 fn member_of(fields: Fields, members: &Members, name: &str) -> Part
     ensures { result ≡ spec.member_of fields members.now name.now }
 {
-    if has_field(fields, name) {
+    if fields.has(name) {
         field(fields, members, name)
     } else {
-        Part::UnknownField
+        Part::UnknownField(fields)
     }
 }
 
 fn member_of_metadata(metadata: Metadata, name: &str) -> Part
     ensures { result ≡ spec.member_of_metadata metadata name.now }
 {
-    if is_metadata_field(name) {
+    if Fields::Metadata.has(name) {
         in_metadata(metadata, name)
     } else {
-        Part::UnknownField
+        Part::UnknownField(Fields::Metadata)
     }
 }

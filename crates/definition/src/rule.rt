@@ -1,8 +1,8 @@
-//! The rules of definitions.
+//! The rules of definitions and of the schemas in them.
 ghost use Rattle.std.specs.Prelude.{◌≡◌};
 ghost use Rattle.definition.specs.Rules.{number as number_of, is as is_of, all_rules as all_rules_of};
 
-/// A rule of definitions, which the API server has beside those of `schema` (apiextensions.k8s.io/v1).
+/// A rule of definitions that the API server has beside those of `schema` (apiextensions.k8s.io/v1).
 #[derive(Clone, Copy, Debug, PartialEq, Eq, Drop)]
 pub enum Rule {
     /// A field that the object does not have.
@@ -31,6 +31,24 @@ pub enum Rule {
     BadScalePath,
     /// The strategy of a conversion is unknown, or does not go with `webhook`.
     BadConversion,
+    /// A schema has a type that is none of the six.
+    UnknownType,
+    /// The schema of the whole resource has another type than `object`, accepts null, or has `additionalProperties`.
+    BadRoot,
+    /// The schema of a whole resource with the subresource `status` has a keyword that does not go with it.
+    BesideStatus,
+    /// A schema of type `array` has no `items`.
+    MissingItems,
+    /// `x-kubernetes-preserve-unknown-fields` is false, and not absent.
+    PreserveFalse,
+    /// An embedded resource is no object with properties, or stands in the metadata of another.
+    BadResource,
+    /// A schema has a keyword of OpenAPI or JSON Schema that is not supported.
+    UnsupportedKeyword,
+    /// A schema is int-or-string, and preserves unknown fields or is an embedded resource.
+    BadIntOrString,
+    /// `apiVersion` or `kind` of a resource is no string, or the `metadata` of an embedded one no object.
+    BadEnvelope,
 }
 
 impl Rule {
@@ -52,6 +70,15 @@ impl Rule {
             Rule::BadColumn => 13,
             Rule::BadScalePath => 14,
             Rule::BadConversion => 15,
+            Rule::UnknownType => 16,
+            Rule::BadRoot => 17,
+            Rule::BesideStatus => 18,
+            Rule::MissingItems => 19,
+            Rule::PreserveFalse => 20,
+            Rule::BadResource => 21,
+            Rule::UnsupportedKeyword => 22,
+            Rule::BadIntOrString => 23,
+            Rule::BadEnvelope => 24,
         }
     }
 
@@ -64,7 +91,7 @@ impl Rule {
 }
 
 /// All rules, by their numbers.
-pub(crate) fn all_rules() -> [Rule; 13]
+pub(crate) fn all_rules() -> [Rule; 22]
     ensures { result ≡ all_rules_of }
 {
     [
@@ -81,5 +108,14 @@ pub(crate) fn all_rules() -> [Rule; 13]
         Rule::BadColumn,
         Rule::BadScalePath,
         Rule::BadConversion,
+        Rule::UnknownType,
+        Rule::BadRoot,
+        Rule::BesideStatus,
+        Rule::MissingItems,
+        Rule::PreserveFalse,
+        Rule::BadResource,
+        Rule::UnsupportedKeyword,
+        Rule::BadIntOrString,
+        Rule::BadEnvelope,
     ]
 }

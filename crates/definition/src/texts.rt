@@ -1,6 +1,7 @@
 //! Forms of the texts in a definition.
-ghost use Rattle.std.specs.Prelude.{◌≡◌, ◌++◌, ◌∷◌, map};
+ghost use Rattle.std.specs.Prelude.{◌≡◌, ◌++◌, ◌∷◌};
 ghost use Rattle.std.specs.Str.{bytes_eq};
+ghost use Rattle.definition.specs.Fields.{texts_at};
 ghost use Rattle.definition.specs.Texts as spec;
 ghost use Rattle.definition.specs.Broken.{is_simple_path as is_simple_path_of};
 
@@ -8,7 +9,7 @@ use judge::{Letters, is_label, is_subdomain};
 
 /// Whether a text is one of these.
 pub(crate) fn is_one_of(text: &str, texts: &[&str]) -> bool
-    ensures { result ≡ spec.is_among text.now (map (λ w. w.now) texts.now) }
+    ensures { result ≡ spec.is_among text.now (texts_at texts.now) }
 {
     for other in texts {
         if text == *other {
@@ -66,42 +67,6 @@ fn begins_with(text: &str, beginning: &str) -> bool
     ensures { result ≡ spec.text_begins text.now beginning.now }
 {
     text.starts_with(beginning)
-}
-
-pub(crate) fn is_scope(text: &str) -> bool
-    ensures { result ≡ spec.is_among text.now spec.scopes }
-{
-    is_one_of(text, &["Cluster", "Namespaced"])
-}
-
-pub(crate) fn is_column_type(text: &str) -> bool
-    ensures { result ≡ spec.is_among text.now spec.column_types }
-{
-    is_one_of(text, &["integer", "number", "string", "boolean", "date"])
-}
-
-pub(crate) fn is_column_format(text: &str) -> bool
-    ensures { result ≡ spec.is_among text.now spec.column_formats }
-{
-    is_one_of(
-        text,
-        &[
-            "int32",
-            "int64",
-            "float",
-            "double",
-            "byte",
-            "date",
-            "date-time",
-            "password",
-        ],
-    )
-}
-
-pub(crate) fn is_strategy(text: &str) -> bool
-    ensures { result ≡ spec.is_among text.now spec.strategies }
-{
-    is_one_of(text, &["None", "Webhook"])
 }
 
 /// Whether a path begins with a dot.

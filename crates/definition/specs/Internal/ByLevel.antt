@@ -13,12 +13,12 @@ use Rattle.definition.specs.declared.rule.Rule.{Rule}
 
 -- ---- of the part itself
 
-abbrev pub here : Rule → Break
-here r = record { path = []; rule = r }
+abbrev pub here : Part → Rule → Break
+here p r = record { path = []; rule = r; part = p }
 
 abbrev pub broken_of : Part → Data → List Rule → List Break
 broken_of p d [] = []
-broken_of p d (r ∷ rs) = (if breaks r p d then here r ∷ [] else []) ++ broken_of p d rs
+broken_of p d (r ∷ rs) = (if breaks r p d then here p r ∷ [] else []) ++ broken_of p d rs
 
 abbrev pub own : Part → Data → List Break
 own p d = broken_of p d all_rules
@@ -26,7 +26,7 @@ own p d = broken_of p d all_rules
 -- ---- of what is below
 
 abbrev pub down : Step → Break → Break
-down s f = record { path = s ∷ f.path; rule = f.rule }
+down s f = record { path = s ∷ f.path; rule = f.rule; part = f.part }
 
 abbrev pub under : Step → List Break → List Break
 under s fs = map (down s) fs
@@ -56,7 +56,7 @@ abbrev pub progress : Walk → Progress
 progress w = record { pointer = string_bytes w.pointer; reported = map reported w.found.items }
 
 abbrev pub reported_at : List ℕ → Break → Reported
-reported_at at f = record { pointer = at ++ pointer f.path; rule = f.rule }
+reported_at at f = record { pointer = at ++ pointer f.path; rule = f.rule; part = f.part }
 
 abbrev pub added : Progress → List Break → Progress
 added p fs = record { pointer = p.pointer; reported = p.reported ++ map (reported_at p.pointer) fs }
