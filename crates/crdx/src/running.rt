@@ -22,6 +22,7 @@ mod objects;
 mod refusal;
 mod reporting;
 mod sampling;
+mod schema_formats;
 mod schema_patterns;
 mod suggesting;
 

@@ -29,7 +29,7 @@ use std::alloc::{AllocError, Global};
 #[derive(Drop)]
 pub(crate) struct WrittenJudge<'s> {
     pub schema: &'s Tree,
-    /// The tests of texts by its patterns.
+    /// The tests of texts by its patterns and formats.
     pub tests: PatternTests<'s>,
 }
 

@@ -19,6 +19,7 @@ use crate::inputs::{InFault, InputName, Inputs};
 use crate::profile::Profile;
 use crate::running::causes::{Cause, Input};
 use crate::running::refusal::{Refusal, Subject};
+use crate::running::schema_formats::compile_formats;
 use crate::running::schema_patterns::compile_patterns;
 use jtree::{JFault, Text, Tree};
 use patterns::Pattern;
@@ -43,7 +44,7 @@ pub(crate) struct Accepted {
     pub schema: Schema,
 }
 
-/// A schema as it is written, with its patterns.
+/// A schema as it is written, with its patterns and the expressions of its formats.
 #[derive(Drop)]
 pub(crate) struct WrittenSchema {
     pub schema: Tree,
@@ -122,7 +123,10 @@ pub(crate) fn written_schema<'a, I: Inputs>(
 {
     let schema = read_schema(alloc, arguments, inputs)?;
     match compile_patterns(alloc, &schema) {
-        Ok(patterns) => Ok(WrittenSchema { schema, patterns }),
+        Ok(mut patterns) => {
+            compile_formats(alloc, &schema, &mut patterns)?;
+            Ok(WrittenSchema { schema, patterns })
+        }
         Err(cause) => Err(cause.into()),
     }
 }
