@@ -7,6 +7,7 @@ pub mod Phrases
 pub mod ViolationLines
 pub mod RefusedPatterns
 pub mod PatternLines
+pub mod DefinitionLines
 pub mod CheckAnswer
 pub mod Envelope
 pub mod TextList

@@ -10,6 +10,7 @@ mod as_written;
 mod causes;
 mod checking;
 mod covering;
+mod definition_faults;
 mod documents;
 mod ended;
 mod exit_status;

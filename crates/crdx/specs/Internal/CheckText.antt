@@ -1,5 +1,5 @@
--- What `check` prints of all that is broken in a schema, and of its patterns.
-use Rattle.std.specs.Prelude.{◌≡◌, ℕ, List, Bool, true, false}
+-- What `check` prints of all that is broken in a schema, and of what a cluster refuses besides.
+use Rattle.std.specs.Prelude.{◌≡◌, ◌++◌, ℕ, List, Bool, true, false}
 use Rattle.std.specs.List.{flat_map}
 use Rattle.jtree.specs.Data.{Data}
 use Rattle.schema.specs.Rules.Breaks.{AreViolations, reported}
@@ -7,9 +7,10 @@ use Rattle.schema.specs.Rules.Explained.{AreExplained}
 use Rattle.schema.specs.declared.reason.Explained.{Explained}
 use Rattle.schema.specs.declared.violation.Violation.{Violation}
 use Rattle.stored.specs.Schemas.Accepted.{IsBroken}
-use Rattle.crdx.specs.Program.CheckAnswer.{AreRefusedUnder}
-use Rattle.crdx.specs.Program.PatternLines.{pattern_lines}
-use Rattle.crdx.specs.Program.RefusedPatterns.{Refused}
+use Rattle.definition.specs.Faults.{AreFaults, AreSchemaFaults}
+use Rattle.definition.specs.declared.finding.Fault.{Fault}
+use Rattle.crdx.specs.Program.CheckAnswer.{Besides, IsBesides, besides_lines, has_status}
+use Rattle.crdx.specs.Program.DefinitionLines.{fault_lines}
 use Rattle.crdx.specs.Program.ViolationLines.{violation_line, explained_lines}
 use Rattle.crdx.specs.declared.profile.Profile.{Profile}
 
@@ -18,5 +19,10 @@ abbrev pub IsViolationText : Data → Bool → List ℕ → Type 0
 IsViolationText raw true said = (found : List Explained) × AreExplained (IsBroken raw) raw found × (said ≡ explained_lines found)
 IsViolationText raw false said = (found : List Violation) × AreViolations (IsBroken raw) found × (said ≡ flat_map (λ v. violation_line (reported v)) found)
 
-abbrev pub IsPatternText : Data → Profile → Bool → List ℕ → Type 0
-IsPatternText raw profile why said = (refused : List Refused) × AreRefusedUnder profile raw refused × (said ≡ pattern_lines why refused)
+abbrev pub IsBesidesText : Data → List ℕ → Data → Profile → Bool → List ℕ → Type 0
+IsBesidesText document version raw profile why said = (b : Besides) × IsBesides profile document version raw b × (said ≡ besides_lines why b)
+
+-- what a cluster refuses in the schema and in the definition, patterns aside
+abbrev pub IsFaultText : Data → List ℕ → Data → List ℕ → Type 0
+IsFaultText document version raw said =
+    (s f : List Fault) × AreSchemaFaults (has_status document version) raw s × AreFaults document f × (said ≡ fault_lines s ++ fault_lines f)

@@ -65,6 +65,10 @@ pub record IsRequestedAs (form : Form) (has : Documents) (arguments : CommonArgu
 abbrev pub IsRequestedCrd : Documents → CommonArguments → List ℕ → List ℕ → Data → Type 0
 IsRequestedCrd = IsRequestedAs form.object
 
+-- of this document
+abbrev pub IsRequestedFrom : Data → Documents → CommonArguments → List ℕ → List ℕ → Data → Type 0
+IsRequestedFrom document has arguments group kind raw = (asked : IsRequestedCrd has arguments group kind raw) × (asked.document ≡ document)
+
 abbrev pub IsRequestedSchema : Documents → CommonArguments → Data → Type 0
 IsRequestedSchema has arguments raw = (group : List ℕ) × ((kind : List ℕ) × IsRequestedCrd has arguments group kind raw)
 

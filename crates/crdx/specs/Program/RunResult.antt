@@ -22,7 +22,7 @@ use Rattle.suggest.specs.Suggested.Fault.{IsSuggestFault}
 use Rattle.suggest.specs.Suggested.Wanted.{Wanted as PoolsWanted}
 use Rattle.suggest.specs.declared.fault.SuggestFault.{SuggestFault}
 use Rattle.suggest.specs.declared.fault.SuggestFault.TheVariants as suggest
-use Rattle.crdx.specs.Program.Requested.{numbers_of, pool_limits_of, total_of, IsRequestedSchema, IsAcceptedSchema, HasAcceptedSchema, IsCrdRefused, IsRefusedAs, AreRootAndPools, IsAfterRefused, IsRequested, IsRequestedWalk, ArePoolsRefused, IsRequestedRoot, IsRequestedStandard, form_asked, HasRefusedPattern, IsRequestedObject, IsObjectRefused}
+use Rattle.crdx.specs.Program.Requested.{numbers_of, pool_limits_of, total_of, IsRequestedFrom, IsRequestedSchema, IsAcceptedSchema, HasAcceptedSchema, IsCrdRefused, IsRefusedAs, AreRootAndPools, IsAfterRefused, IsRequested, IsRequestedWalk, ArePoolsRefused, IsRequestedRoot, IsRequestedStandard, form_asked, HasRefusedPattern, IsRequestedObject, IsObjectRefused}
 use Rattle.plan.specs.Pools.Pools.{Pools}
 use Rattle.plan.specs.Pools.PlanFault.{HasGoodPaths, IsFirstBadPath}
 use Rattle.plan.specs.Samples.Question.{Question}
@@ -45,8 +45,9 @@ HasBreaks has arguments breaks = (raw : Data) × IsRequestedSchema has arguments
 
 -- the answer to a request: the exit status, and the whole text on standard output
 pub data IsAnswer (has : Documents) : Request → ℕ → List ℕ → Type 0 where
-  checked : (arguments : CommonArguments) (raw : Data) (status : ℕ) (answer : List ℕ) → IsRequestedSchema has arguments raw
-      → IsCheckAnswer raw arguments.profile arguments.why status answer → IsAnswer has (Check arguments) status answer
+  checked : (arguments : CommonArguments) (document : Data) (group kind : List ℕ) (raw : Data) (status : ℕ) (answer : List ℕ)
+      → IsRequestedFrom document has arguments group kind raw → IsCheckAnswer document arguments.version.now raw arguments.profile arguments.why status answer
+      → IsAnswer has (Check arguments) status answer
   fields : (arguments : ExplainArguments) (N : Node) (status : ℕ) (answer : List ℕ) → IsRequestedRoot has arguments.common N
       → IsFieldAnswer N arguments.path status answer → IsAnswer has (Explain arguments) status answer
   -- the violations are on standard error

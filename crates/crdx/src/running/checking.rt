@@ -3,7 +3,7 @@ ghost use Rattle.std.specs.Prelude.{◌≡◌, ◌≢◌, [], IfOk, IfErr, strin
 ghost use Rattle.jtree.specs.View.{data_of};
 ghost use Rattle.schema.specs.Rules.Breaks.{reported};
 ghost use Rattle.crdx.specs.Internal.Cause.{IsInputCause};
-ghost use Rattle.crdx.specs.Internal.CheckText.{IsViolationText, IsPatternText};
+ghost use Rattle.crdx.specs.Internal.CheckText.{IsViolationText, IsBesidesText};
 ghost use Rattle.crdx.specs.Program.CheckAnswer.{IsCheckAnswer};
 ghost use Rattle.crdx.specs.Program.RunResult.{IsAnswer};
 ghost use Rattle.crdx.specs.Program.ViolationLines.{violation_line, reason_line, explained_line};
@@ -14,6 +14,7 @@ use crate::inputs::Inputs;
 use crate::phrases::{phrase, reason_phrase};
 use crate::profile::Profile;
 use crate::running::answer::{Answer, json_text};
+use crate::running::definition_faults::fault_text;
 use crate::running::documents::read_definition;
 use crate::running::exit_status::{DONE, NO};
 use crate::running::lines::{Lines, all_lines};
@@ -24,8 +25,8 @@ use schema::{Explained, Finding, RawSchema, Violation};
 use std::alloc::{AllocError, Global};
 use stored::{explained, violations};
 
-/// `structural` of a schema of which nothing is said, and else a line for each rule and place and for each pattern that is refused;
-/// where the reasons are asked for, a line for each of them below it.
+/// `structural` of a schema of which nothing is said, and else a line for each rule and place, and under `cluster` for each pattern that is
+/// refused and each rule of definitions that is broken; where the reasons are asked for, a line for each of them below it.
 pub(crate) fn check<'a, I: Inputs>(
     alloc: Global,
     arguments: &CommonArguments<'a>,
@@ -35,23 +36,23 @@ pub(crate) fn check<'a, I: Inputs>(
     ensures cause { IfErr result (λ r. IsInputCause (I.has inputs.old) (I.failures inputs.old) (I.failures inputs.new) (Check arguments.now) r.cause) }
 {
     let definition = read_definition(alloc, arguments, inputs)?;
-    let raw = &definition.crd.raw;
-    let answer = check_schema(alloc, raw, arguments.profile, arguments.why);
+    let answer = check_schema(alloc, &definition.document, &definition.crd.raw, arguments);
     drop(definition);
     Ok(answer?)
 }
 
-/// The same of the schema alone.
+/// The same of a schema in its definition.
 fn check_schema(
     alloc: Global,
+    document: &Tree,
     raw: &RawSchema,
-    profile: Profile,
-    why: bool,
+    arguments: &CommonArguments<'_>,
 ) -> Result<Answer, AllocError>
-    ensures { IfOk result (λ a. IsCheckAnswer raw.now profile why a.status (string_bytes a.out)) }
+    ensures { IfOk result (λ a. IsCheckAnswer (data_of document.now) arguments.now.version.now raw.now arguments.now.profile arguments.now.why a.status (string_bytes a.out)) }
 {
-    let mut text = violation_text(alloc, raw, why)?;
-    text.push_str(pattern_text(alloc, raw.tree(), profile, why)?.as_str())?;
+    let mut text = violation_text(alloc, raw, arguments.why)?;
+    let besides = besides_text(alloc, document, raw.tree(), arguments)?;
+    text.push_str(besides.as_str())?;
     verdict(alloc, text)
 }
 
@@ -86,20 +87,23 @@ fn violation_text(alloc: Global, raw: &RawSchema, why: bool) -> Result<String, A
     }
 }
 
-/// The lines of the patterns of a schema that are refused, which `cluster` alone asks for.
-fn pattern_text(
+/// The lines of what a cluster refuses besides, of which `cluster` alone asks.
+fn besides_text(
     alloc: Global,
+    document: &Tree,
     schema: &Tree,
-    profile: Profile,
-    why: bool,
+    arguments: &CommonArguments<'_>,
 ) -> Result<String, AllocError>
-    ensures { IfOk result (λ s. IsPatternText (data_of schema.now) profile why (string_bytes s)) }
+    ensures { IfOk result (λ s. IsBesidesText (data_of document.now) arguments.now.version.now (data_of schema.now) arguments.now.profile arguments.now.why (string_bytes s)) }
 {
-    match profile {
+    match arguments.profile {
         Profile::Core => Ok(String::new(alloc)),
         Profile::Cluster => {
             let refused = refused_patterns(alloc, schema)?;
-            pattern_lines(alloc, refused.as_slice(), why)
+            let mut text = pattern_lines(alloc, refused.as_slice(), arguments.why)?;
+            let faults = fault_text(alloc, document, arguments.version, schema)?;
+            text.push_str(faults.as_str())?;
+            Ok(text)
         }
     }
 }

@@ -8,7 +8,7 @@ ghost use Rattle.schema.specs.Nodes.ByPlace.{AreNodesOf};
 ghost use Rattle.schema.specs.Rules.Breaks.{IsUnbroken};
 ghost use Rattle.stored.specs.Schemas.Accepted.{IsBroken};
 ghost use Rattle.crdx.specs.Internal.Cause.{IsReadFailure, IsReadCause, IsReadCauseAs, IsSchemaCause, IsWrittenCause, IsPoolsCause, IsAfterCause, IsTextCause};
-ghost use Rattle.crdx.specs.Program.Requested.{numbers_of, limits_of, pool_limits_of, IsRequestedCrd, IsRequestedWritten, HasPatterns, ArePools, IsAfter};
+ghost use Rattle.crdx.specs.Program.Requested.{numbers_of, limits_of, pool_limits_of, IsRequestedCrd, IsRequestedFrom, IsRequestedWritten, HasPatterns, ArePools, IsAfter};
 ghost use Rattle.crdx.specs.Program.Documents.{AreAmong, AreLinesAmong, file_name};
 ghost use Rattle.crdx.specs.Program.Envelope.{body_of as body};
 ghost use Rattle.crdx.specs.Program.Profiles.{numbers_by};
@@ -91,7 +91,7 @@ pub(crate) fn read_definition<'a, I: Inputs>(
     arguments: &CommonArguments<'a>,
     inputs: &mut I,
 ) -> Result<Definition, Refusal<'a>>
-    ensures ok { IfOk result (λ d. IsRequestedCrd (I.has inputs.old) arguments.now d.crd.group d.crd.kind d.crd.raw) }
+    ensures ok { IfOk result (λ d. IsRequestedFrom (data_of d.document) (I.has inputs.old) arguments.now d.crd.group d.crd.kind d.crd.raw) }
     ensures cause { IfErr result (λ r. IsReadCause (I.has inputs.old) (I.failures inputs.old) (I.failures inputs.new) arguments.now r.cause) }
     ensures stays { AreAmong (I.has inputs.new) (I.has inputs.old) }
     ensures lines { AreLinesAmong (I.lines inputs.new) (I.lines inputs.old) }

@@ -1,4 +1,5 @@
 use Rattle.std.proofs.lemmas.Result.{err_from_is_err_and}
+use Rattle.jtree.specs.View.{data_of}
 use Rattle.schema.specs.Document.Forms as form
 use Rattle.crdx.specs.Program.RunResult.{checked}
 use Rattle.crdx.specs.declared.arguments.request.Request.TheVariants.{Check}
@@ -15,4 +16,4 @@ returns-in_err-definition-clause-cause g c =
 pub returns-clause-answer : goal.returns-clause-answer
 returns-clause-answer g c =
     let crd = c.in_ok-definition.definition.crd in
-    checked c.args.arguments.now crd.raw _ _ (crd.group, (crd.kind, c.in_ok-definition.ensures.ok)) c.in_ok-answer.ensures
+    checked c.args.arguments.now (data_of c.in_ok-definition.definition.document) crd.group crd.kind crd.raw _ _ c.in_ok-definition.ensures.ok c.in_ok-answer.ensures

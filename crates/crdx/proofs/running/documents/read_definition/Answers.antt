@@ -1,4 +1,4 @@
-use Rattle.std.proofs.Common.{subst}
+use Rattle.std.proofs.Common.{refl, subst}
 use Rattle.jtree.specs.View.{data_of}
 use Rattle.schema.specs.Document.Limits.{IsWithinLimits}
 use Rattle.schema.specs.Document.Forms as form
@@ -16,10 +16,10 @@ returns-in-Err-clause-cause g c =
 pub returns-in-Ok-clause-ok : goal.returns-in-Ok-clause-ok
 returns-in-Ok-clause-ok g c =
     let read = c.in-Ok.ensures in
-    record {
+    (record {
       document = data_of c.in_ok-document.document;
       at_hand = c.in_ok-document.ensures.ok;
       read = read.ok;
       forms = read.forms;
       within = subst (λ limits. IsWithinLimits limits c.in-Ok.crd.raw) c.limits_of-limits.ensures read.within;
-    }
+    }, refl)

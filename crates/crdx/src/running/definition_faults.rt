@@ -1,0 +1,146 @@
+//! What a cluster refuses in a definition and in the schema of a version, beside what the schema breaks and its patterns.
+ghost use Rattle.std.specs.Prelude.{◌≡◌, IfOk, option_map, option_and_then, string_bytes, codes};
+ghost use Rattle.jtree.specs.Data.{list};
+ghost use Rattle.jtree.specs.Path.{under2};
+ghost use Rattle.jtree.specs.View.{data_of};
+ghost use Rattle.definition.specs.Reading.{is_there as there};
+ghost use Rattle.crdx.specs.Internal.CheckText.{IsFaultText};
+ghost use Rattle.crdx.specs.Program.CheckAnswer as spec;
+ghost use Rattle.crdx.specs.Program.DefinitionLines as said;
+
+use crate::running::answer::json_text;
+use crate::running::lines::{Lines, all_lines};
+use definition::{Fault, Rule, faults, schema_faults};
+use jtree::{Items, Tree};
+use std::alloc::{AllocError, Global};
+
+/// A line for each rule that is broken: in the schema of the version of this name, with pointers that begin at the schema, and then in the
+/// definition.
+pub(crate) fn fault_text(
+    alloc: Global,
+    document: &Tree,
+    version: &str,
+    schema: &Tree,
+) -> Result<String, AllocError>
+    ensures { IfOk result (λ s. IsFaultText (data_of document.now) version.now (data_of schema.now) (string_bytes s)) }
+{
+    let of_schema = schema_faults(alloc, schema, has_status(document, version))?;
+    let of_definition = faults(alloc, document)?;
+    let mut text = all_lines(alloc, of_schema.as_slice())?;
+    text.push_str(all_lines(alloc, of_definition.as_slice())?.as_str())?;
+    Ok(text)
+}
+
+/// Whether the version of this name has the subresource `status`.
+fn has_status(document: &Tree, version: &str) -> bool
+    ensures { result ≡ spec.has_status (data_of document.now) version.now }
+{
+    match part_below(document, "spec", "versions") {
+        Some(Tree::List(versions)) => match version_in(versions, version) {
+            Some(version) => is_there(part_below(version, "subresources", "status")),
+            None => false,
+        },
+        _ => false,
+    }
+}
+
+/// What is under a name below another.
+fn part_below<'a>(tree: &'a Tree, outer: &str, inner: &str) -> Option<&'a Tree>
+    ensures { option_map (λ t. data_of t.now) result ≡ under2 (data_of tree.now) outer.now inner.now }
+{
+    match tree.get(outer) {
+        Some(part) => part.get(inner),
+        None => None,
+    }
+}
+
+/// The first version of this name.
+fn version_in<'a>(versions: &'a Items, name: &str) -> Option<&'a Tree>
+    ensures { option_map (λ t. data_of t.now) result ≡ spec.version_in name.now versions.now }
+{
+    for version in &versions.items {
+        if version.has_text("name", name) {
+            return Some(version);
+        }
+    }
+    None
+}
+
+/// Whether there is something, and not null.
+fn is_there(part: Option<&Tree>) -> bool
+    ensures { result ≡ there (option_map (λ t. data_of t.now) part.entry) }
+{
+    match part {
+        Some(Tree::Null) | None => false,
+        Some(_) => true,
+    }
+}
+
+/// The code of the rule, the pointer as a JSON text, and what is wrong there.
+impl Lines for Fault {
+    ghost text = { said.line_of };
+
+    fn lines(&self, alloc: Global) -> Result<String, AllocError> {
+        let pointer = json_text(alloc, self.pointer.as_str())?;
+        let rule = self.rule;
+        format!(in alloc; "{} {pointer} {}\n", code_of(rule), phrase_of(rule))
+    }
+}
+
+fn code_of(rule: Rule) -> &'static str
+    ensures { result.now ≡ said.code_of rule }
+{
+    match rule {
+        Rule::UnknownField => "C03",
+        Rule::MissingField => "C04",
+        Rule::WrongName => "C05",
+        Rule::BadGroup => "C06",
+        Rule::ProtectedGroup => "C07",
+        Rule::BadScope => "C08",
+        Rule::BadName => "C09",
+        Rule::RepeatedVersion => "C10",
+        Rule::StorageVersions => "C11",
+        Rule::PreserveUnknownFields => "C12",
+        Rule::BadColumn => "C13",
+        Rule::BadScalePath => "C14",
+        Rule::BadConversion => "C15",
+        Rule::UnknownType => "C16",
+        Rule::BadRoot => "C17",
+        Rule::BesideStatus => "C18",
+        Rule::MissingItems => "C19",
+        Rule::PreserveFalse => "C20",
+        Rule::BadResource => "C21",
+        Rule::UnsupportedKeyword => "C22",
+        Rule::BadIntOrString => "C23",
+        Rule::BadEnvelope => "C24",
+    }
+}
+
+fn phrase_of(rule: Rule) -> &'static str
+    ensures { result.now ≡ said.phrase_of rule }
+{
+    match rule {
+        Rule::UnknownField => "unknown field",
+        Rule::MissingField => "required field missing",
+        Rule::WrongName => "name is not the plural, a dot and the group",
+        Rule::BadGroup => "bad group",
+        Rule::ProtectedGroup => "protected group without approval",
+        Rule::BadScope => "bad scope",
+        Rule::BadName => "bad name",
+        Rule::RepeatedVersion => "version with the name of another",
+        Rule::StorageVersions => "not exactly one storage version",
+        Rule::PreserveUnknownFields => "preserveUnknownFields is true",
+        Rule::BadColumn => "bad printer column",
+        Rule::BadScalePath => "bad path of the scale subresource",
+        Rule::BadConversion => "bad conversion",
+        Rule::UnknownType => "unknown type",
+        Rule::BadRoot => "bad root",
+        Rule::BesideStatus => "keyword not allowed beside the status subresource",
+        Rule::MissingItems => "list without items",
+        Rule::PreserveFalse => "x-kubernetes-preserve-unknown-fields is false",
+        Rule::BadResource => "bad embedded resource",
+        Rule::UnsupportedKeyword => "keyword not supported",
+        Rule::BadIntOrString => "int-or-string with another kind",
+        Rule::BadEnvelope => "bad type of apiVersion, kind or metadata",
+    }
+}
