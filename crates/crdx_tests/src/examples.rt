@@ -94,6 +94,12 @@ fn faults_of_a_definition(rt: HostRuntime) -> Result<(), Fail> {
         "the part"
     );
     assert_eq!(rt; Fields::Spec.required()[2], "scope");
+    let missing = Fields::Column.missing(
+        alloc,
+        &Tree::from_bytes(alloc, r#"{"type":""}"#.as_bytes())?,
+    )?;
+    assert_eq!(rt; missing.len(), 3);
+    assert_eq!(rt; missing[2], "type");
     assert_eq!(rt; Fields::Conversion.names()[1], "webhook");
     assert_eq!(rt; Value::Scope.choices()[0], "Cluster");
     Ok(())
