@@ -6,10 +6,11 @@ use crate::support::given::{TWO_FIELDS, made};
 use crate::support::harness::{pools_of, schema_of, words_of};
 use cover::cover;
 use crdx::run;
+use definition::{Fields, Part, Value};
 use enumerate::page;
 use explain::Listing;
 use formats::{Format, is_of};
-use jtree::Tree;
+use jtree::{Numbers, Tree};
 use judge::faults;
 use patterns::{Pattern, PatternTests};
 use plan::{Plan, PoolLimits, Pools};
@@ -78,6 +79,29 @@ fn judge(rt: HostRuntime) -> Result<(), Fail> {
     assert_eq!(rt; found.len(), 1);
     assert_eq!(rt; found[0].path.as_str(), "/a");
     assert_eq!(rt; found[0].test.number(), 12);
+    Ok(())
+}
+
+#[test]
+fn faults_of_a_definition(rt: HostRuntime) -> Result<(), Fail> {
+    let alloc = rt.alloc();
+    let document = Tree::from_bytes_with(alloc, WIDGET.as_bytes(), Numbers::All)?;
+    let found = definition::faults(alloc, &document)?;
+    assert_eq!(rt; found[1].pointer.as_str(), "/spec");
+    assert_eq!(rt; found[1].rule.number(), 4);
+    assert!(rt;
+        matches!(found[1].part, Part::Fields(Fields::Spec)),
+        "the part"
+    );
+    assert_eq!(rt; Fields::Spec.required()[2], "scope");
+    let missing = Fields::Column.missing(
+        alloc,
+        &Tree::from_bytes(alloc, r#"{"type":""}"#.as_bytes())?,
+    )?;
+    assert_eq!(rt; missing.len(), 3);
+    assert_eq!(rt; missing[2], "type");
+    assert_eq!(rt; Fields::Conversion.names()[1], "webhook");
+    assert_eq!(rt; Value::Scope.choices()[0], "Cluster");
     Ok(())
 }
 

@@ -27,6 +27,8 @@
 //! | `cel_tests/token_cases` | the tokens of expressions, and why a text has none |
 //! | `judge_tests/fault_cases` | values judged by schemas as they are written |
 //! | `judge_tests/pattern_cases` | the patterns of a schema, with their pointers |
+//! | `definition_tests/definition_cases` | definitions: what a cluster refuses in them, and unknown fields |
+//! | `definition_tests/schema_cases` | schemas: what a cluster refuses in them beside the rules of `schema` |
 //! | `plan_tests/pools_cases`, `pool_limit_cases` | documents of pools, and how many entries they may have |
 //! | `plan_tests/size_set_cases` | sets of sizes |
 //! | `plan_tests/plan_cases`, `size_cases` | plans: their nodes, slots and limits, and the sizes of what may be there |
@@ -63,6 +65,8 @@
 
 #[cfg(test)]
 mod cel_tests;
+#[cfg(test)]
+mod definition_tests;
 #[cfg(test)]
 mod enumerate_tests;
 #[cfg(test)]

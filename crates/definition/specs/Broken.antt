@@ -30,6 +30,15 @@ abbrev pub lacks : List (List ℕ) → Data → Bool
 lacks ks null = false
 lacks ks d = lacks_one ks d
 
+-- the names of those that are
+abbrev pub absent_among : List (List ℕ) → Data → List (List ℕ)
+absent_among [] d = []
+absent_among (k ∷ ks) d = if is_absent (under d k) then k ∷ absent_among ks d else absent_among ks d
+
+abbrev pub missing : List (List ℕ) → Data → List (List ℕ)
+missing ks null = []
+missing ks d = absent_among ks d
+
 -- ---- values
 
 -- the rule that a value breaks where it is a bad one

@@ -170,12 +170,21 @@ metadata_needs q = if q.is_root then needed.Anything else needed.Object
 abbrev pub place_in_envelope : Place → Needed → Place
 place_in_envelope p n = record { is_root = false; has_status = false; is_inside = p.is_inside; is_in_metadata = true; needed = n }
 
+abbrev pub place_for_nothing : Place → Place
+place_for_nothing p = record { is_root = false; has_status = false; is_inside = p.is_inside; is_in_metadata = p.is_in_metadata; needed = needed.Nothing }
+
+abbrev pub metadata_place : Properties → Place
+metadata_place q =
+    if q.place.is_inside then place_for_nothing q.place else
+    if q.is_resource then place_in_envelope q.place (metadata_needs q) else q.place
+
+abbrev pub is_type_field : List ℕ → Bool
+is_type_field k = is_among k (codes "apiVersion" ∷ codes "kind" ∷ [])
+
 abbrev pub property_place : Properties → List ℕ → Place
 property_place q k =
-    if q.is_resource then
-    (if is_among k (codes "apiVersion" ∷ codes "kind" ∷ []) then place_in_envelope q.place needed.String else
-    if bytes_eq k (codes "metadata") then place_in_envelope q.place (metadata_needs q) else q.place)
-    else q.place
+    if bytes_eq k (codes "metadata") then metadata_place q else
+    if q.is_resource && is_type_field k then place_in_envelope q.place needed.String else q.place
 
 -- ---- the parts of any part
 

@@ -9,7 +9,7 @@ use Rattle.definition.specs.Reading.{is_there, is_true, is_false, has_members, t
 use Rattle.definition.specs.Fields.{has_field}
 use Rattle.definition.specs.declared.part.Fields.TheVariants.{Schema}
 use Rattle.definition.specs.declared.part.Needed.{Needed}
-use Rattle.definition.specs.declared.part.Needed.TheVariants.{Anything, String, Object}
+use Rattle.definition.specs.declared.part.Needed.TheVariants.{Anything, String, Object, Nothing}
 use Rattle.definition.specs.declared.part.Place.{Place}
 use Rattle.definition.specs.declared.rule.Rule.{Rule}
 use Rattle.definition.specs.declared.rule.Rule.TheVariants as rule
@@ -99,11 +99,12 @@ is_no_resource s = not (has_type s (codes "object")) || (is_there_under s (codes
 abbrev pub is_bad_resource : Place → Data → Bool
 is_bad_resource p s = is_embedded s && (p.is_in_metadata || (not p.is_inside && is_no_resource s))
 
--- the type that the place needs is not there
+-- the type that the place needs is not there, or no schema may be
 abbrev pub lacks_type : Needed → Data → Bool
 lacks_type Anything s = false
 lacks_type String s = not (has_type s (codes "string"))
 lacks_type Object s = not (has_type s (codes "object"))
+lacks_type Nothing s = true
 
 -- ---- keywords that are not supported
 

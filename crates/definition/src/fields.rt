@@ -1,14 +1,15 @@
 //! The fields of the objects of a definition.
-ghost use Rattle.std.specs.Prelude.{◌≡◌};
+ghost use Rattle.std.specs.Prelude.{◌≡◌, IfOk};
 ghost use Rattle.jtree.specs.View.{data_of};
 ghost use Rattle.definition.specs.Fields as spec;
 ghost use Rattle.definition.specs.Fields.{texts_at};
-ghost use Rattle.definition.specs.Broken.{lacks as lacks_of, lacks_one as lacks_one_of};
+ghost use Rattle.definition.specs.Broken.{lacks as lacks_of, lacks_one as lacks_one_of, missing as missing_of, absent_among as absent_among_of};
 
 use crate::part::Fields;
 use crate::reading::is_absent;
 use crate::texts::is_one_of;
 use jtree::Tree;
+use std::alloc::{AllocError, Global};
 
 impl Fields {
     /// The names of the fields that the object may have (apiextensions.k8s.io/v1), by their bytes.
@@ -161,6 +162,17 @@ impl Fields {
         }
     }
 
+    /// The names of the fields that have to be there and are missing in a value, by their bytes. None where the value is null, which is
+    /// absent itself. `Err` where an allocation fails.
+    pub fn missing(self, alloc: Global, tree: &Tree) -> Result<Vec<&'static str>, AllocError>
+        ensures { IfOk result (λ names. texts_at names.items ≡ missing_of (spec.required self) (data_of tree.now)) }
+    {
+        match tree {
+            Tree::Null => Ok(Vec::new(alloc)),
+            _ => absent_among(alloc, tree, self.required()),
+        }
+    }
+
     /// Whether the object has a field of the name.
     pub(crate) fn has(self, name: &str) -> bool
         ensures { result ≡ spec.has_field self name.now }
@@ -177,6 +189,22 @@ impl Fields {
             _ => lacks_one(tree, self.required()),
         }
     }
+}
+
+fn absent_among(
+    alloc: Global,
+    tree: &Tree,
+    names: &[&'static str],
+) -> Result<Vec<&'static str>, AllocError>
+    ensures { IfOk result (λ found. texts_at found.items ≡ absent_among_of (texts_at names.now) (data_of tree.now)) }
+{
+    let mut found = Vec::new(alloc);
+    for name in names {
+        if is_absent(tree.get(name)) {
+            found.push(*name)?;
+        }
+    }
+    Ok(found)
 }
 
 fn lacks_one(tree: &Tree, names: &[&str]) -> bool

@@ -1,14 +1,16 @@
 //! Judges a CustomResourceDefinition as the API server of Kubernetes does, beside the rules of schemas that `schema` has
 //! (apiextensions.k8s.io/v1).
 //!
-//! [`faults`] lists the rules that are broken in a definition, and where. Here `WIDGET` is a definition with `scope: Everywhere` and a
-//! schema with `minimun`:
+//! [`faults`] lists the rules that are broken in a definition, and where, and [`schema_faults`] those that are broken in a schema as it is
+//! written. Each fault has the part where it is, whose fields and choices can be asked for. Here `WIDGET` is a definition without a scope:
 //!
 //! ```
 //! let document = Tree::from_bytes_with(alloc, WIDGET.as_bytes(), Numbers::All)?;
 //! let found = faults(alloc, &document)?;
-//! assert_eq!(rt; found[0].pointer.as_str(), "/spec/scope");
-//! assert_eq!(rt; found[0].rule.number(), 8);
+//! assert_eq!(rt; found[1].pointer.as_str(), "/spec");
+//! assert_eq!(rt; found[1].rule.number(), 4);
+//! assert!(rt; matches!(found[1].part, Part::Fields(Fields::Spec)), "the part");
+//! assert_eq!(rt; Fields::Spec.required()[2], "scope");
 //! ```
 #![tactic(auto)]
 

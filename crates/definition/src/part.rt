@@ -109,6 +109,8 @@ pub enum Needed {
     String,
     /// `object`, as `metadata` of an embedded resource.
     Object,
+    /// None: there may be no such schema, as of `metadata` in a junctor.
+    Nothing,
 }
 
 /// What is known of a schema from where it stands.

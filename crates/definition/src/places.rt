@@ -77,6 +77,19 @@ impl Place {
         }
     }
 
+    /// A schema in its place that may not be there.
+    fn for_nothing(self) -> Place
+        ensures { result ≡ spec.place_for_nothing self }
+    {
+        Place {
+            is_root: false,
+            has_status: false,
+            is_inside: self.is_inside,
+            is_in_metadata: self.is_in_metadata,
+            needed: Needed::Nothing,
+        }
+    }
+
     /// The schema of a field of the envelope in its place.
     fn in_envelope(self, needed: Needed) -> Place
         ensures { result ≡ spec.place_in_envelope self needed }
@@ -103,20 +116,37 @@ impl Properties {
         }
     }
 
-    /// The schema of a name.
-    pub(crate) fn place_of(self, name: &str) -> Place
-        ensures { result ≡ spec.property_place self name.now }
+    /// The schema of `metadata`.
+    fn metadata_place(self) -> Place
+        ensures { result ≡ spec.metadata_place self }
     {
-        if !self.is_resource {
-            return self.place;
+        if self.place.is_inside {
+            return self.place.for_nothing();
         }
-        if is_one_of(name, &["apiVersion", "kind"]) {
-            return self.place.in_envelope(Needed::String);
-        }
-        if name == "metadata" {
+        if self.is_resource {
             self.place.in_envelope(self.metadata_needs())
         } else {
             self.place
         }
     }
+
+    /// The schema of a name.
+    pub(crate) fn place_of(self, name: &str) -> Place
+        ensures { result ≡ spec.property_place self name.now }
+    {
+        if name == "metadata" {
+            return self.metadata_place();
+        }
+        if self.is_resource && is_type_field(name) {
+            self.place.in_envelope(Needed::String)
+        } else {
+            self.place
+        }
+    }
+}
+
+fn is_type_field(name: &str) -> bool
+    ensures { result ≡ spec.is_type_field name.now }
+{
+    is_one_of(name, &["apiVersion", "kind"])
 }

@@ -47,7 +47,7 @@ pub enum Rule {
     UnsupportedKeyword,
     /// A schema is int-or-string, and preserves unknown fields or is an embedded resource.
     BadIntOrString,
-    /// `apiVersion` or `kind` of a resource is no string, or the `metadata` of an embedded one no object.
+    /// `apiVersion` or `kind` of a resource is no string, the `metadata` of an embedded one no object, or a junctor has `metadata`.
     BadEnvelope,
 }
 

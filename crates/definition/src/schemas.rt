@@ -177,6 +177,7 @@ fn lacks_type(needed: Needed, schema: &Tree) -> bool
         Needed::Anything => false,
         Needed::String => !has_type(schema, "string"),
         Needed::Object => !has_type(schema, "object"),
+        Needed::Nothing => true,
     }
 }
 
