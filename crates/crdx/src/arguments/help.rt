@@ -113,6 +113,33 @@ Codes of patterns in a schema, which `check` and `validate` compile with
   C01  bad pattern: it is no regular expression of Go (RE2).
   C02  pattern too big: what it compiles to is above 10 MiB.
 
+Rules of a cluster beside V01 to V17, by which `check --profile cluster` judges
+the definition and the schema of the version. Pointers of C03 to C15 begin at
+the root of the document:
+  C03  unknown field: the object, or the schema, has no such field.
+  C04  missing field: the object lacks a field that it has to have.
+  C05  wrong name: it is not the plural, a dot and the group.
+  C06  bad group: it is no DNS subdomain, or has no dot.
+  C07  protected group: it is one of Kubernetes, and not approved.
+  C08  bad scope: it is neither Cluster nor Namespaced.
+  C09  bad name: it is no DNS label, or listKind is the kind.
+  C10  version named twice: two versions have one name.
+  C11  not one stored version: exactly one has to have storage true.
+  C12  preserveUnknownFields is true: the API does not take it any more.
+  C13  bad printer column: its type, format or path is none.
+  C14  bad scale path: it does not lead below spec or status.
+  C15  bad conversion: the strategy is none, or does not go with webhook.
+  C16  unknown type: it is none of the six.
+  C17  bad root: it is no object, accepts null, or has additionalProperties.
+  C18  not beside status: the keyword does not go with the subresource.
+  C19  array without items: the schema of the items is missing.
+  C20  x-kubernetes-preserve-unknown-fields is false: leave it out.
+  C21  bad embedded resource: it is no object with properties, or is inside
+       the metadata of another.
+  C22  keyword not supported: as $ref, or definitions that are not empty.
+  C23  int-or-string with another: it preserves fields, or is embedded.
+  C24  bad envelope: apiVersion, kind or metadata has another type.
+
 Codes of an input that is refused:
   J1   A number is not an integer of 64 bits. Most often it is a fraction:
        `grep -n '[0-9]\.[0-9]' FILE` shows where. --profile cluster reads it.
@@ -191,8 +218,15 @@ the schema that has the pattern, and what is wrong with it, such as
 
     C01 "/properties/spec/properties/name" bad pattern
 
-With --why the line below it has the pattern and what is allowed. A schema with
-such a pattern is not structural."#,
+With --why the line below it has the pattern and what is allowed. Then come the
+rules that a cluster has besides: those that the schema breaks, with pointers
+that begin at the schema, and those that the definition breaks, with pointers
+that begin at the root of the document, such as
+
+    C11 "/spec/versions" not one stored version
+
+The other versions are not judged. A definition with such a line is not
+structural."#,
     end: "Examples, at the top of the repository:
   ./crdx check examples/widget/crd.json v1
   ./crdx check --why examples/workflow/crd.json v1

@@ -116,11 +116,13 @@ static ANSWERS: [&str; 20] = [
     "L1", "X1", "X2",
 ];
 
-// The rules, the faults and the codes of patterns that a run can print: each begins a line of the help.
-static NUMBERS: [&str; 38] = [
+// The rules and the faults that a run can print: each begins a line of the help.
+static NUMBERS: [&str; 60] = [
     "V01", "V02", "V03", "V04", "V05", "V06", "V07", "V08", "V09", "V10", "V11", "V12", "V13",
     "V14", "V15", "V16", "V17", "F01", "F02", "F03", "F04", "F05", "F06", "F07", "F08", "F09",
-    "F10", "F11", "F12", "F13", "F14", "F15", "F16", "F17", "F18", "F20", "C01", "C02",
+    "F10", "F11", "F12", "F13", "F14", "F15", "F16", "F17", "F18", "F20", "C01", "C02", "C03",
+    "C04", "C05", "C06", "C07", "C08", "C09", "C10", "C11", "C12", "C13", "C14", "C15", "C16",
+    "C17", "C18", "C19", "C20", "C21", "C22", "C23", "C24",
 ];
 
 fn run_of(alloc: Global, line: &str) -> Result<Output, AllocError> {

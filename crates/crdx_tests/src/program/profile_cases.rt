@@ -1,7 +1,9 @@
 //! `--profile`: numbers that are no integers of 64 bits, read as a cluster reads them, and refused without it; objects judged by the schema as
 //! it is written; and its patterns, which `check` compiles.
-use crate::support::harness::SchemaRunRow;
-use crate::support::rows::try_tables;
+use crate::support::harness::{Run, SchemaRunRow, try_run};
+use crate::support::report::Report;
+use crate::support::rows::{Kind, Row, try_tables};
+use std::alloc::Global;
 use std::test::Fail;
 
 // What the tables name.
@@ -117,6 +119,69 @@ no document | crdx validate crd.json v1 object.json --profile cluster | @PATTERN
     ! crdx: object: J3
 "#;
 
+// Specs of definitions of widgets, and the rules of a cluster that are broken: first in the schema, then in the definition.
+static DEFINITIONS: &str = r#"
+11 rows: name | command | spec | status
+a good one | crdx check crd.json v1 --profile cluster
+    | {"group":"example.com","scope":"Cluster","names":{"plural":"widgets","kind":"Widget"},
+    "versions":[{"name":"v1","served":true,"storage":true,"schema":{"openAPIV3Schema":{"type":"object","properties":{"a":{"type":"string"}}}}}]} | 0
+    > structural
+another scope | crdx check crd.json v1 --profile cluster
+    | {"group":"example.com","scope":"Global","names":{"plural":"widgets","kind":"Widget"},
+    "versions":[{"name":"v1","served":true,"storage":true,"schema":{"openAPIV3Schema":{"type":"object","properties":{"a":{"type":"string"}}}}}]} | 1
+    > C08 "/spec/scope"
+the same with core | crdx check crd.json v1
+    | {"group":"example.com","scope":"Global","names":{"plural":"widgets","kind":"Widget"},
+    "versions":[{"name":"v1","served":true,"storage":true,"schema":{"openAPIV3Schema":{"type":"object","properties":{"a":{"type":"string"}}}}}]} | 0
+    > structural
+two stored versions | crdx check crd.json v1 --profile cluster
+    | {"group":"example.com","scope":"Cluster","names":{"plural":"widgets","kind":"Widget"},
+    "versions":[{"name":"v1","served":true,"storage":true,"schema":{"openAPIV3Schema":{"type":"object","properties":{"a":{"type":"string"}}}}},
+    {"name":"v2","served":true,"storage":true,"schema":{"openAPIV3Schema":{"type":"object","properties":{"a":{"type":"string"}}}}}]} | 1
+    > C11 "/spec/versions"
+the plural of another name, and a short name in capitals | crdx check crd.json v1 --profile cluster
+    | {"group":"example.com","scope":"Cluster","names":{"plural":"things","shortNames":["wi","Wi"],"kind":"Widget"},
+    "versions":[{"name":"v1","served":true,"storage":true,"schema":{"openAPIV3Schema":{"type":"object","properties":{"a":{"type":"string"}}}}}]} | 1
+    > C05 "/metadata/name"
+    > C09 "/spec/names/shortNames/1"
+a keyword that is misspelt below a junctor | crdx check crd.json v1 --profile cluster
+    | {"group":"example.com","scope":"Cluster","names":{"plural":"widgets","kind":"Widget"},
+    "versions":[{"name":"v1","served":true,"storage":true,
+    "schema":{"openAPIV3Schema":{"type":"object","properties":{"a":{"type":"integer","not":{"minimun":1}}}}}}]} | 1
+    > V16 "/properties/a/not"
+    > C03 "/spec/versions/0/schema/openAPIV3Schema/properties/a/not/minimun"
+those of the schema before those of the definition | crdx check crd.json v1 --profile cluster
+    | {"group":"example.com","scope":1,"names":{"plural":"widgets","kind":"Widget"},
+    "versions":[{"name":"v1","served":true,"storage":true,"schema":{"openAPIV3Schema":{"type":"object","properties":{"l":{"type":"array"}}}}}]} | 1
+    > V17 "/properties/l"
+    > C19 "/properties/l"
+    > C08 "/spec/scope"
+a keyword that does not go with status | crdx check crd.json v1 --profile cluster
+    | {"group":"example.com","scope":"Cluster","names":{"plural":"widgets","kind":"Widget"},
+    "versions":[{"name":"v1","served":true,"storage":true,"subresources":{"status":{}},
+    "schema":{"openAPIV3Schema":{"type":"object","oneOf":[{"required":["a"]}],"properties":{"a":{"type":"string"}}}}}]} | 1
+    > C18 ""
+the same where status is null | crdx check crd.json v1 --profile cluster
+    | {"group":"example.com","scope":"Cluster","names":{"plural":"widgets","kind":"Widget"},
+    "versions":[{"name":"v1","served":true,"storage":true,"subresources":{"status":null},
+    "schema":{"openAPIV3Schema":{"type":"object","oneOf":[{"required":["a"]}],"properties":{"a":{"type":"string"}}}}}]} | 0
+    > structural
+status of another version | crdx check crd.json v2 --profile cluster
+    | {"group":"example.com","scope":"Cluster","names":{"plural":"widgets","kind":"Widget"},
+    "versions":[{"name":"v1","served":true,"storage":true,"subresources":{"status":{}},
+    "schema":{"openAPIV3Schema":{"type":"object","properties":{"a":{"type":"string"}}}}},
+    {"name":"v2","served":true,"storage":false,
+    "schema":{"openAPIV3Schema":{"type":"object","oneOf":[{"required":["a"]}],"properties":{"a":{"type":"string"}}}}}]} | 0
+    > structural
+with reasons, where a violation has some | crdx check crd.json v1 --profile cluster --why
+    | {"group":"example.com","scope":"Cluster","names":{"plural":"widgets","kind":"Widget"},
+    "versions":[{"name":"v1","served":true,"storage":true,
+    "schema":{"openAPIV3Schema":{"type":"object","properties":{"a":{"type":"string","minimun":1}}}}}]} | 1
+    > V17 "/properties/a"
+    >     "minimun": NotOfScalars
+    > C03 "/spec/versions/0/schema/openAPIV3Schema/properties/a/minimun"
+"#;
+
 // Patterns of a schema, each of which breaks V16 or V17 too, but where there is no type.
 static PATTERNS: &str = r#"
 13 rows: name | command | schema | second | status
@@ -179,6 +244,27 @@ a strict question | crdx validate crd.json v1 object.json --strict --profile clu
     ! V17 "/properties/c"
 "#;
 
+/// A run on a definition of widgets with this spec.
+struct SpecRow;
+
+impl Kind for SpecRow {
+    fn attempt(&self, report: &mut Report, alloc: Global, row: &Row) -> Result<(), Fail> {
+        let crd = format!(in alloc;
+            r#"{{"apiVersion":"apiextensions.k8s.io/v1","kind":"CustomResourceDefinition","metadata":{{"name":"widgets.example.com"}},"spec":{}}}"#,
+            row.text("spec")
+        )?;
+        let run = Run {
+            command: row.text("command"),
+            crd: crd.as_str(),
+            second: "",
+            out: row.out(),
+            err: row.err(),
+            status: row.number("status"),
+        };
+        try_run(report, alloc, &run)
+    }
+}
+
 #[test]
 fn numbers_by_profile(rt: HostRuntime) -> Result<(), Fail> {
     try_tables(&rt, rt.alloc(), &SchemaRunRow, &[NAMED, FRACTIONS, OTHERS])
@@ -187,4 +273,9 @@ fn numbers_by_profile(rt: HostRuntime) -> Result<(), Fail> {
 #[test]
 fn as_written(rt: HostRuntime) -> Result<(), Fail> {
     try_tables(&rt, rt.alloc(), &SchemaRunRow, &[WRITTEN, PATTERNS])
+}
+
+#[test]
+fn definitions(rt: HostRuntime) -> Result<(), Fail> {
+    try_tables(&rt, rt.alloc(), &SpecRow, &[DEFINITIONS])
 }

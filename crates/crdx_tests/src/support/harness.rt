@@ -85,9 +85,9 @@ pub fn is_answer(report: &mut Report, output: &Output, out: &str, err: &str, sta
 /// A CustomResourceDefinition whose one version, `v1`, has this schema.
 pub fn definition(alloc: Global, schema: &str) -> Result<String, AllocError> {
     format!(in alloc;
-        r#"{{"apiVersion":"apiextensions.k8s.io/v1","kind":"CustomResourceDefinition","spec":{{
-            "group":"example.com","names":{{"kind":"Widget"}},
-            "versions":[{{"name":"v1","schema":{{"openAPIV3Schema":{schema}}}}}]}}}}"#
+        r#"{{"apiVersion":"apiextensions.k8s.io/v1","kind":"CustomResourceDefinition","metadata":{{"name":"widgets.example.com"}},"spec":{{
+            "group":"example.com","scope":"Namespaced","names":{{"plural":"widgets","kind":"Widget"}},
+            "versions":[{{"name":"v1","served":true,"storage":true,"schema":{{"openAPIV3Schema":{schema}}}}}]}}}}"#
     )
 }
 

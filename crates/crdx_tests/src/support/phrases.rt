@@ -42,6 +42,28 @@ F18 multipleOf
 F20 envelope
 C01 bad pattern
 C02 pattern too big
+C03 unknown field
+C04 missing field
+C05 wrong name
+C06 bad group
+C07 protected group
+C08 bad scope
+C09 bad name
+C10 version named twice
+C11 not one stored version
+C12 preserveUnknownFields is true
+C13 bad printer column
+C14 bad scale path
+C15 bad conversion
+C16 unknown type
+C17 bad root
+C18 not beside status
+C19 array without items
+C20 x-kubernetes-preserve-unknown-fields is false
+C21 bad embedded resource
+C22 keyword not supported
+C23 int-or-string with another
+C24 bad envelope
 "#;
 
 // Reasons, whose phrases follow a keyword.

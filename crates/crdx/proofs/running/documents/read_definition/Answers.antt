@@ -15,11 +15,13 @@ returns-in-Err-clause-cause g c =
 
 pub returns-in-Ok-clause-ok : goal.returns-in-Ok-clause-ok
 returns-in-Ok-clause-ok g c =
-    let read = c.in-Ok.ensures in
-    (record {
-      document = data_of c.in_ok-document.document;
-      at_hand = c.in_ok-document.ensures.ok;
-      read = read.ok;
-      forms = read.forms;
-      within = subst (λ limits. IsWithinLimits limits c.in-Ok.crd.raw) c.limits_of-limits.ensures read.within;
-    }, refl)
+    let read = c.in-Ok.ensures in (
+      record {
+        document = data_of c.in_ok-document.document;
+        at_hand = c.in_ok-document.ensures.ok;
+        read = read.ok;
+        forms = read.forms;
+        within = subst (λ limits. IsWithinLimits limits c.in-Ok.crd.raw) c.limits_of-limits.ensures read.within;
+      },
+      refl,
+    )
