@@ -1,5 +1,5 @@
 -- An expression of the Common Expression Language as plain data (its specification, langdef.md, "Syntax"). Texts are lists of code points.
-use Rattle.std.specs.Prelude.{ℕ, ℤ, Bool, suc, max, List}
+use Rattle.std.specs.Prelude.{ℕ, ℤ, Bool, suc, max, List, [], ◌∷◌}
 use Rattle.cel_ast.specs.declared.operators.Unary.{Unary}
 use Rattle.cel_ast.specs.declared.operators.Binary.{Binary}
 use Rattle.cel_ast.specs.declared.operators.Macro.{Macro}
@@ -52,6 +52,18 @@ mutual
   pub data Key : Type 0 where
     key : Syntax → Key
     field : Text → Key
+
+abbrev pub parts : List Syntax → Parts
+parts [] = no_parts
+parts (e ∷ es) = part e (parts es)
+
+abbrev pub elements : List (Bool × Syntax) → Elements
+elements [] = no_elements
+elements (e ∷ es) = element e.0 e.1 (elements es)
+
+abbrev pub entries : List (Bool × Key × Syntax) → Entries
+entries [] = no_entries
+entries (e ∷ es) = entry e.0 e.1 e.2 (entries es)
 
 -- how deep expressions nest
 abbrev mutual

@@ -1,5 +1,5 @@
 -- The plain data that values of the code represent.
-use Rattle.std.specs.Prelude.{List, [], ◌∷◌}
+use Rattle.std.specs.Prelude.{Bool, List, map}
 use Rattle.cel_ast.specs.Syntax as plain
 use Rattle.cel_ast.specs.declared.literal.Literal.{Literal}
 use Rattle.cel_ast.specs.declared.literal.Literal.TheVariants as literal
@@ -40,14 +40,17 @@ abbrev pub key_of : Key → plain.Key
 key_of (key.Expr e) = plain.key (syntax_of e)
 key_of (key.Field f) = plain.field f
 
+abbrev pub element_of : Element → Bool × plain.Syntax
+element_of e = (e.optional, syntax_of e.expr)
+
+abbrev pub entry_of : Entry → Bool × plain.Key × plain.Syntax
+entry_of e = (e.optional, key_of e.key, syntax_of e.value)
+
 abbrev pub parts_of : List Expr → plain.Parts
-parts_of [] = plain.no_parts
-parts_of (e ∷ es) = plain.part (syntax_of e) (parts_of es)
+parts_of es = plain.parts (map syntax_of es)
 
 abbrev pub elements_of : List Element → plain.Elements
-elements_of [] = plain.no_elements
-elements_of (e ∷ es) = plain.element e.optional (syntax_of e.expr) (elements_of es)
+elements_of es = plain.elements (map element_of es)
 
 abbrev pub entries_of : List Entry → plain.Entries
-entries_of [] = plain.no_entries
-entries_of (e ∷ es) = plain.entry e.optional (key_of e.key) (syntax_of e.value) (entries_of es)
+entries_of es = plain.entries (map entry_of es)
