@@ -86,16 +86,16 @@ abbrev mutual
 
   pub parts_height : Parts → ℕ
   parts_height no_parts = 0
-  parts_height (part e es) = max (height e) (parts_height es)
+  parts_height (part e es) = max (suc (height e)) (parts_height es)
 
   pub elements_height : Elements → ℕ
   elements_height no_elements = 0
-  elements_height (element o e es) = max (height e) (elements_height es)
+  elements_height (element o e es) = max (suc (height e)) (elements_height es)
 
   pub entries_height : Entries → ℕ
   entries_height no_entries = 0
-  entries_height (entry o k e es) = max (max (key_height k) (height e)) (entries_height es)
+  entries_height (entry o k e es) = max (max (key_height k) (suc (height e))) (entries_height es)
 
   pub key_height : Key → ℕ
-  key_height (key e) = height e
+  key_height (key e) = suc (height e)
   key_height (field f) = 0

@@ -37,17 +37,14 @@ syntax_of (expr.Macro m e x body) = plain.macro m e x body
 syntax_of (expr.MapWhere e x p t) = plain.map_where e x p t
 
 abbrev pub key_of : Key → plain.Key
-key_of (key.Expr e) = plain.key (syntax_of e)
+key_of (key.Expr e) = plain.key e
 key_of (key.Field f) = plain.field f
 
 abbrev pub element_of : Element → Bool × plain.Syntax
-element_of e = (e.optional, syntax_of e.expr)
+element_of e = (e.optional, e.expr)
 
 abbrev pub entry_of : Entry → Bool × plain.Key × plain.Syntax
-entry_of e = (e.optional, key_of e.key, syntax_of e.value)
-
-abbrev pub parts_of : List Expr → plain.Parts
-parts_of es = plain.parts (map syntax_of es)
+entry_of e = (e.optional, key_of e.key, e.value)
 
 abbrev pub elements_of : List Element → plain.Elements
 elements_of es = plain.elements (map element_of es)

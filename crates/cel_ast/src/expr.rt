@@ -40,7 +40,7 @@ pub enum Expr {
     MapWhere(Part, Text, Part, Part),
 }
 
-/// An expression that is part of another one.
+/// An expression in its place on the heap.
 #[cycle(expr)]
 #[derive(Drop)]
 pub struct Part {
@@ -51,7 +51,7 @@ pub struct Part {
 #[cycle(expr)]
 #[derive(Drop)]
 pub struct Parts {
-    pub exprs: Vec<Expr>,
+    pub exprs: Vec<Part>,
 }
 
 /// The elements of a list, in order.
@@ -74,7 +74,7 @@ pub struct Entries {
 pub struct Element {
     /// Whether a `?` stands before it.
     pub optional: bool,
-    pub expr: Expr,
+    pub expr: Part,
 }
 
 /// An entry of a map, or a field of a message.
@@ -84,7 +84,7 @@ pub struct Entry {
     /// Whether a `?` stands before it.
     pub optional: bool,
     pub key: Key,
-    pub value: Expr,
+    pub value: Part,
 }
 
 /// What stands before the colon of an entry.
@@ -92,7 +92,7 @@ pub struct Entry {
 #[derive(Drop)]
 pub enum Key {
     /// The key of a map.
-    Expr(Expr),
+    Expr(Part),
     /// The name of a message's field.
     Field(Text),
 }
@@ -126,9 +126,9 @@ impl Model for Parts {
 
     ghost coded = { coded_parts };
 
-    ghost use Rattle.cel_ast.specs.View.{parts_of};
+    ghost use Rattle.cel_ast.specs.Syntax.{parts};
 
-    ghost view = { λ a. parts_of a.exprs.items };
+    ghost view = { λ a. parts a.exprs.items };
 
     ghost size = { parts_height };
 

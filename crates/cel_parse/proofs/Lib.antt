@@ -3,3 +3,11 @@ pub mod SignLemmas
 pub mod NameLemmas
 pub mod LoopLemmas
 pub mod WordLemmas
+pub mod Parts
+pub mod SoundStarts
+pub mod Sound
+pub mod Stops
+pub mod Shorter
+pub mod CompleteStarts
+pub mod Complete
+pub mod Exact

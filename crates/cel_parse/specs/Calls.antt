@@ -6,9 +6,14 @@ use Rattle.cel_ast.specs.declared.operators.Macro.{Macro}
 use Rattle.cel_ast.specs.declared.operators.Macro.TheVariants.{All, Exists, ExistsOne, Filter, Map}
 use Rattle.cel_read.specs.Lexemes.{spells}
 
+-- what `e.f` selects from what
+abbrev pub selection : Syntax → Option (Syntax × Text)
+selection (select e f) = Some (e, f)
+selection _ = None
+
 -- `has(e.f)`
 abbrev pub presence : List Syntax → Option Syntax
-presence (select e f ∷ []) = Some (present e f)
+presence (e ∷ []) = option_map (λ r. present r.0 r.1) (selection e)
 presence _ = None
 
 abbrev pub call_of : Text → List Syntax → Option Syntax
@@ -24,9 +29,13 @@ macro_of f =
     else if spells "map" f then Some Map
     else None
 
+abbrev pub simple_name : Syntax → Option Text
+simple_name (name x) = Some x
+simple_name _ = None
+
 -- the name that is bound, and the expression after it
 abbrev pub bound : List Syntax → Option (Text × Syntax)
-bound (name x ∷ p ∷ []) = Some (x, p)
+bound (e ∷ p ∷ []) = option_map (λ x. (x, p)) (simple_name e)
 bound _ = None
 
 abbrev pub binding : Macro → Syntax → List Syntax → Option Syntax
@@ -34,7 +43,7 @@ binding m e es = option_map (λ b. macro m e b.0 b.1) (bound es)
 
 -- `e.map(x, p, t)`
 abbrev pub mapping : Syntax → List Syntax → Option Syntax
-mapping e (name x ∷ p ∷ t ∷ []) = Some (map_where e x p t)
+mapping e (x ∷ p ∷ t ∷ []) = option_map (λ b. map_where e b.0 b.1 t) (bound (x ∷ p ∷ []))
 mapping e _ = None
 
 abbrev pub of_two : Option Macro → Syntax → Text → List Syntax → Option Syntax

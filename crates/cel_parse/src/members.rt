@@ -2,7 +2,6 @@
 ghost use Rattle.std.specs.Prelude.{◌≡◌, ◌<◌, length, IfOk};
 ghost use Rattle.cel_read.specs.View.{text_of, token_lexemes};
 ghost use Rattle.cel_ast.specs.View.{syntax_of};
-ghost use Rattle.cel_ast.specs.Syntax.{binary};
 ghost use Rattle.cel_parse.specs.Grammar as grammar;
 ghost use Rattle.cel_parse.specs.Internal.Reading as spec;
 ghost use Rattle.cel_parse.specs.Internal.Views.{next_of, IsNextShorter};
@@ -75,17 +74,16 @@ pub(crate) fn part(alloc: Global, expr: Expr) -> Result<Part, AllocError>
 pub(crate) fn select(
     alloc: Global,
     optional: bool,
-    left: Expr,
+    left: Part,
     name: &String,
-) -> Result<Expr, AllocError>
-    ensures { IfOk result (λ e. syntax_of e ≡ grammar.selected optional (syntax_of left) (text_of name.now)) }
+) -> Result<Part, AllocError>
+    ensures { IfOk result (λ e. e ≡ grammar.selected optional left (text_of name.now)) }
 {
-    let left = part(alloc, left)?;
     let name = copied(alloc, name)?;
     if optional {
-        Ok(Expr::OptionalSelect(left, name))
+        part(alloc, Expr::OptionalSelect(left, name))
     } else {
-        Ok(Expr::Select(left, name))
+        part(alloc, Expr::Select(left, name))
     }
 }
 
@@ -93,27 +91,15 @@ pub(crate) fn select(
 pub(crate) fn index(
     alloc: Global,
     optional: bool,
-    left: Expr,
-    index: Expr,
-) -> Result<Expr, AllocError>
-    ensures { IfOk result (λ e. syntax_of e ≡ grammar.indexed optional (syntax_of left) (syntax_of index)) }
+    left: Part,
+    index: Part,
+) -> Result<Part, AllocError>
+    ensures { IfOk result (λ e. e ≡ grammar.indexed optional left index) }
 {
-    if optional {
-        join(alloc, Binary::OptionalIndex, left, index)
+    let operator = if optional {
+        Binary::OptionalIndex
     } else {
-        join(alloc, Binary::Index, left, index)
-    }
-}
-
-/// `left operator right`
-pub(crate) fn join(
-    alloc: Global,
-    operator: Binary,
-    left: Expr,
-    right: Expr,
-) -> Result<Expr, AllocError>
-    ensures { IfOk result (λ e. syntax_of e ≡ binary operator (syntax_of left) (syntax_of right)) }
-{
-    let left = part(alloc, left)?;
-    Ok(Expr::Binary(operator, left, part(alloc, right)?))
+        Binary::Index
+    };
+    part(alloc, Expr::Binary(operator, left, index))
 }

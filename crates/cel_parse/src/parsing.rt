@@ -16,12 +16,12 @@ use crate::marks::{
     after_brace, after_bracket, after_colon, after_comma, after_parenthesis, after_question, item_at,
     optional_at,
 };
-use crate::members::{Next, goes_on, index, join, next_at, part, select};
+use crate::members::{Next, goes_on, index, next_at, part, select};
 use crate::names::copied;
 use crate::operators::operator_at;
 use crate::signs::{Signs, signs_at};
 use crate::start::{Start, start_at};
-use cel_ast::{Element, Elements, Entries, Entry, Expr, Key, Unary};
+use cel_ast::{Element, Elements, Entries, Entry, Expr, Key, Part, Unary};
 use cel_read::Token;
 use std::alloc::{AllocError, Global};
 
@@ -42,7 +42,7 @@ pub fn parse(alloc: Global, tokens: &[Token], depth: u32) -> Result<Expr, ParseF
     match read_expr(alloc, tokens, depth) {
         Ok((expr, rest)) => {
             if rest.is_empty() {
-                Ok(expr)
+                Ok(Box::into_inner(expr.expr))
             } else {
                 Err(ParseFault::Unexpected(tokens.len() - rest.len()))
             }
@@ -58,8 +58,8 @@ fn read_expr<'a>(
     alloc: Global,
     tokens: &'a [Token],
     depth: u32,
-) -> Result<(Expr, &'a [Token]), Stopped>
-    ensures gives { Reads syntax_of (spec.read_expr depth (token_lexemes tokens.now)) result }
+) -> Result<(Part, &'a [Token]), Stopped>
+    ensures gives { Reads (λ e. e) (spec.read_expr depth (token_lexemes tokens.now)) result }
     ensures shorter { IfOk result (λ r. length r.1.now < length tokens.now) }
 {
     if depth == 0 {
@@ -77,19 +77,18 @@ fn read_expr<'a>(
 #[cycle(read)]
 fn read_choice<'a>(
     alloc: Global,
-    condition: Expr,
+    condition: Part,
     tokens: &'a [Token],
     depth: u32,
-) -> Result<(Expr, &'a [Token]), Stopped>
-    ensures gives { Reads syntax_of (spec.choose (spec.read_rank (spec.read_expr depth) 5) (spec.read_expr depth) (syntax_of condition) [] (Some (token_lexemes tokens.now))) result }
+) -> Result<(Part, &'a [Token]), Stopped>
+    ensures gives { Reads (λ e. e) (spec.choose (spec.read_rank (spec.read_expr depth) 5) (spec.read_expr depth) condition [] (Some (token_lexemes tokens.now))) result }
     ensures shorter { IfOk result (λ r. length r.1.now < length tokens.now) }
 {
     let (yes, rest) = read_rank(alloc, tokens, depth, 5)?;
     match after_colon(rest) {
         Some(rest) => {
             let (no, rest) = read_expr(alloc, rest, depth)?;
-            let choice = Expr::Choice(part(alloc, condition)?, part(alloc, yes)?, part(alloc, no)?);
-            Ok((choice, rest))
+            Ok((part(alloc, Expr::Choice(condition, yes, no))?, rest))
         }
         None => Err(Stopped::Before(rest.len())),
     }
@@ -102,8 +101,8 @@ fn read_rank<'a>(
     tokens: &'a [Token],
     depth: u32,
     rank: u8,
-) -> Result<(Expr, &'a [Token]), Stopped>
-    ensures gives { Reads syntax_of (spec.read_rank (spec.read_expr depth) rank (token_lexemes tokens.now)) result }
+) -> Result<(Part, &'a [Token]), Stopped>
+    ensures gives { Reads (λ e. e) (spec.read_rank (spec.read_expr depth) rank (token_lexemes tokens.now)) result }
     ensures shorter { IfOk result (λ r. length r.1.now < length tokens.now) }
 {
     if rank == 0 {
@@ -117,19 +116,19 @@ fn read_rank<'a>(
 #[cycle(read)]
 fn read_joins<'a>(
     alloc: Global,
-    first: Expr,
+    first: Part,
     tokens: &'a [Token],
     depth: u32,
     rank: u8,
-) -> Result<(Expr, &'a [Token]), Stopped>
-    ensures gives { Reads syntax_of (loop (spec.join_step rank (spec.read_rank (spec.read_expr depth) rank)) (syntax_of first) (token_lexemes tokens.now)) result }
+) -> Result<(Part, &'a [Token]), Stopped>
+    ensures gives { Reads (λ e. e) (loop (spec.join_step rank (spec.read_rank (spec.read_expr depth) rank)) first (token_lexemes tokens.now)) result }
     ensures shorter { IfOk result (λ r. length r.1.now ≤ length tokens.now) }
 {
     let mut left = first;
     let mut rest = tokens;
     'joins: while let Some((operator, after)) = operator_at(rank, rest) {
         let (right, next) = read_rank(alloc, after, depth, rank)?;
-        left = join(alloc, operator, left, right)?;
+        left = part(alloc, Expr::Binary(operator, left, right))?;
         rest = next;
     }
     Ok((left, rest))
@@ -141,8 +140,8 @@ fn read_unary<'a>(
     alloc: Global,
     tokens: &'a [Token],
     depth: u32,
-) -> Result<(Expr, &'a [Token]), Stopped>
-    ensures gives { Reads syntax_of (spec.read_unary (spec.read_expr depth) (token_lexemes tokens.now)) result }
+) -> Result<(Part, &'a [Token]), Stopped>
+    ensures gives { Reads (λ e. e) (spec.read_unary (spec.read_expr depth) (token_lexemes tokens.now)) result }
     ensures shorter { IfOk result (λ r. length r.1.now < length tokens.now) }
 {
     match signs_at(tokens) {
@@ -155,13 +154,13 @@ fn read_unary<'a>(
 }
 
 /// Two signs leave an expression as it is.
-fn signed(alloc: Global, operator: Unary, count: usize, expr: Expr) -> Result<Expr, AllocError>
-    ensures { IfOk result (λ e. syntax_of e ≡ signed_is operator count (syntax_of expr)) }
+fn signed(alloc: Global, operator: Unary, count: usize, expr: Part) -> Result<Part, AllocError>
+    ensures { IfOk result (λ e. e ≡ signed_is operator count expr) }
 {
     if count % 2 == 0 {
         Ok(expr)
     } else {
-        Ok(Expr::Unary(operator, part(alloc, expr)?))
+        part(alloc, Expr::Unary(operator, expr))
     }
 }
 
@@ -171,8 +170,8 @@ fn read_member<'a>(
     alloc: Global,
     tokens: &'a [Token],
     depth: u32,
-) -> Result<(Expr, &'a [Token]), Stopped>
-    ensures gives { Reads syntax_of (spec.read_member (spec.read_expr depth) (token_lexemes tokens.now)) result }
+) -> Result<(Part, &'a [Token]), Stopped>
+    ensures gives { Reads (λ e. e) (spec.read_member (spec.read_expr depth) (token_lexemes tokens.now)) result }
     ensures shorter { IfOk result (λ r. length r.1.now < length tokens.now) }
 {
     let (first, after_first) = read_primary(alloc, tokens, depth)?;
@@ -190,11 +189,11 @@ fn read_member<'a>(
 #[cycle(read)]
 fn read_next<'a>(
     alloc: Global,
-    left: Expr,
+    left: Part,
     tokens: &'a [Token],
     depth: u32,
-) -> Result<(Expr, &'a [Token]), Stopped>
-    ensures gives { Reads syntax_of (spec.read_next (spec.read_expr depth) (syntax_of left) (spec.next_of (token_lexemes tokens.now))) result }
+) -> Result<(Part, &'a [Token]), Stopped>
+    ensures gives { Reads (λ e. e) (spec.read_next (spec.read_expr depth) left (spec.next_of (token_lexemes tokens.now))) result }
     ensures shorter { IfOk result (λ r. length r.1.now < length tokens.now) }
 {
     match next_at(tokens) {
@@ -224,16 +223,16 @@ fn read_primary<'a>(
     alloc: Global,
     tokens: &'a [Token],
     depth: u32,
-) -> Result<(Expr, &'a [Token]), Stopped>
-    ensures gives { Reads syntax_of (spec.read_primary (spec.read_expr depth) (token_lexemes tokens.now)) result }
+) -> Result<(Part, &'a [Token]), Stopped>
+    ensures gives { Reads (λ e. e) (spec.read_primary (spec.read_expr depth) (token_lexemes tokens.now)) result }
     ensures shorter { IfOk result (λ r. length r.1.now < length tokens.now) }
 {
     match start_at(alloc, tokens)? {
-        Start::Literal(literal, rest) => Ok((Expr::Literal(literal), rest)),
-        Start::Name(name, rest) => Ok((Expr::Name(name), rest)),
+        Start::Literal(literal, rest) => Ok((part(alloc, Expr::Literal(literal))?, rest)),
+        Start::Name(name, rest) => Ok((part(alloc, Expr::Name(name))?, rest)),
         Start::Call(name, rest) => {
             let (args, rest) = read_arguments(alloc, rest, depth)?;
-            match call(name, args) {
+            match call(alloc, name, args)? {
                 Some(expr) => Ok((expr, rest)),
                 None => Err(Stopped::Before(rest.len())),
             }
@@ -247,15 +246,15 @@ fn read_primary<'a>(
         }
         Start::Bracket(rest) => {
             let (elements, rest) = read_elements(alloc, rest, depth)?;
-            Ok((Expr::List(Elements { elements }), rest))
+            Ok((part(alloc, Expr::List(Elements { elements }))?, rest))
         }
         Start::Brace(rest) => {
             let (entries, rest) = read_entries(alloc, false, rest, depth)?;
-            Ok((Expr::Map(Entries { entries }), rest))
+            Ok((part(alloc, Expr::Map(Entries { entries }))?, rest))
         }
         Start::Message(name, rest) => {
             let (entries, rest) = read_entries(alloc, true, rest, depth)?;
-            Ok((Expr::Message(name, Entries { entries }), rest))
+            Ok((part(alloc, Expr::Message(name, Entries { entries }))?, rest))
         }
         Start::Wrong => Err(Stopped::Before(tokens.len())),
     }
@@ -267,8 +266,8 @@ fn read_arguments<'a>(
     alloc: Global,
     tokens: &'a [Token],
     depth: u32,
-) -> Result<(Vec<Expr>, &'a [Token]), Stopped>
-    ensures gives { Reads (λ v. map syntax_of v.items) (spec.read_arguments (spec.read_expr depth) (token_lexemes tokens.now)) result }
+) -> Result<(Vec<Part>, &'a [Token]), Stopped>
+    ensures gives { Reads (λ v. v.items) (spec.read_arguments (spec.read_expr depth) (token_lexemes tokens.now)) result }
     ensures shorter { IfOk result (λ r. length r.1.now < length tokens.now) }
 {
     let mut args = Vec::new(alloc);

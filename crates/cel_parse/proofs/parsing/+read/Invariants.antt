@@ -1,5 +1,5 @@
 use Rattle.std.proofs.Common.{◌≡◌, ◌≤◌, ◌<◌, ◌+◌, ◌*◌, ℕ, length, map}
-use Rattle.cel_ast.specs.View.{syntax_of, element_of, entry_of}
+use Rattle.cel_ast.specs.View.{element_of, entry_of}
 use Rattle.cel_read.specs.View.{token_lexemes}
 use Rattle.cel_parse.specs.Internal.Readers.{loop, item_step, read_items}
 use Rattle.cel_parse.specs.Internal.Reading.{read_expr, read_rank, join_step, next_step, read_element, read_entry, read_member}
@@ -53,7 +53,7 @@ invariant-read_joins-joins l =
     let step = join_step l.rank (read_rank (read_expr l.depth) l.rank) in
     record {
       shorter : length l.rest ≤ length l.fn.tokens;
-      left : Left step (syntax_of l.left) (token_lexemes l.rest) (length l.rest) (loop step (syntax_of l.fn.first) (token_lexemes l.fn.tokens));
+      left : Left step l.left (token_lexemes l.rest) (length l.rest) (loop step l.fn.first (token_lexemes l.fn.tokens));
     }
 
 abbrev pub decreases-read_joins-joins : goal.decreases-read_joins-joins
@@ -63,7 +63,7 @@ abbrev pub invariant-read_member-turns : goal.invariant-read_member-turns
 invariant-read_member-turns l =
     record {
       shorter : length l.rest < length l.fn.tokens;
-      left : Left (next_step (read_expr l.depth)) (syntax_of l.left) (token_lexemes l.rest) (length l.rest) (read_member (read_expr l.depth) (token_lexemes l.fn.tokens));
+      left : Left (next_step (read_expr l.depth)) l.left (token_lexemes l.rest) (length l.rest) (read_member (read_expr l.depth) (token_lexemes l.fn.tokens));
     }
 
 abbrev pub decreases-read_member-turns : goal.decreases-read_member-turns
@@ -73,7 +73,7 @@ abbrev pub invariant-read_arguments-items : goal.invariant-read_arguments-items
 invariant-read_arguments-items l =
     record {
       shorter : length l.rest ≤ length l.fn.tokens;
-      left : Left (item_step (read_expr l.depth)) (map syntax_of l.args.items) (token_lexemes l.rest) (length l.rest) (read_items (read_expr l.depth) (token_lexemes l.fn.tokens));
+      left : Left (item_step (read_expr l.depth)) l.args.items (token_lexemes l.rest) (length l.rest) (read_items (read_expr l.depth) (token_lexemes l.fn.tokens));
     }
 
 abbrev pub decreases-read_arguments-items : goal.decreases-read_arguments-items
