@@ -2,6 +2,7 @@ pub mod TextLemmas
 pub mod SignLemmas
 pub mod NameLemmas
 pub mod LoopLemmas
+pub mod TurnLemmas
 pub mod WordLemmas
 pub mod Parts
 pub mod SoundStarts

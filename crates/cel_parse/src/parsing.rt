@@ -42,7 +42,7 @@ pub fn parse(alloc: Global, tokens: &[Token], depth: u32) -> Result<Expr, ParseF
     match read_expr(alloc, tokens, depth) {
         Ok((expr, rest)) => {
             if rest.is_empty() {
-                Ok(Box::into_inner(expr.expr))
+                Ok(inside(expr))
             } else {
                 Err(ParseFault::Unexpected(tokens.len() - rest.len()))
             }
@@ -50,6 +50,12 @@ pub fn parse(alloc: Global, tokens: &[Token], depth: u32) -> Result<Expr, ParseF
         Err(Stopped::Before(left)) => Err(ParseFault::Unexpected(tokens.len().saturating_sub(left))),
         Err(Stopped::NoMemory) => Err(ParseFault::NoMemory),
     }
+}
+
+fn inside(part: Part) -> Expr
+    ensures { syntax_of result ≡ part }
+{
+    Box::into_inner(part.expr)
 }
 
 /// Expr ::= Or [ "?" Or ":" Expr ]
