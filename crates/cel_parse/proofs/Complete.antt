@@ -1,19 +1,18 @@
 -- What is in the grammar is read, whatever follows that cannot go on it.
-use Rattle.std.proofs.Common.{◌≡◌, ◌<◌, ◌≤◌, ℕ, zero, suc, List, [], ◌∷◌, ◌++◌, Bool, true, false, Option, Some, None, option_map, if◌then◌else◌, length, drop, refl, sym, ap, ◌∙◌, arith}
+use Rattle.std.proofs.Common.{◌≡◌, ◌<◌, ℕ, zero, suc, List, [], ◌∷◌, ◌++◌, Bool, true, false, Some, None, option_map, if◌then◌else◌, length, refl, ap, ◌∙◌, arith}
 use Rattle.cel_ast.specs.Syntax.{Text, Syntax, Key}
 use Rattle.cel_ast.specs.Syntax as tree
-use Rattle.cel_ast.specs.declared.operators.Binary.{Binary}
 use Rattle.cel_ast.specs.declared.operators.Unary.TheVariants as one
 use Rattle.cel_read.specs.Lexemes as token
-use Rattle.cel_read.specs.declared.token.Symbol.TheVariants.{Question, Colon, Comma, Dot, LeftParenthesis, RightParenthesis, LeftBracket, RightBracket, LeftBrace, RightBrace}
+use Rattle.cel_read.specs.declared.token.Symbol.TheVariants.{Question, Colon, Comma, Dot, LeftParenthesis, RightParenthesis, LeftBracket, RightBracket, RightBrace}
 use Rattle.cel_parse.specs.Forms.{Tokens, Chain, link, Stands, first, other, IsItem, an_item, Items, Closes, at_once, Optional, plain, marked}
 use Rattle.cel_parse.specs.Forms as forms
-use Rattle.cel_parse.specs.Words.{operator, signed}
+use Rattle.cel_parse.specs.Words.{signed}
 use Rattle.cel_parse.specs.Calls.{call_of, method_of}
 use Rattle.cel_parse.specs.Grammar.{IsElement, an_element, IsKey, a_key, a_field, IsEntry, an_entry, IsPrimary, in_parentheses, a_list, a_map, selected, indexed, Goes, IsMember, a_member, IsUnary, unsigned, nots, minuses, Joins, join, IsJoined, joined, IsOfRank, IsChoice, no_choice, a_choice, ExprAt}
 use Rattle.cel_parse.specs.Grammar as grammar
-use Rattle.cel_parse.specs.Internal.Readers.{Found, none, found, and_then, go_on, given, after_parenthesis, after_bracket, after_brace, after_colon, after_question, after_comma, optional, Step, over, broken, more, stepped, turn, repeat, loop, is_closing, first_item, other_item, item_where, is_nil, item_turn, item_step, read_items}
-use Rattle.cel_parse.specs.Internal.Reading.{read_element, read_field, read_key, read_value, read_entry, read_arguments, read_elements, read_entries, Start, start_of, from_start, read_primary, Next, a_select, a_method, an_index, cut, ended, after_dot, next_of, read_next, goes_on, step_if, next_step, read_member, Sign, no_sign, not_sign, minus_sign, sign_of, after_sign, read_unary, operator_at, join_turn, join_step, read_joined, read_rank, choose, read_choice, read_expr, type_at, with_front}
+use Rattle.cel_parse.specs.Internal.Readers.{Found, none, found, and_then, go_on, given, after_parenthesis, after_bracket, after_brace, after_colon, after_question, after_comma, optional, Step, over, more, stepped, turn, repeat, loop, is_closing, first_item, other_item, item_where, is_nil, item_turn, item_step, read_items}
+use Rattle.cel_parse.specs.Internal.Reading.{read_element, read_key, read_value, read_entry, read_arguments, read_elements, read_entries, from_start, read_primary, a_select, an_index, after_dot, next_of, read_next, step_if, next_step, read_member, no_sign, sign_of, after_sign, read_unary, join_turn, join_step, read_joined, read_rank, choose, read_choice, read_expr, with_front}
 use Rattle.cel_parse.proofs.Stops.{Stops, Ends, stops_fewer, no_operator, operator_stops, ends_stops, no_question, is_open, not_open, not_on, NoType, no_type, is_shut, shut_ends, no_item, closing_item, starts_question, not_read}
 use Rattle.cel_parse.proofs.CompleteStarts.{literal_starts, message_starts, call_starts, name_starts, primary_unsigned, nots_found, minuses_found}
 use Rattle.cel_parse.proofs.Shorter.{Shorter, item_shorter, element_shorter, entry_shorter, goes_shorter, join_shorter, rank_shorter, expr_shorter}

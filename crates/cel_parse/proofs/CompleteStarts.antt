@@ -1,17 +1,17 @@
 -- Functions find what the grammar says: what begins an expression, and the signs before it.
-use Rattle.std.proofs.Common.{◌≡◌, ◌<◌, ◌≤◌, ◌^◌, ◌-ℤ◌, ◌∙◌, ℕ, zero, suc, pos, List, [], ◌∷◌, ◌++◌, Bool, true, false, Option, Some, None, option_map, if◌then◌else◌, refl, sym, ap, arith, nat_lt}
+use Rattle.std.proofs.Common.{◌≡◌, ◌<◌, ◌≤◌, ◌^◌, ◌-ℤ◌, ◌∙◌, ℕ, suc, pos, [], ◌∷◌, ◌++◌, Bool, true, false, Some, None, option_map, if◌then◌else◌, refl, ap, arith, nat_lt}
 use Rattle.std.specs.Prelude.{nat_le}
 use Rattle.std.proofs.lemmas.Bool.Decides.{nat_tests}
 use Rattle.cel_ast.specs.Syntax.{Text, Constant, Syntax}
 use Rattle.cel_ast.specs.Syntax as tree
 use Rattle.cel_read.specs.Lexemes as token
-use Rattle.cel_read.specs.declared.token.Symbol.TheVariants.{Not, Minus, Question, Dot, LeftParenthesis, LeftBracket, LeftBrace}
+use Rattle.cel_read.specs.declared.token.Symbol.TheVariants.{Not, Minus, LeftParenthesis}
 use Rattle.cel_parse.specs.Forms.{Tokens}
 use Rattle.cel_parse.specs.Words.{is_reserved}
 use Rattle.cel_parse.specs.Literals.{IsLiteral, an_integer, a_negative, an_unsigned, a_double, a_negative_double, a_string, some_bytes, a_true, a_false, a_null}
 use Rattle.cel_parse.specs.Grammar.{Leading, no_dot, a_dot, IsTypeName, last, before, IsPrimary, Signs, one_sign, more_signs, has_minus}
 use Rattle.cel_parse.specs.Grammar as grammar
-use Rattle.cel_parse.specs.Internal.Reading.{small, negative, literal_at, leading, with_front, type_at, Start, a_literal, a_message, a_call, a_name, identified, ident_at, typed, named, valued, start_of, one_more, nots, minuses, Sign, no_sign, not_sign, minus_sign, sign_of}
+use Rattle.cel_parse.specs.Internal.Reading.{leading, with_front, type_at, Start, a_literal, a_message, a_call, a_name, identified, ident_at, typed, named, valued, start_of, one_more, nots, minuses, no_sign, not_sign, minus_sign, sign_of}
 use Rattle.cel_parse.proofs.Stops.{is_open, NoType}
 
 below_test : (n m : ℕ) → n < m → nat_lt n m ≡ true

@@ -1,11 +1,11 @@
 -- Reading a whole list of tokens.
-use Rattle.std.proofs.Common.{◌≡◌, ◌≢◌, ◌∙◌, ℕ, suc, List, [], ◌∷◌, Option, Some, None, length, refl, sym, ap, arith}
+use Rattle.std.proofs.Common.{◌≡◌, ◌≢◌, ◌∙◌, ℕ, List, [], ◌∷◌, length, refl, sym, arith}
 use Rattle.cel_ast.specs.Syntax.{Syntax}
 use Rattle.cel_read.specs.View.{token_lexemes}
 use Rattle.cel_read.specs.declared.token.Token.{Token}
 use Rattle.cel_parse.specs.Forms.{Tokens}
 use Rattle.cel_parse.specs.Grammar.{IsExpr}
-use Rattle.cel_parse.specs.Internal.Readers.{Found, none, found}
+use Rattle.cel_parse.specs.Internal.Readers.{none, found}
 use Rattle.cel_parse.specs.Internal.Reading.{read_expr}
 use Rattle.cel_parse.proofs.Parts.{found_left}
 use Rattle.cel_parse.proofs.Sound.{expr_sound}

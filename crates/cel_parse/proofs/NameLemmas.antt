@@ -4,7 +4,7 @@ use Rattle.cel_ast.specs.Syntax.{Text}
 use Rattle.cel_read.specs.Lexemes as token
 use Rattle.cel_read.specs.declared.token.Symbol.TheVariants.{Dot, LeftBrace}
 use Rattle.cel_parse.specs.Forms.{Tokens}
-use Rattle.cel_parse.specs.Internal.Reading.{NamePart, before, name_part, with_beginning, with_front, type_at}
+use Rattle.cel_parse.specs.Internal.Reading.{before, name_part, with_beginning, with_front, type_at}
 
 type_before : (ws us : Tokens) (x : Text) → before x us ≡ name_part ws → type_at ws ≡ option_map (with_front x) (type_at us)
 type_before (token.name y ∷ token.symbol Dot ∷ ws) us x h = cc

@@ -1,12 +1,12 @@
 -- Small steps of reading, taken apart.
-use Rattle.std.proofs.Common.{◌≡◌, ◌<◌, ◌≤◌, ◌^◌, ℕ, List, [], ◌∷◌, Bool, true, false, Option, Some, None, option_map, if◌then◌else◌, refl, sym, ap, subst, arith, nat_lt}
+use Rattle.std.proofs.Common.{◌≡◌, ◌<◌, ◌≤◌, ℕ, ◌∷◌, Bool, true, false, Option, Some, None, option_map, if◌then◌else◌, refl, sym, ap, subst, arith, nat_lt}
 use Rattle.std.specs.Prelude.{nat_le}
 use Rattle.std.proofs.lemmas.Bool.Decides.{nat_tests}
 use Rattle.cel_read.specs.Lexemes.{symbol}
 use Rattle.cel_read.specs.declared.token.Symbol.TheVariants.{Question, Colon, Comma, RightParenthesis, RightBracket, RightBrace}
 use Rattle.cel_parse.specs.Forms.{Tokens, Closes, at_once, Optional, plain, marked}
 use Rattle.cel_parse.specs.Forms as forms
-use Rattle.cel_parse.specs.Internal.Readers.{Found, none, found, and_then, go_on, given, after_parenthesis, after_bracket, after_brace, after_colon, after_question, after_comma, optional, Step, over, broken, more, stepped, is_closing, first_item, other_item}
+use Rattle.cel_parse.specs.Internal.Readers.{Found, none, found, and_then, go_on, given, after_parenthesis, after_bracket, after_brace, after_colon, after_question, after_comma, optional, more, stepped, is_closing, first_item, other_item}
 
 pub then_found : {A B : Type 0} (x : Found A) (f : A → Tokens → Found B) (e : B) (rest : Tokens) → and_then x f ≡ found e rest
     → (a : A) × (us : Tokens) × (x ≡ found a us) × (f a us ≡ found e rest)

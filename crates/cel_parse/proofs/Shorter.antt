@@ -1,8 +1,8 @@
 -- What follows a form is shorter.
-use Rattle.std.proofs.Common.{◌≡◌, ◌<◌, ◌≤◌, ◌+◌, ℕ, zero, suc, List, [], ◌∷◌, ◌++◌, Bool, true, false, length, arith}
-use Rattle.cel_ast.specs.Syntax.{Text, Constant, Syntax, Key}
+use Rattle.std.proofs.Common.{◌<◌, ◌≤◌, ℕ, zero, suc, List, [], Bool, true, false, length, arith}
+use Rattle.cel_ast.specs.Syntax.{Text, Constant, Syntax}
 use Rattle.cel_read.specs.declared.token.Symbol.{Symbol}
-use Rattle.cel_parse.specs.Forms.{Tokens, Chain, over, link, Stands, first, other, IsItem, an_item, Items, Closes, at_once, after_comma, Optional, plain, marked}
+use Rattle.cel_parse.specs.Forms.{Tokens, Chain, over, link, first, other, IsItem, an_item, Items, Closes, at_once, after_comma, Optional, plain, marked}
 use Rattle.cel_parse.specs.Literals.{IsLiteral, an_integer, a_negative, an_unsigned, a_double, a_negative_double, a_string, some_bytes, a_true, a_false, a_null}
 use Rattle.cel_parse.specs.Grammar.{Leading, no_dot, a_dot, IsTypeName, last, before, IsElement, an_element, IsKey, a_key, a_field, IsEntry, an_entry, IsPrimary, a_literal, a_name, a_call, in_parentheses, a_list, a_map, a_message, Goes, a_select, a_method, an_index, IsMember, a_member, Signs, one_sign, more_signs, IsUnary, unsigned, nots, minuses, Joins, join, IsJoined, joined, IsOfRank, IsChoice, no_choice, a_choice, ExprAt}
 

@@ -1,5 +1,5 @@
 -- Counting signs.
-use Rattle.std.proofs.Common.{◌≡◌, ◌+◌, ℕ, suc, refl, arith}
+use Rattle.std.proofs.Common.{◌≡◌, ◌+◌, ℕ, suc, arith}
 use Rattle.cel_parse.specs.Forms.{Tokens}
 use Rattle.cel_parse.specs.Internal.Reading.{one_more}
 

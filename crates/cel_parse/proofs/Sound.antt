@@ -1,20 +1,20 @@
 -- What is read is in the grammar.
-use Rattle.std.proofs.Common.{◌≡◌, ℕ, zero, suc, List, [], ◌∷◌, ◌++◌, Bool, true, false, Option, Some, None, length, drop, refl, sym, ap, subst, ◌∙◌}
+use Rattle.std.proofs.Common.{◌≡◌, ℕ, zero, suc, List, [], ◌∷◌, ◌++◌, Bool, true, false, Option, Some, None, length, refl, sym, ap, subst, ◌∙◌}
 use Rattle.cel_ast.specs.Syntax.{Text, Syntax, Key}
 use Rattle.cel_ast.specs.Syntax as tree
 use Rattle.cel_ast.specs.declared.operators.Binary.{Binary}
 use Rattle.cel_ast.specs.declared.operators.Unary.TheVariants as one
 use Rattle.cel_read.specs.Lexemes as token
-use Rattle.cel_read.specs.declared.token.Symbol.TheVariants.{Question, Colon, Comma, Dot, LeftParenthesis, RightParenthesis, LeftBracket, RightBracket, LeftBrace, RightBrace}
+use Rattle.cel_read.specs.declared.token.Symbol.TheVariants.{Dot, LeftParenthesis, RightParenthesis, LeftBracket, RightBracket, LeftBrace, RightBrace}
 use Rattle.cel_parse.specs.Forms.{Tokens, Chain, link, Stands, first, other, IsItem, an_item, Items, Closes, Optional}
 use Rattle.cel_parse.specs.Forms as forms
 use Rattle.cel_parse.specs.Words.{operator, signed}
 use Rattle.cel_parse.specs.Calls.{call_of, method_of}
 use Rattle.cel_parse.specs.Grammar.{IsElement, an_element, IsKey, a_key, a_field, IsEntry, an_entry, IsPrimary, in_parentheses, a_list, a_map, selected, indexed, Goes, IsMember, a_member, IsUnary, unsigned, nots, minuses, Joins, join, IsJoined, joined, IsOfRank, IsChoice, no_choice, a_choice, ExprAt}
 use Rattle.cel_parse.specs.Grammar as grammar
-use Rattle.cel_parse.specs.Internal.Readers.{Found, none, found, and_then, go_on, given, after_parenthesis, after_bracket, after_brace, after_colon, after_question, after_comma, optional, Step, over, broken, more, stepped, turn, repeat, loop, item_where, is_nil, item_turn, item_step, read_items}
-use Rattle.cel_parse.specs.Internal.Reading.{read_element, read_field, read_key, read_value, read_entry, read_arguments, read_elements, read_entries, Start, a_literal, a_message, a_call, a_name, opened, listed, mapped, wrong, start_of, from_start, read_primary, Next, a_select, a_method, an_index, cut, ended, next_of, read_next, goes_on, step_if, next_step, read_member, Sign, no_sign, not_sign, minus_sign, sign_of, after_sign, read_unary, operator_at, join_turn, join_step, read_joined, read_rank, choose, read_choice, read_expr}
-use Rattle.cel_parse.proofs.Parts.{then_found, go_on_found, found_left, found_right, given_found, stepped_more, at_found, parenthesis_is, bracket_is, brace_is, colon_is, question_is, closes_bracket, closes_brace, optional_is, first_is, other_is}
+use Rattle.cel_parse.specs.Internal.Readers.{Found, found, and_then, go_on, given, after_parenthesis, after_bracket, after_brace, after_colon, after_question, after_comma, optional, Step, over, broken, more, turn, repeat, loop, item_where, is_nil, item_turn, item_step, read_items}
+use Rattle.cel_parse.specs.Internal.Reading.{read_element, read_field, read_key, read_value, read_entry, read_arguments, read_elements, read_entries, Start, a_literal, a_message, a_call, a_name, opened, listed, mapped, wrong, start_of, from_start, read_primary, Next, a_select, a_method, an_index, cut, ended, next_of, read_next, goes_on, step_if, next_step, read_member, Sign, no_sign, not_sign, minus_sign, sign_of, after_sign, read_unary, join_turn, join_step, read_joined, read_rank, choose, read_choice, read_expr}
+use Rattle.cel_parse.proofs.Parts.{then_found, go_on_found, found_left, found_right, given_found, stepped_more, at_found, parenthesis_is, bracket_is, colon_is, question_is, closes_bracket, closes_brace, optional_is, first_is, other_is}
 use Rattle.cel_parse.proofs.SoundStarts.{StartIs, start_sound, NextIs, next_sound, SignIs, sign_sound}
 
 abbrev pub Sound : {A : Type 0} → (Tokens → Found A) → (Tokens → A → Tokens → Type 0) → Type 0

@@ -1,16 +1,16 @@
 -- What begins an expression, its signs, and how it goes on, as functions find them, are in the grammar.
-use Rattle.std.proofs.Common.{◌≡◌, ◌<◌, ◌≤◌, ◌^◌, ◌-ℤ◌, ℕ, zero, suc, pos, List, [], ◌∷◌, ◌++◌, Bool, true, false, Option, Some, None, option_map, if◌then◌else◌, refl, sym, ap, subst, nat_lt}
+use Rattle.std.proofs.Common.{◌≡◌, ◌^◌, ◌-ℤ◌, ℕ, suc, pos, ◌∷◌, ◌++◌, Bool, true, false, Option, Some, None, if◌then◌else◌, refl, subst, nat_lt}
 use Rattle.std.specs.Prelude.{nat_le, ⊤}
 use Rattle.cel_ast.specs.Syntax.{Text, Constant}
 use Rattle.cel_ast.specs.Syntax as tree
 use Rattle.cel_read.specs.Lexemes as token
-use Rattle.cel_read.specs.declared.token.Keyword.TheVariants.{In, True, False, Null}
+use Rattle.cel_read.specs.declared.token.Keyword.TheVariants.{True, False, Null}
 use Rattle.cel_read.specs.declared.token.Symbol.TheVariants.{Not, Minus, Question, Dot, LeftParenthesis, LeftBracket, LeftBrace}
 use Rattle.cel_parse.specs.Forms.{Tokens, Optional, plain, marked}
 use Rattle.cel_parse.specs.Words.{is_reserved}
 use Rattle.cel_parse.specs.Literals.{IsLiteral, an_integer, a_negative, an_unsigned, a_double, a_negative_double, a_string, some_bytes, a_true, a_false, a_null}
 use Rattle.cel_parse.specs.Grammar.{Leading, no_dot, a_dot, IsTypeName, last, before, Signs, one_sign, more_signs, has_minus}
-use Rattle.cel_parse.specs.Internal.Reading.{small, negative, literal_at, leading, with_front, type_at, Start, a_literal, a_message, a_call, a_name, opened, listed, mapped, wrong, identified, ident_at, typed, named, valued, start_of, Next, a_select, a_method, an_index, cut, ended, next_of, nots, minuses, Sign, no_sign, not_sign, minus_sign, sign_of}
+use Rattle.cel_parse.specs.Internal.Reading.{literal_at, leading, with_front, type_at, Start, a_literal, a_message, a_call, a_name, opened, listed, mapped, wrong, identified, ident_at, typed, valued, start_of, Next, a_select, a_method, an_index, cut, ended, next_of, nots, minuses, Sign, no_sign, not_sign, minus_sign, sign_of}
 use Rattle.cel_parse.proofs.Parts.{some_same, mapped_some, below_by, within_by}
 
 -- ---- literals and names

@@ -1,6 +1,6 @@
 -- What cannot go on an expression, and what begins none.
 use Rattle.std.proofs.Common.{◌≡◌, ◌∙◌, ℕ, suc, List, [], ◌∷◌, Bool, true, false, ◌||◌, Option, Some, None, refl, sym, ap}
-use Rattle.std.specs.Prelude.{⊤, nat_lt, nat_eq}
+use Rattle.std.specs.Prelude.{⊤, nat_lt}
 use Rattle.std.proofs.Common.{arith}
 use Rattle.std.proofs.lemmas.Bool.Decides.{nat_tests}
 use Rattle.cel_ast.specs.declared.operators.Binary.{Binary}

@@ -1,5 +1,5 @@
 -- The characters of texts.
-use Rattle.std.proofs.Common.{◌≡◌, ◌∙◌, ℕ, List, [], ◌∷◌, ◌++◌, ap, sym, chars, encode_utf8, string_bytes, append-nil, String}
+use Rattle.std.proofs.Common.{◌≡◌, ◌∙◌, ℕ, [], ◌∷◌, ◌++◌, ap, sym, chars, encode_utf8, string_bytes, append-nil, String}
 use Rattle.std.specs.Global.{Global}
 use Rattle.std.proofs.lemmas.Str.{chars-append, chars-nil, chars_past_char, IsUtf8-string_bytes, IsUtf8-encode}
 use Rattle.std.specs.Char.{IsScalar}

@@ -1,5 +1,5 @@
 -- How loops of the code follow the steps of reading.
-use Rattle.std.proofs.Common.{◌≡◌, ◌<◌, ◌∙◌, ℕ, zero, suc, List, [], ◌∷◌, ◌++◌, Bool, true, false, Option, Some, None, Result, map, length, drop, nat_eq, refl, sym, ap, subst, arith}
+use Rattle.std.proofs.Common.{◌≡◌, ◌<◌, ◌∙◌, ℕ, suc, List, [], ◌∷◌, ◌++◌, Bool, true, false, Some, None, Result, map, length, drop, nat_eq, refl, sym, ap, subst, arith}
 use Rattle.std.proofs.lemmas.Bool.Decides.{nat_tests}
 use Rattle.std.proofs.lemmas.Result.{err_from_is_err_and}
 use Rattle.std.specs.Result.{IsErrAnd}
@@ -10,7 +10,7 @@ use Rattle.cel_ast.specs.declared.operators.Binary.{Binary}
 use Rattle.cel_read.specs.View.{token_lexemes}
 use Rattle.cel_read.specs.declared.token.Token.{Token}
 use Rattle.cel_parse.specs.Forms.{Tokens}
-use Rattle.cel_parse.specs.Internal.Readers.{Found, none, found, and_then, go_on, after_question, Step, over, broken, more, stepped, loop, item_where, is_nil, item_turn, item_step, read_items}
+use Rattle.cel_parse.specs.Internal.Readers.{Found, none, found, and_then, after_question, more, stepped, loop, item_where, is_nil, item_turn, item_step, read_items}
 use Rattle.cel_parse.specs.Internal.Reading.{goes_on, step_if, next_of, read_next, next_step, operator_at, join_turn, join_step, read_primary, read_member, read_rank, choose, read_expr}
 use Rattle.cel_parse.specs.Internal.Answers.{Reads}
 use Rattle.cel_parse.specs.declared.fault.Stopped.{Stopped}
@@ -82,7 +82,7 @@ pub join_broken : (n : ℕ) (operand : Tokens → Found Syntax) (a : Syntax) (ws
 join_broken n operand a ws at o k whole q d r left =
     left_broken (join_step n operand) a ws k whole
     (ap (join_turn operand a ws) (sym q) ∙ ap (λ z. stepped (and_then (operand z) (λ b us. found (tree.binary o a b) us))) (sym d)
-        ∙ ap (λ z. stepped (and_then z (λ b us. found (tree.binary o a b) us))) r)
+    ∙ ap (λ z. stepped (and_then z (λ b us. found (tree.binary o a b) us))) r)
     left
 
 pub rank_is : (read : Tokens → Found Syntax) (n e : ℕ) (ws : Tokens) (a : Syntax) (us : Tokens) → n ≡ suc e → read_rank read e ws ≡ found a us

@@ -20,5 +20,5 @@ by_characters bs word u w =
     same_tests _ _
     (λ h. let e = same_text bs word (sym h) in ap (λ t. pointwise nat_eq (chars t) word) e ∙ ap (λ t. pointwise nat_eq t word) (chars-IsAscii word w) ∙ same_self word)
     (λ h. let e = same_text (chars bs) word (sym h) in
-      let f : bs ≡ word = sym (encodes-chars bs u) ∙ ap encode_utf8_all e ∙ encodes-IsAscii word w in
-      ap (λ t. pointwise nat_eq t word) f ∙ same_self word)
+    let f : bs ≡ word = sym (encodes-chars bs u) ∙ ap encode_utf8_all e ∙ encodes-IsAscii word w in
+    ap (λ t. pointwise nat_eq t word) f ∙ same_self word)

@@ -1,6 +1,6 @@
 -- What a call is, by its name and its arguments: one of the macros of the Common Expression Language's specification (langdef.md, "Macros"), or
 -- else a call. `None`: its arguments are not what the macro asks for.
-use Rattle.std.specs.Prelude.{ℕ, nat_eq, ◌&&◌, List, [], ◌∷◌, length, Option, Some, None, option_map, if◌then◌else◌}
+use Rattle.std.specs.Prelude.{nat_eq, ◌&&◌, List, [], ◌∷◌, length, Option, Some, None, option_map, if◌then◌else◌}
 use Rattle.cel_ast.specs.Syntax.{Text, Syntax, name, select, present, call, method, macro, map_where, parts}
 use Rattle.cel_ast.specs.declared.operators.Macro.{Macro}
 use Rattle.cel_ast.specs.declared.operators.Macro.TheVariants.{All, Exists, ExistsOne, Filter, Map}

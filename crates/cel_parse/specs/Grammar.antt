@@ -1,16 +1,15 @@
 -- The grammar: which tokens spell which expression. Common Expression Language specification, "Syntax" (langdef.md); the marks of what is
 -- optional as in the grammar of cel-go (CEL.g4). It says nothing of how expressions are read.
-use Rattle.std.specs.Prelude.{◌≡◌, ℕ, zero, suc, Bool, true, false, List, [], ◌∷◌, ◌++◌, Option, Some, if◌then◌else◌}
+use Rattle.std.specs.Prelude.{◌≡◌, ℕ, zero, suc, Bool, true, false, List, [], ◌∷◌, ◌++◌, Some, if◌then◌else◌}
 use Rattle.cel_ast.specs.Syntax.{Text, Constant, Syntax, Key}
 use Rattle.cel_ast.specs.Syntax as tree
-use Rattle.cel_ast.specs.declared.operators.Unary.{Unary}
 use Rattle.cel_ast.specs.declared.operators.Unary.TheVariants as one
 use Rattle.cel_ast.specs.declared.operators.Binary.{Binary}
 use Rattle.cel_ast.specs.declared.operators.Binary.TheVariants as two
 use Rattle.cel_read.specs.Lexemes.{Lexeme}
 use Rattle.cel_read.specs.Lexemes as token
 use Rattle.cel_read.specs.declared.token.Symbol.{Symbol}
-use Rattle.cel_read.specs.declared.token.Symbol.TheVariants.{Not, Minus, Question, Colon, Dot, Comma, LeftParenthesis, RightParenthesis, LeftBracket, RightBracket, LeftBrace, RightBrace}
+use Rattle.cel_read.specs.declared.token.Symbol.TheVariants.{Not, Minus, Question, Colon, Dot, LeftParenthesis, RightParenthesis, LeftBracket, RightBracket, LeftBrace, RightBrace}
 use Rattle.cel_parse.specs.Forms.{Tokens, Chain, Items, Closes, Optional}
 use Rattle.cel_parse.specs.Words.{is_reserved, operator, signed}
 use Rattle.cel_parse.specs.Calls.{call_of, method_of}

@@ -1,5 +1,5 @@
 -- Literals: a value that one token is, or a number with the minus before it. Common Expression Language specification, "Syntax" (langdef.md).
-use Rattle.std.specs.Prelude.{◌≡◌, ◌^◌, ◌<◌, ◌≤◌, ℕ, true, false, List, ◌∷◌, pos, ◌-ℤ◌}
+use Rattle.std.specs.Prelude.{◌^◌, ◌<◌, ◌≤◌, ℕ, true, false, ◌∷◌, pos, ◌-ℤ◌}
 use Rattle.cel_ast.specs.Syntax.{Text, Constant}
 use Rattle.cel_ast.specs.Syntax as value
 use Rattle.cel_read.specs.Lexemes.{integer, unsigned, double, string, bytes, keyword, symbol}

@@ -11,11 +11,7 @@ use cel_ast::{Expr, Macro, Part, Parts, Text};
 use std::alloc::{AllocError, Global};
 
 /// A call of a function; `None` where it is `has` of another form.
-pub(crate) fn call(
-    alloc: Global,
-    name: Text,
-    args: Vec<Part>,
-) -> Result<Option<Part>, AllocError>
+pub(crate) fn call(alloc: Global, name: Text, args: Vec<Part>) -> Result<Option<Part>, AllocError>
     ensures { IfOk result (λ e. e ≡ spec.call_of name args.items) }
 {
     if args.len() == 1 && is_word(name.text.as_str(), "has") {

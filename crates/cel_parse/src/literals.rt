@@ -60,11 +60,7 @@ fn opposite(n: u64) -> i64
     requires { n ≤ 2 ^ 63 }
     ensures { result ≡ pos 0 -ℤ pos n }
 {
-    if n == 1 << 63 {
-        i64::MIN
-    } else {
-        -(n as i64)
-    }
+    if n == 1 << 63 { i64::MIN } else { -(n as i64) }
 }
 
 /// The text of a number, with a minus before it.

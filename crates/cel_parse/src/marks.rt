@@ -129,11 +129,7 @@ fn other_item(tokens: &[Token]) -> Option<&[Token]>
 {
     match tokens {
         [Token::Symbol(Symbol::Comma), rest @ ..] => {
-            if is_closing(rest) {
-                None
-            } else {
-                Some(rest)
-            }
+            if is_closing(rest) { None } else { Some(rest) }
         }
         _ => None,
     }

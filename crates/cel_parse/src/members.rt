@@ -43,7 +43,11 @@ pub(crate) fn next_at(tokens: &[Token]) -> Next<'_>
 {
     match tokens {
         [Token::Symbol(Symbol::Dot), rest @ ..] => after_dot(rest),
-        [Token::Symbol(Symbol::LeftBracket), Token::Symbol(Symbol::Question), rest @ ..] => Next::Index(true, rest),
+        [
+            Token::Symbol(Symbol::LeftBracket),
+            Token::Symbol(Symbol::Question),
+            rest @ ..,
+        ] => Next::Index(true, rest),
         [Token::Symbol(Symbol::LeftBracket), rest @ ..] => Next::Index(false, rest),
         _ => Next::Ended,
     }
@@ -54,9 +58,17 @@ fn after_dot(tokens: &[Token]) -> Next<'_>
     ensures shorter { IsNextShorter result (length tokens.now) }
 {
     match tokens {
-        [Token::Name(name), Token::Symbol(Symbol::LeftParenthesis), rest @ ..] => Next::Method(name, rest),
+        [
+            Token::Name(name),
+            Token::Symbol(Symbol::LeftParenthesis),
+            rest @ ..,
+        ] => Next::Method(name, rest),
         [Token::Name(name), rest @ ..] => Next::Field(false, name, rest),
-        [Token::Symbol(Symbol::Question), Token::Name(name), rest @ ..] => Next::Field(true, name, rest),
+        [
+            Token::Symbol(Symbol::Question),
+            Token::Name(name),
+            rest @ ..,
+        ] => Next::Field(true, name, rest),
         _ => Next::Cut,
     }
 }

@@ -13,8 +13,8 @@ ghost use Rattle.cel_parse.specs.declared.fault.ParseFault.TheVariants.{Unexpect
 use crate::calls::{call, method};
 use crate::fault::{ParseFault, Stopped};
 use crate::marks::{
-    after_brace, after_bracket, after_colon, after_comma, after_parenthesis, after_question, item_at,
-    optional_at,
+    after_brace, after_bracket, after_colon, after_comma, after_parenthesis, after_question,
+    item_at, optional_at,
 };
 use crate::members::{Next, goes_on, index, next_at, part, select};
 use crate::names::copied;
@@ -47,7 +47,9 @@ pub fn parse(alloc: Global, tokens: &[Token], depth: u32) -> Result<Expr, ParseF
                 Err(ParseFault::Unexpected(tokens.len() - rest.len()))
             }
         }
-        Err(Stopped::Before(left)) => Err(ParseFault::Unexpected(tokens.len().saturating_sub(left))),
+        Err(Stopped::Before(left)) => Err(ParseFault::Unexpected(
+            tokens.len().saturating_sub(left),
+        )),
         Err(Stopped::NoMemory) => Err(ParseFault::NoMemory),
     }
 }

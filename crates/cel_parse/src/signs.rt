@@ -26,7 +26,11 @@ pub(crate) fn signs_at(tokens: &[Token]) -> Signs<'_>
             let (count, rest) = nots(tokens);
             Signs::Some(Unary::Not, count, rest)
         }
-        [Token::Symbol(Symbol::Minus), Token::Integer(_) | Token::Double(_), ..] => Signs::Neither,
+        [
+            Token::Symbol(Symbol::Minus),
+            Token::Integer(_) | Token::Double(_),
+            ..
+        ] => Signs::Neither,
         [Token::Symbol(Symbol::Minus), ..] => {
             let (count, rest) = minuses(tokens);
             Signs::Some(Unary::Negate, count, rest)

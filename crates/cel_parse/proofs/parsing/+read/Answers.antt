@@ -1,11 +1,11 @@
-use Rattle.std.proofs.Common.{◌≡◌, ◌<◌, ◌≤◌, ◌-◌, ◌∙◌, ℕ, suc, Bool, List, [], ◌∷◌, ◌++◌, map, length, refl, sym, ap, subst, arith}
+use Rattle.std.proofs.Common.{◌≡◌, ◌<◌, ◌-◌, ◌∙◌, suc, [], ◌∷◌, map, length, sym, ap, arith}
 use Rattle.std.proofs.lemmas.List.{map-append}
 use Rattle.cel_ast.specs.View.{element_of, entry_of}
 use Rattle.cel_read.specs.View.{token_lexemes}
 use Rattle.cel_parse.specs.Internal.Readers.{found, and_then, go_on, after_parenthesis, after_bracket, after_brace, after_comma}
-use Rattle.cel_parse.specs.Internal.Reading.{read_expr, read_rank, join_step, next_step, read_element, read_entry}
+use Rattle.cel_parse.specs.Internal.Reading.{read_expr, read_rank, join_step, read_element, read_entry}
 use Rattle.cel_parse.proofs.LoopLemmas.{begun}
-use Rattle.cel_parse.proofs.TurnLemmas.{reads_same, reads_err, items_begun, item_more, item_over, item_broken, is_nil_of, is_first, join_more, join_broken, rank_is, member_begun, member_more, member_broken, choice_is, no_choice_is, no_condition}
+use Rattle.cel_parse.proofs.TurnLemmas.{reads_same, reads_err, items_begun, item_more, item_over, item_broken, is_nil_of, is_first, join_more, join_broken, rank_is, member_begun, member_broken, choice_is, no_choice_is, no_condition}
 use Rattle.cel_parse.proofs.parsing.+read.Goals as goal
 
 pub read_expr-returns-in_err-condition-clause-gives : goal.read_expr-returns-in_err-condition-clause-gives
@@ -40,7 +40,7 @@ read_joins-joins-init t c =
 pub read_joins-returns-in_err-right-clause-gives : goal.read_joins-returns-in_err-right-clause-gives
 read_joins-returns-in_err-right-clause-gives t c =
     reads_err (λ e. e) _ c.from_residual.result c.in_err-right.field-0.0 c.from_residual.ensures.1 (λ n q. join_broken c.args.rank (read_rank (read_expr c.args.depth) c.args.rank) c.joins.left (token_lexemes c.joins.rest.now) (token_lexemes c.in-Some.after.now) c.in-Some.operator
-      (length c.joins.rest.now) _ c.in-Some.ensures.operator c.in-Some.ensures.words (c.in_err-right.ensures.gives n q) c.joins.invariant.left)
+    (length c.joins.rest.now) _ c.in-Some.ensures.operator c.in-Some.ensures.words (c.in_err-right.ensures.gives n q) c.joins.invariant.left)
 
 pub read_joins-joins-preserved : goal.read_joins-joins-preserved
 read_joins-joins-preserved t c =
@@ -62,7 +62,7 @@ read_member-turns-init t c =
 pub read_member-returns-in_err-longer-clause-gives : goal.read_member-returns-in_err-longer-clause-gives
 read_member-returns-in_err-longer-clause-gives t c =
     reads_err (λ e. e) _ c.from_residual-in_err-longer.result c.in_err-longer.field-0.0 c.from_residual-in_err-longer.ensures.1 (λ n q. member_broken (read_expr c.args.depth) c.turns.left (token_lexemes c.turns.rest.now) c.goes_on.result (length c.turns.rest.now) _ c.goes_on.ensures c.turns-test.true
-      (c.in_err-longer.ensures.gives n q) c.turns.invariant.left)
+    (c.in_err-longer.ensures.gives n q) c.turns.invariant.left)
 
 pub read_arguments-items-init : goal.read_arguments-items-init
 read_arguments-items-init t c =
@@ -75,8 +75,8 @@ pub read_arguments-returns-in_err-arg-clause-gives : goal.read_arguments-returns
 read_arguments-returns-in_err-arg-clause-gives t c =
     reads_err (λ v. v.items) _ c.from_residual.result c.in_err-arg.field-0.0 c.from_residual.ensures.1
     (λ n q. ap (λ r. and_then r (λ es us. go_on (after_parenthesis us) (found es)))
-      (item_broken (read_expr c.args.depth) c.items.args.items c.is_empty.result (token_lexemes c.items.rest.now) (token_lexemes c.in-Some.at.now) (length c.items.rest.now) _ (is_nil_of c.items.args.items c.items.args.len c.is_empty.result c.is_empty.ensures c.items.args.ok.0) c.in-Some.ensures.words
-        (c.in_err-arg.ensures.gives n q) c.items.invariant.left))
+    (item_broken (read_expr c.args.depth) c.items.args.items c.is_empty.result (token_lexemes c.items.rest.now) (token_lexemes c.in-Some.at.now) (length c.items.rest.now) _ (is_nil_of c.items.args.items c.items.args.len c.is_empty.result c.is_empty.ensures c.items.args.ok.0) c.in-Some.ensures.words
+    (c.in_err-arg.ensures.gives n q) c.items.invariant.left))
 
 pub read_arguments-items-preserved : goal.read_arguments-items-preserved
 read_arguments-items-preserved t c =
@@ -104,8 +104,8 @@ pub read_elements-returns-in_err-element-clause-gives : goal.read_elements-retur
 read_elements-returns-in_err-element-clause-gives t c =
     reads_err (λ v. map element_of v.items) _ c.from_residual.result c.in_err-element.field-0.0 c.from_residual.ensures.1
     (λ n q. ap (λ r. and_then r (λ es us. go_on (after_bracket (after_comma us)) (found es)))
-      (item_broken (read_element (read_expr c.args.depth)) (map element_of c.items.elements.items) c.is_empty.result (token_lexemes c.items.rest.now) (token_lexemes c.in-Some.at.now) (length c.items.rest.now) _ (is_first element_of c.items.elements.items c.items.elements.len c.is_empty.result c.is_empty.ensures c.items.elements.ok.0) c.in-Some.ensures.words
-        (c.in_err-element.ensures.gives n q) c.items.invariant.left))
+    (item_broken (read_element (read_expr c.args.depth)) (map element_of c.items.elements.items) c.is_empty.result (token_lexemes c.items.rest.now) (token_lexemes c.in-Some.at.now) (length c.items.rest.now) _ (is_first element_of c.items.elements.items c.items.elements.len c.is_empty.result c.is_empty.ensures c.items.elements.ok.0) c.in-Some.ensures.words
+    (c.in_err-element.ensures.gives n q) c.items.invariant.left))
 
 pub read_elements-items-preserved : goal.read_elements-items-preserved
 read_elements-items-preserved t c =
@@ -139,8 +139,8 @@ pub read_entries-returns-in_err-entry-clause-gives : goal.read_entries-returns-i
 read_entries-returns-in_err-entry-clause-gives t c =
     reads_err (λ v. map entry_of v.items) _ c.from_residual.result c.in_err-entry.field-0.0 c.from_residual.ensures.1
     (λ n q. ap (λ r. and_then r (λ es us. go_on (after_brace (after_comma us)) (found es)))
-      (item_broken (read_entry (read_expr c.args.depth) c.args.of_message) (map entry_of c.items.entries.items) c.is_empty.result (token_lexemes c.items.rest.now) (token_lexemes c.in-Some.at.now) (length c.items.rest.now) _ (is_first entry_of c.items.entries.items c.items.entries.len c.is_empty.result c.is_empty.ensures c.items.entries.ok.0) c.in-Some.ensures.words
-        (c.in_err-entry.ensures.gives n q) c.items.invariant.left))
+    (item_broken (read_entry (read_expr c.args.depth) c.args.of_message) (map entry_of c.items.entries.items) c.is_empty.result (token_lexemes c.items.rest.now) (token_lexemes c.in-Some.at.now) (length c.items.rest.now) _ (is_first entry_of c.items.entries.items c.items.entries.len c.is_empty.result c.is_empty.ensures c.items.entries.ok.0) c.in-Some.ensures.words
+    (c.in_err-entry.ensures.gives n q) c.items.invariant.left))
 
 pub read_entries-items-preserved : goal.read_entries-items-preserved
 read_entries-items-preserved t c =
@@ -162,4 +162,3 @@ read_entries-returns-clause-gives t c =
     let whole = item_over (read_entry (read_expr c.args.depth) c.args.of_message) (map entry_of c.items.entries.items) c.is_empty.result (token_lexemes c.items.rest.now) (length c.items.rest.now) _ (is_first entry_of c.items.entries.items c.items.entries.len c.is_empty.result c.is_empty.ensures c.items.entries.ok.0) c.in_default.ensures.words c.items.invariant.left in
     λ n q. ap (λ r. and_then r (λ es us. go_on (after_brace (after_comma us)) (found es))) whole
     ∙ ap (λ z. go_on (after_brace z) (found (map entry_of c.items.entries.items))) (sym c.after_comma-closing.ensures.words) ∙ ap (λ o. go_on o (found (map entry_of c.items.entries.items))) (sym c.in-None.ensures.words)
-

@@ -1,4 +1,4 @@
-use Rattle.std.proofs.Common.{◌≡◌, ◌≤◌, ◌<◌, ◌+◌, ◌*◌, ℕ, length, map}
+use Rattle.std.proofs.Common.{◌≤◌, ◌<◌, ◌+◌, ◌*◌, length, map}
 use Rattle.cel_ast.specs.View.{element_of, entry_of}
 use Rattle.cel_read.specs.View.{token_lexemes}
 use Rattle.cel_parse.specs.Internal.Readers.{loop, item_step, read_items}
@@ -98,4 +98,3 @@ invariant-read_entries-items l =
 
 abbrev pub decreases-read_entries-items : goal.decreases-read_entries-items
 decreases-read_entries-items l = length l.rest
-

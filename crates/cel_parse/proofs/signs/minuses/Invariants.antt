@@ -1,4 +1,4 @@
-use Rattle.std.proofs.Common.{◌≡◌, ◌≤◌, ◌+◌, length}
+use Rattle.std.proofs.Common.{◌≡◌, ◌+◌, length}
 use Rattle.cel_read.specs.View.{token_lexemes}
 use Rattle.cel_parse.specs.Internal.Reading.{minuses}
 use Rattle.cel_parse.proofs.SignLemmas.{plus}
