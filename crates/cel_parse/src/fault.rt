@@ -5,8 +5,8 @@ use thiserror::Error;
 /// Why there is no syntax tree.
 #[derive(Clone, Copy, Debug, PartialEq, Eq, Drop, Error)]
 pub enum ParseFault {
-    /// The tokens spell no expression. The token with this index does not go on those before it, or nests too deep; or else what ends there is
-    /// a macro whose arguments are of another form.
+    /// The tokens spell no expression. Parsing stopped at the token with this index: it does not go on what is before it, or nests too deep, or
+    /// follows a macro whose arguments are of another form. It is the number of tokens where they end too early.
     #[error("unexpected token {0}")]
     Unexpected(usize),
     /// An allocation failed.

@@ -4,7 +4,8 @@
 //!
 //! ```
 //! let tokens = cel_read::tokens(alloc, "self.all(x, x > 0)")?;
-//! let expr = cel_parse::parse(alloc, &tokens, cel_parse::MOST_NESTED)?;
+//! let expr = cel_parse::parse(alloc, tokens.as_slice(), cel_parse::MOST_NESTED)?;
+//! assert!(rt; matches!(expr, cel_ast::Expr::Macro(cel_ast::Macro::All, _, _, _)));
 //! ```
 #![tactic(auto)]
 
