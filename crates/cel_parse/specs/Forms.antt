@@ -1,4 +1,4 @@
--- Forms: what stands at the front of tokens, what it says, and what follows it. How forms are put together.
+-- Forms, and how they are put together. A form is a relation: in `R ws e rest` what stands at the front of ws says e, and rest is what follows it.
 use Rattle.std.specs.Prelude.{Bool, true, false, List, [], ◌∷◌, ◌++◌}
 use Rattle.cel_read.specs.Lexemes.{Lexeme, symbol}
 use Rattle.cel_read.specs.declared.token.Symbol.{Symbol}
@@ -6,10 +6,6 @@ use Rattle.cel_read.specs.declared.token.Symbol.TheVariants.{Comma, Question}
 
 abbrev pub Tokens : Type 0
 Tokens = List Lexeme
-
--- The last tokens are what follows at the end of the first ones; what stands before says this.
-abbrev pub Form : Type 0 → Type 1
-Form A = Tokens → A → Tokens → Type 0
 
 -- links, one after another, each of which makes something of what the ones before it made
 pub data Chain (A : Type 0) (Link : A → Tokens → A → Tokens → Type 0) : A → Tokens → A → Tokens → Type 0 where

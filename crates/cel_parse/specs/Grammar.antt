@@ -1,5 +1,5 @@
--- The grammar: which tokens spell which expression. Common Expression Language specification, "Syntax" (langdef.md); the marks of what is
--- optional as in the grammar of cel-go (CEL.g4). It says nothing of how expressions are read.
+-- The grammar: which tokens spell which expression. Common Expression Language specification, "Syntax" (langdef.md), whose rule stands above each
+-- form; the marks of what is optional (`?`) as in the grammar of cel-go (CEL.g4). It says nothing of how expressions are read.
 use Rattle.std.specs.Prelude.{◌≡◌, ℕ, zero, suc, Bool, true, false, List, [], ◌∷◌, ◌++◌, Some, if◌then◌else◌}
 use Rattle.cel_ast.specs.Syntax.{Text, Constant, Syntax, Key}
 use Rattle.cel_ast.specs.Syntax as tree
