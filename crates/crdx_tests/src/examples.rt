@@ -70,6 +70,15 @@ fn tokens_of_an_expression(rt: HostRuntime) -> Result<(), Fail> {
 }
 
 #[test]
+fn tree_of_an_expression(rt: HostRuntime) -> Result<(), Fail> {
+    let alloc = rt.alloc();
+    let tokens = cel_read::tokens(alloc, "self.all(x, x > 0)")?;
+    let expr = cel_parse::parse(alloc, tokens.as_slice(), cel_parse::MOST_NESTED)?;
+    assert!(rt; matches!(expr, cel_ast::Expr::Macro(cel_ast::Macro::All, _, _, _)));
+    Ok(())
+}
+
+#[test]
 fn judge(rt: HostRuntime) -> Result<(), Fail> {
     let alloc = rt.alloc();
     let mut tests = OneFormat::new(alloc)?;
