@@ -1,0 +1,5 @@
+-- The lemmas of this crate. TreeLemmas: trees of the code and their data, and loops that write. PrunedTrees, NullTrees, FilledTrees: what
+-- each walk makes of a tree is a tree, and is what the definition says.
+pub mod TreeLemmas
+pub mod PrunedTrees
+pub mod NullTrees
