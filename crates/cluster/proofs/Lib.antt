@@ -3,3 +3,5 @@
 pub mod TreeLemmas
 pub mod PrunedTrees
 pub mod NullTrees
+pub mod FilledTrees
+pub mod FilledWalks

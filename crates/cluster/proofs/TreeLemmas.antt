@@ -1,5 +1,5 @@
 -- Trees of the code and their data, and a loop that writes in place.
-use Rattle.std.proofs.Common.{◌≡◌, ℕ, List, ◌++◌, Bool, true, false, ◌+◌, ◌<◌, get_or, set, map, take, drop, length, refl, sym, ap, ◌∙◌}
+use Rattle.std.proofs.Common.{◌≡◌, ℕ, List, [], ◌∷◌, arith, ◌++◌, Bool, true, false, ◌+◌, ◌<◌, get_or, set, map, take, drop, length, refl, sym, ap, ◌∙◌}
 use Rattle.std.specs.Prelude.{if◌then◌else◌}
 use Rattle.std.proofs.lemmas.List.Edits.{map_over_more}
 use Rattle.jtree.specs.Data.{Data, IsTree}
@@ -32,3 +32,8 @@ either_tree false d e p q = q
 pub mapped_more : {X : Type 0} (f : X → X) (xs ys : List X) (i : ℕ) (d y : X) → i < length xs → ys ≡ map f (take i xs) ++ drop i xs → d ≡ get_or ys i d → y ≡ f (get_or ys i d)
     → set ys i y ≡ map f (take (i + 1) xs) ++ drop (i + 1) xs
 mapped_more f xs ys i d y within e is new = rw (new ∙ ap f (sym is)) (map_over_more f xs ys i d within e is)
+
+-- a list of no length is over
+pub no_more : {X : Type 0} (xs : List X) (n : ℕ) → n ≡ length xs → n ≡ 0 → xs ≡ []
+no_more [] n is none = refl
+no_more (x ∷ xs) n is none = absurd (omega arith)

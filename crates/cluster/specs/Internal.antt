@@ -1,2 +1,3 @@
 -- What private contracts cite.
 pub mod Trees
+pub mod Walks

@@ -7,7 +7,7 @@ ghost use Rattle.cluster.specs.Keywords.{keyword as keyword_of, default_of, item
 ghost use Rattle.cluster.specs.Filled.{filled, filled_by, filled_part, filled_members, filled_items, settled, with_default, with_each_default, with_defaults};
 ghost use Rattle.cluster.specs.Internal.Trees.{schema_of, IsFilledMember};
 
-use crate::keywords::{is_set, keyword, member_schema};
+use crate::keywords::{is_schema, is_set, keyword, member_schema};
 use jtree::{Items, Member, Members, Tree};
 use std::alloc::{AllocError, Global};
 
@@ -18,10 +18,10 @@ use std::alloc::{AllocError, Global};
 pub fn fill(alloc: Global, schema: &Tree, value: Tree) -> Result<Tree, AllocError>
     ensures { IfOk result (λ t. data_of t ≡ filled (data_of schema.now) (data_of value)) }
 {
-    match schema {
-        Tree::Object(_) => fill_by(alloc, schema, value),
-        _ => Ok(value),
+    if is_schema(Some(schema)) {
+        return fill_by(alloc, schema, value);
     }
+    Ok(value)
 }
 
 #[cycle(fill)]
