@@ -1,7 +1,8 @@
--- The lemmas of this crate. TreeLemmas: trees of the code and their data, and loops that write. PrunedTrees, NullTrees, FilledTrees: what
--- each walk makes of a tree is a tree, and is what the definition says.
+-- The lemmas of this crate. TreeLemmas: trees of the code and their data, and loops that write. PrunedTrees, NullTrees, MetaTrees, FilledTrees: what
+-- each walk makes of a tree is a tree, and is what the definition says. FilledWalks: the loops that fill the parts of a value.
 pub mod TreeLemmas
 pub mod PrunedTrees
 pub mod NullTrees
+pub mod MetaTrees
 pub mod FilledTrees
 pub mod FilledWalks

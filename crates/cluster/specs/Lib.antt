@@ -2,6 +2,7 @@
 pub mod Keywords
 pub mod Pruned
 pub mod WithoutNulls
+pub mod Metadata
 pub mod Filled
 pub mod WayIn
 pub mod Internal

@@ -15,11 +15,14 @@
 
 mod filling;
 mod keywords;
+mod metadata;
 mod nulls;
+mod object_meta;
 mod pruning;
 mod way;
 
 pub use filling::fill;
+pub use metadata::prune_metadata;
 pub use nulls::drop_nulls;
 pub use pruning::prune;
 pub use way::way_in;

@@ -10,7 +10,7 @@ use crate::keywords::{is_set, keyword, member_schema};
 use jtree::{Items, Member, Members, Tree};
 
 const PRESERVES: &str = "x-kubernetes-preserve-unknown-fields";
-const EMBEDDED: &str = "x-kubernetes-embedded-resource";
+pub(crate) const EMBEDDED: &str = "x-kubernetes-embedded-resource";
 
 /// Prunes an object of a version in place, by the schema of the version ("field pruning" of apiextensions.k8s.io/v1): members that are not
 /// declared are dropped, unless the schema of their object keeps them. The object, and each embedded resource, keeps `apiVersion`, `kind`

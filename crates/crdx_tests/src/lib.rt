@@ -25,6 +25,7 @@
 //! | `formats_tests/format_cases` | formats: which texts are of them, and names of none |
 //! | `patterns_tests/pattern_cases` | patterns: what they match, what is none or too big, how they are written for the kit, and matchers that are kept |
 //! | `cel_tests/token_cases` | the tokens of expressions, and why a text has none |
+//! | `cluster_tests/way_cases` | objects on their way in: pruned, without nulls, filled |
 //! | `judge_tests/fault_cases` | values judged by schemas as they are written |
 //! | `judge_tests/pattern_cases` | the patterns of a schema, with their pointers |
 //! | `plan_tests/pools_cases`, `pool_limit_cases` | documents of pools, and how many entries they may have |
@@ -63,6 +64,8 @@
 
 #[cfg(test)]
 mod cel_tests;
+#[cfg(test)]
+mod cluster_tests;
 #[cfg(test)]
 mod enumerate_tests;
 #[cfg(test)]
