@@ -15,6 +15,7 @@
 
 mod filling;
 mod keywords;
+pub mod laws;
 mod metadata;
 mod nulls;
 mod object_meta;
