@@ -1,10 +1,9 @@
 -- Walks that fill the parts of a value one after the other.
-use Rattle.std.proofs.Common.{◌≡◌, ℕ, List, [], ◌∷◌, ◌++◌, Option, Some, refl, sym, ap, ◌∙◌, subst}
+use Rattle.std.proofs.Common.{◌≡◌, ℕ, List, [], ◌∷◌, ◌++◌, Some, refl, sym, ap, ◌∙◌, subst}
 use Rattle.jtree.specs.Data.{Data, Items, no_items, item, Members, no_members, member, IsTree, AreTrees, AreMembers, IsNameBefore}
 use Rattle.jtree.specs.View.{data_of, items_of, members_of}
 use Rattle.jtree.specs.declared.value.Tree.{Tree}
 use Rattle.jtree.specs.declared.value.Member.{Member}
-use Rattle.cluster.specs.Keywords.{member_schema}
 use Rattle.cluster.specs.Filled.{filled, filled_part, filled_members, filled_items}
 use Rattle.cluster.specs.Internal.Trees.{IsFilledMember}
 use Rattle.cluster.specs.Internal.Walks.{joined_items, joined, HasTrees, FillsItems, FillsMembers}

@@ -1,16 +1,16 @@
 -- What is left of metadata is a tree.
-use Rattle.std.proofs.Common.{◌≡◌, ◌≤◌, ℕ, List, [], ◌∷◌, Bool, true, false, Option, codes, length, map, refl, ap, arith, inl, inr}
+use Rattle.std.proofs.Common.{◌≡◌, ◌≤◌, ℕ, List, [], ◌∷◌, Bool, true, false, Option, codes, length, map, refl, arith, inl, inr}
 use Rattle.std.specs.Prelude.{filter, ◌==◌, if◌then◌else◌}
 use Rattle.std.specs.Str.{bytes_eq}
 use Rattle.std.proofs.lemmas.Bool.Decides.{nat_tests}
-use Rattle.jtree.specs.Data.{Data, null, boolean, integer, number, text, list, object, Items, no_items, item, Members, no_members, member, IsTree, AreTrees, AreMembers, IsNameBefore}
+use Rattle.jtree.specs.Data.{Data, null, list, object, Items, no_items, item, Members, no_members, member, IsTree, AreTrees, AreMembers, IsNameBefore}
 use Rattle.jtree.specs.View.{data_of, tree_from, items_of, members_of}
 use Rattle.jtree.specs.declared.value.Tree.{Tree}
 use Rattle.jtree.specs.declared.value.Member.{Member}
 use Rattle.jtree.specs.Internal.Lookups.{bool_cases, IsNameBefore-trans}
 use Rattle.cluster.specs.Keywords.{member_schema, item_schema, is_embedded}
-use Rattle.cluster.specs.Metadata.{stays_in_entry, entry_members, entry, each_entry, entries, has_entries, meta_value, meta_values, has_no_items, has_no_members, stays_in_metadata, meta_members, object_meta, is_metadata, with_object_meta, members_with_meta, items_with_meta}
-use Rattle.cluster.specs.Internal.Trees.{entry_tree, entries_tree, meta_tree, meta_member, stays_member, stays_entry_member, tree_with_meta, member_with_meta}
+use Rattle.cluster.specs.Metadata.{stays_in_entry, entry_members, entry, each_entry, entries, has_entries, meta_values, has_no_items, has_no_members, stays_in_metadata, meta_members, object_meta, is_metadata, with_object_meta, members_with_meta, items_with_meta}
+use Rattle.cluster.specs.Internal.Trees.{entry_tree, meta_member, stays_member, stays_entry_member, tree_with_meta, member_with_meta}
 use Rattle.cluster.proofs.TreeLemmas.{data_back, data_if, either_tree}
 
 -- ---- lists and objects with nothing in them
@@ -138,7 +138,7 @@ mutual
   sorted_meta r s no_members t = tt
   sorted_meta r s (member k d ms) t = (
     either_tree (is_metadata r k) (object_meta d) (with_object_meta (is_embedded (member_schema k s)) (member_schema k s) d)
-    (meta_is_tree d t.0) (with_meta_tree (is_embedded (member_schema k s)) (member_schema k s) d t.0),
+        (meta_is_tree d t.0) (with_meta_tree (is_embedded (member_schema k s)) (member_schema k s) d t.0),
     meta_before r s k ms t.1,
     sorted_meta r s ms t.2,
   )

@@ -1,8 +1,8 @@
 -- Pruning what is pruned, and which members are left.
-use Rattle.std.proofs.Common.{◌≡◌, ℕ, List, Bool, true, false, Option, Some, None, refl, sym, ap, ◌∙◌, subst, inl, inr}
+use Rattle.std.proofs.Common.{◌≡◌, ℕ, List, Bool, true, false, Option, Some, refl, ap, ◌∙◌, inl, inr}
 use Rattle.std.specs.Prelude.{if◌then◌else◌}
 use Rattle.std.specs.Str.{bytes_eq}
-use Rattle.jtree.specs.Data.{Data, null, boolean, integer, number, text, list, object, Items, no_items, item, Members, no_members, member}
+use Rattle.jtree.specs.Data.{Data, list, object, Items, no_items, item, Members, no_members, member}
 use Rattle.jtree.specs.Path.{member_at}
 use Rattle.jtree.specs.Internal.Lookups.{bool_cases, same_name}
 use Rattle.cluster.specs.Keywords.{member_schema, item_schema, keeps_undeclared, is_embedded}

@@ -1,8 +1,8 @@
 -- What is pruned level by level is a tree.
-use Rattle.std.proofs.Common.{◌≡◌, ℕ, List, [], ◌∷◌, Bool, true, false, Option, map, refl, ap, inl, inr}
+use Rattle.std.proofs.Common.{◌≡◌, ℕ, List, [], ◌∷◌, Bool, true, false, Option, map, refl, inl, inr}
 use Rattle.std.specs.Prelude.{filter, if◌then◌else◌}
-use Rattle.jtree.specs.Data.{Data, null, boolean, integer, number, text, list, object, Items, no_items, item, Members, no_members, member, IsTree, AreTrees, AreMembers, IsNameBefore}
-use Rattle.jtree.specs.View.{data_of, tree_from, items_of, members_of}
+use Rattle.jtree.specs.Data.{Data, list, object, Items, no_items, item, Members, no_members, member, IsTree, AreTrees, AreMembers, IsNameBefore}
+use Rattle.jtree.specs.View.{data_of, items_of, members_of}
 use Rattle.jtree.specs.declared.value.Tree.{Tree}
 use Rattle.jtree.specs.declared.value.Member.{Member}
 use Rattle.jtree.specs.Internal.Lookups.{bool_cases, IsNameBefore-trans}
@@ -61,7 +61,7 @@ mutual
   sorted_pruned r s no_members t = tt
   sorted_pruned r s (member k d ms) t = (
     either_tree (is_entered r s k) (pruned (is_embedded (member_schema k s)) (keeps_undeclared (member_schema k s)) (member_schema k s) d) d
-    (tree_pruned (is_embedded (member_schema k s)) (keeps_undeclared (member_schema k s)) (member_schema k s) d t.0) t.0,
+        (tree_pruned (is_embedded (member_schema k s)) (keeps_undeclared (member_schema k s)) (member_schema k s) d t.0) t.0,
     pruned_before r s k ms t.1,
     sorted_pruned r s ms t.2,
   )

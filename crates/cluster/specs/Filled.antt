@@ -1,9 +1,9 @@
 -- Defaulting by a schema as it is written (apiextensions.k8s.io/v1, "defaulting" and "nullable"): a property that is absent, or a null
 -- that is not nullable, gets its default. So does a null that is a member of `additionalProperties` or an item. What is then there is
 -- filled in turn, defaults with it.
-use Rattle.std.specs.Prelude.{ℕ, zero, suc, List, Bool, true, false, Option, Some, None, if◌then◌else◌, codes}
+use Rattle.std.specs.Prelude.{ℕ, zero, suc, List, Option, Some, None, if◌then◌else◌, codes}
 use Rattle.std.specs.Option.{is_some}
-use Rattle.jtree.specs.Data.{Data, null, boolean, integer, number, text, list, object, Items, no_items, item, Members, no_members, member, depth}
+use Rattle.jtree.specs.Data.{Data, null, list, object, Items, no_items, item, Members, no_members, member, depth}
 use Rattle.jtree.specs.Path.{member_at}
 use Rattle.jtree.specs.MemberPlace.{with_member}
 use Rattle.cluster.specs.Keywords.{keyword, member_schema, item_schema, is_nullable, default_of}

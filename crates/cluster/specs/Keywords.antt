@@ -2,7 +2,7 @@
 -- and where there is no schema no keyword is there.
 use Rattle.std.specs.Prelude.{ℕ, List, Bool, true, false, Option, Some, None, codes}
 use Rattle.std.specs.Option.{is_some}
-use Rattle.jtree.specs.Data.{Data, null, boolean, integer, number, text, list, object}
+use Rattle.jtree.specs.Data.{Data, null, boolean, object}
 use Rattle.jtree.specs.Path.{member_at}
 
 abbrev pub unless_null : Option Data → Option Data

@@ -2,10 +2,10 @@
 -- pkg/apis/meta/v1): other members are dropped, and so are fields without a value, which are null, an empty text, list or object, or a
 -- generation of 0. So are other members and nulls of the entries of `ownerReferences` and `managedFields`. Null becomes an empty object.
 -- What is no ObjectMeta is refused by the API server; here it stays.
-use Rattle.std.specs.Prelude.{ℕ, ℤ, pos, List, [], ◌∷◌, Bool, true, false, Option, Some, None, if◌then◌else◌, not, ◌&&◌, ◌||◌, codes}
+use Rattle.std.specs.Prelude.{ℕ, pos, List, [], Bool, true, false, Option, Some, if◌then◌else◌, not, ◌&&◌, ◌||◌, codes}
 use Rattle.std.specs.Ordering.{int_eq}
 use Rattle.std.specs.Str.{bytes_eq}
-use Rattle.jtree.specs.Data.{Data, null, boolean, integer, number, text, list, object, Items, no_items, item, Members, no_members, member}
+use Rattle.jtree.specs.Data.{Data, null, integer, text, list, object, Items, no_items, item, Members, no_members, member}
 use Rattle.cluster.specs.Keywords.{member_schema, item_schema, is_embedded}
 use Rattle.cluster.specs.WithoutNulls.{is_null}
 

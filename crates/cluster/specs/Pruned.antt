@@ -2,9 +2,9 @@
 -- declare. Where `x-kubernetes-preserve-unknown-fields` is true it keeps them, and so do the items of a list, at any depth of lists.
 -- `additionalProperties` declares all names; where it is true and no schema, objects below lose all members. A value without a schema is
 -- pruned in the same way. A resource, embedded or the object itself, keeps `apiVersion`, `kind` and `metadata` as they are.
-use Rattle.std.specs.Prelude.{ℕ, List, Bool, true, false, Option, Some, None, if◌then◌else◌, not, ◌&&◌, ◌||◌, codes}
+use Rattle.std.specs.Prelude.{ℕ, List, Bool, true, Option, Some, if◌then◌else◌, not, ◌&&◌, ◌||◌, codes}
 use Rattle.std.specs.Str.{bytes_eq}
-use Rattle.jtree.specs.Data.{Data, null, boolean, integer, number, text, list, object, Items, no_items, item, Members, no_members, member}
+use Rattle.jtree.specs.Data.{Data, list, object, Items, no_items, item, Members, no_members, member}
 use Rattle.cluster.specs.Keywords.{member_schema, is_declared, item_schema, keeps_undeclared, is_embedded}
 
 -- the members that each resource has

@@ -1,8 +1,8 @@
 -- Nulls that are dropped (apiextensions.k8s.io/v1, "nullable"): a member that is null, where its schema is neither nullable nor has a
 -- default. Items are not dropped. The members of the envelope of the object itself stay as they are.
-use Rattle.std.specs.Prelude.{ℕ, List, Bool, true, false, Option, Some, None, if◌then◌else◌, not, ◌&&◌}
+use Rattle.std.specs.Prelude.{ℕ, List, Bool, true, false, Option, Some, if◌then◌else◌, not, ◌&&◌}
 use Rattle.std.specs.Option.{is_none}
-use Rattle.jtree.specs.Data.{Data, null, boolean, integer, number, text, list, object, Items, no_items, item, Members, no_members, member}
+use Rattle.jtree.specs.Data.{Data, null, list, object, Items, no_items, item, Members, no_members, member}
 use Rattle.cluster.specs.Keywords.{member_schema, item_schema, is_schema, is_nullable, default_of}
 use Rattle.cluster.specs.Pruned.{is_enveloped}
 

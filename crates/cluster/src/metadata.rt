@@ -33,12 +33,7 @@ fn prune_in_tree(alloc: Global, is_resource: bool, schema: Option<&Tree>, tree: 
 }
 
 #[cycle(metadata)]
-fn prune_in_object(
-    alloc: Global,
-    is_resource: bool,
-    schema: Option<&Tree>,
-    members: &mut Members,
-)
+fn prune_in_object(alloc: Global, is_resource: bool, schema: Option<&Tree>, members: &mut Members)
     ensures { tree.object members.new ≡ with_object_meta is_resource (schema_of schema.entry) (tree.object members.old) }
 {
     prune_in_members(alloc, is_resource, schema, &mut members.members);
@@ -75,12 +70,7 @@ fn prune_in_members(
 }
 
 #[cycle(metadata)]
-fn prune_in_member(
-    alloc: Global,
-    is_resource: bool,
-    schema: Option<&Tree>,
-    member: &mut Member,
-)
+fn prune_in_member(alloc: Global, is_resource: bool, schema: Option<&Tree>, member: &mut Member)
     ensures { member.new ≡ member_with_meta is_resource (schema_of schema.entry) member.old }
 {
     if is_metadata(is_resource, member.name.as_str()) {

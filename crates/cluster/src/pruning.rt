@@ -10,6 +10,7 @@ use crate::keywords::{is_set, keyword, member_schema};
 use jtree::{Items, Member, Members, Tree};
 
 const PRESERVES: &str = "x-kubernetes-preserve-unknown-fields";
+
 pub(crate) const EMBEDDED: &str = "x-kubernetes-embedded-resource";
 
 /// Prunes an object of a version in place, by the schema of the version ("field pruning" of apiextensions.k8s.io/v1): members that are not
@@ -46,7 +47,11 @@ fn prune_object(is_resource: bool, keeps: bool, schema: Option<&Tree>, members: 
 fn prune_list(is_resource: bool, keeps: bool, schema: Option<&Tree>, items: &mut Items)
     ensures { tree.list items.new ≡ pruned is_resource keeps (schema_of schema.entry) (tree.list items.old) }
 {
-    prune_items(items_keep(keeps, schema), keyword(schema, "items"), &mut items.items);
+    prune_items(
+        items_keep(keeps, schema),
+        keyword(schema, "items"),
+        &mut items.items,
+    );
 }
 
 #[cycle(prune)]
@@ -73,7 +78,12 @@ fn prune_member(is_resource: bool, schema: Option<&Tree>, member: &mut Member)
 {
     if is_entered(is_resource, schema, member.name.as_str()) {
         let below = member_schema(schema, member.name.as_str());
-        prune_tree(is_set(below, EMBEDDED), is_set(below, PRESERVES), below, &mut member.tree);
+        prune_tree(
+            is_set(below, EMBEDDED),
+            is_set(below, PRESERVES),
+            below,
+            &mut member.tree,
+        );
     }
 }
 

@@ -64,10 +64,7 @@ fn formats(rt: HostRuntime) -> Result<(), Fail> {
 #[test]
 fn cluster(rt: HostRuntime) -> Result<(), Fail> {
     let alloc = rt.alloc();
-    let schema = Tree::from_bytes(
-        alloc,
-        r#"{"properties":{"a":{"default":1}}}"#.as_bytes(),
-    )?;
+    let schema = Tree::from_bytes(alloc, r#"{"properties":{"a":{"default":1}}}"#.as_bytes())?;
     let object = Tree::from_bytes(alloc, r#"{"a":null,"b":2,"kind":"C"}"#.as_bytes())?;
     let stored = way_in(alloc, &schema, &object)?;
     let text = stored.to_text(alloc)?;

@@ -1,5 +1,5 @@
 -- The definitions of this crate for the trees of the code.
-use Rattle.std.specs.Prelude.{◌≡◌, ℕ, List, Bool, false, Option, Some, None, option_map, if◌then◌else◌, not, codes}
+use Rattle.std.specs.Prelude.{◌≡◌, Bool, false, Option, Some, option_map, if◌then◌else◌, not, codes}
 use Rattle.std.specs.Str.{bytes_eq}
 use Rattle.std.proofs.Common.{Bor}
 use Rattle.jtree.specs.Data.{Data, IsTree}

@@ -1,10 +1,8 @@
-use Rattle.std.proofs.Common.{◌≡◌, arith, Some, None, codes, sym, ap, ◌∙◌, subst, rules}
-use Rattle.std.specs.Prelude.{IfOk, option_map}
-use Rattle.std.proofs.Common.{Bor}
+use Rattle.std.proofs.Common.{◌≡◌, arith, Some, None, sym, ap, ◌∙◌, subst}
+use Rattle.std.specs.Prelude.{IfOk}
 use Rattle.jtree.specs.Data.{Data}
 use Rattle.jtree.specs.Data as tree
 use Rattle.jtree.specs.View.{data_of}
-use Rattle.jtree.specs.declared.value.Tree.{Tree}
 use Rattle.cluster.specs.Keywords.{member_schema, item_schema}
 use Rattle.cluster.specs.Filled.{filled, filled_items}
 use Rattle.cluster.specs.Internal.Trees.{schema_of}

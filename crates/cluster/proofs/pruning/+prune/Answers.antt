@@ -1,4 +1,4 @@
-use Rattle.std.proofs.Common.{Bool, get_or, sym, ap, ◌∙◌, refl, subst}
+use Rattle.std.proofs.Common.{Bool, get_or, sym, ap, ◌∙◌, subst}
 use Rattle.jtree.specs.Data.{AreTrees, AreMembers}
 use Rattle.jtree.specs.Data as tree
 use Rattle.jtree.specs.View.{items_of, members_of}
