@@ -39,9 +39,9 @@ def of_crates(folder: pathlib.Path, names: Sequence[str], program: pathlib.Path,
     return answers_of(["rt", "try", "--seconds", "900"], source.parent, lines)
 
 
-def of_go(folder: pathlib.Path, program: pathlib.Path, lines: str) -> list[str]:
+def of_go(folder: pathlib.Path, program: pathlib.Path, lines: str, gopath: str = GOPATH) -> list[str]:
     """What a program in Go answers, with the packages that lie on this machine."""
     built = folder / "go_lines"
-    packages = {**os.environ, "GO111MODULE": "off", "GOPATH": GOPATH, "GOFLAGS": "", "GOCACHE": str(folder / "go_cache")}
+    packages = {**os.environ, "GO111MODULE": "off", "GOPATH": gopath, "GOFLAGS": "", "GOCACHE": str(folder / "go_cache")}
     subprocess.run(["go", "build", "-o", str(built), str(program)], check=True, env=packages)
     return answers_of([str(built)], folder, lines)

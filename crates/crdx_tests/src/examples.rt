@@ -4,6 +4,7 @@ use crate::support::documents::{SPEC, WIDGET, ZERO_AND_ONE};
 use crate::support::fakes::{FailingSink, FakeInputs};
 use crate::support::given::{TWO_FIELDS, made};
 use crate::support::harness::{pools_of, schema_of, words_of};
+use cluster::way_in;
 use cover::cover;
 use crdx::run;
 use definition::{Fields, Part, Value};
@@ -58,6 +59,17 @@ fn formats(rt: HostRuntime) -> Result<(), Fail> {
     assert_eq!(rt; format, Some(Format::DateTime));
     let is_date = is_of(&mut tests, Format::Date, "2023-02-29")?;
     assert!(rt; !is_date, "no day of that year");
+    Ok(())
+}
+
+#[test]
+fn cluster(rt: HostRuntime) -> Result<(), Fail> {
+    let alloc = rt.alloc();
+    let schema = Tree::from_bytes(alloc, r#"{"properties":{"a":{"default":1}}}"#.as_bytes())?;
+    let object = Tree::from_bytes(alloc, r#"{"a":null,"b":2,"kind":"C"}"#.as_bytes())?;
+    let stored = way_in(alloc, &schema, &object)?;
+    let text = stored.to_text(alloc)?;
+    assert_eq!(rt; text.as_str(), r#"{"a":1,"kind":"C"}"#);
     Ok(())
 }
 

@@ -1,0 +1,7 @@
+use Rattle.std.proofs.Common.{rules}
+use Rattle.std.proofs.lemmas.Fn.{filter_same}
+use Rattle.cluster.specs.Internal.Trees.{schema_of, is_kept_member}
+use Rattle.cluster.proofs.pruning.drop_undeclared.Goals as goal
+
+pub returns : goal.returns
+returns c = filter_same _ (is_kept_member c.args.is_resource (schema_of c.args.schema)) _ (λ x b f' h. search rules) _ _ c.retain.ensures.filtered

@@ -1,0 +1,3 @@
+-- What private contracts cite.
+pub mod Trees
+pub mod Walks

@@ -1,0 +1,2 @@
+//! Tests of `cluster`.
+mod way_cases;
