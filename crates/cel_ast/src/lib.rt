@@ -1,4 +1,11 @@
 //! The syntax tree of the Common Expression Language.
+//!
+//! An [`Expr`] is plain data: contracts see it as `Syntax`. `cel_parse` makes it of tokens.
+//!
+//! ```
+//! let ten = cel_ast::Expr::Literal(cel_ast::Literal::Int(10));
+//! assert!(rt; matches!(ten, cel_ast::Expr::Literal(cel_ast::Literal::Int(10))));
+//! ```
 #![tactic(auto)]
 
 mod expr;

@@ -82,6 +82,13 @@ fn tokens_of_an_expression(rt: HostRuntime) -> Result<(), Fail> {
 }
 
 #[test]
+fn an_expression(rt: HostRuntime) -> Result<(), Fail> {
+    let ten = cel_ast::Expr::Literal(cel_ast::Literal::Int(10));
+    assert!(rt; matches!(ten, cel_ast::Expr::Literal(cel_ast::Literal::Int(10))));
+    Ok(())
+}
+
+#[test]
 fn tree_of_an_expression(rt: HostRuntime) -> Result<(), Fail> {
     let alloc = rt.alloc();
     let tokens = cel_read::tokens(alloc, "self.all(x, x > 0)")?;
