@@ -112,9 +112,11 @@ fn judge(rt: HostRuntime) -> Result<(), Fail> {
 
 #[test]
 fn faults_of_a_definition(rt: HostRuntime) -> Result<(), Fail> {
+    use definition::faults;
+
     let alloc = rt.alloc();
     let document = Tree::from_bytes_with(alloc, WIDGET.as_bytes(), Numbers::All)?;
-    let found = definition::faults(alloc, &document)?;
+    let found = faults(alloc, &document)?;
     assert_eq!(rt; found.len(), 4);
     assert_eq!(rt; found[1].pointer.as_str(), "/spec");
     assert_eq!(rt; found[1].rule.number(), 4);

@@ -59,11 +59,20 @@ fn version_in<'a>(versions: &'a Items, name: &str) -> Option<&'a Tree>
     ensures { option_map (λ t. data_of t.now) result ≡ spec.version_in name.now versions.now }
 {
     for version in &versions.items {
-        if version.has_text("name", name) {
+        if is_text(version.get("name"), name) {
             return Some(version);
         }
     }
     None
+}
+
+fn is_text(part: Option<&Tree>, text: &str) -> bool
+    ensures { result ≡ spec.is_text text.now (option_map (λ t. data_of t.now) part.entry) }
+{
+    match part {
+        Some(Tree::Text(found)) => found.as_str() == text,
+        _ => false,
+    }
 }
 
 /// Whether there is something, and not null.

@@ -18,7 +18,7 @@ returns-in-Err-accept_written-clause-cause g c =
     let arguments = c.args.arguments.now in
     let crd = c.in-Ok.definition.crd in
     inl (input_of_schema (g.I.Inputs.has c.args.inputs.now) (g.I.Inputs.failures c.args.inputs.now) (g.I.Inputs.failures c.read_definition.new.inputs) arguments.common (SuggestPools arguments)
-    (no_pools arguments) c.in-Err-accept_written.cause (λ r. r) (inr (crd.raw, (crd.group, (crd.kind, c.in-Ok.ensures.ok)), c.in-Err-accept_written.ensures.cause)))
+    (no_pools arguments) c.in-Err-accept_written.cause (λ r. r) (inr (crd.raw, (crd.group, (crd.kind, c.in-Ok.ensures.ok.0)), c.in-Err-accept_written.ensures.cause)))
 
 pub returns-clause-answer : goal.returns-clause-answer
 returns-clause-answer g c =
@@ -31,7 +31,7 @@ returns-clause-answer g c =
       N,
       said.0,
       record {
-        schema = record { asked = (crd.group, (crd.kind, c.in-Ok.ensures.ok)); unbroken = written.unbroken.0 };
+        schema = record { asked = (crd.group, (crd.kind, c.in-Ok.ensures.ok.0)); unbroken = written.unbroken.0 };
         root = written.unbroken.1;
         wanted = wanted_before (g.I.Inputs.lines c.args.inputs.now) (g.I.Inputs.lines c.read_definition.new.inputs) c.in-Ok.ensures.lines arguments said.0 said.1;
       },
@@ -50,7 +50,7 @@ returns-clause-cause g c =
     IfErr-weaker c.suggest_at.result _ _ (λ r why. inr (
       crd.raw,
       N,
-      record { asked = (crd.group, (crd.kind, c.in-Ok.ensures.ok)); unbroken = written.unbroken.0 },
+      record { asked = (crd.group, (crd.kind, c.in-Ok.ensures.ok.0)); unbroken = written.unbroken.0 },
       written.unbroken.1,
       suggestion_before (g.I.Inputs.lines c.args.inputs.now) later c.in-Ok.ensures.lines arguments unread read crd.raw N r.cause (subst (λ n. IsSuggestionCause later n read arguments crd.raw N r.cause) c.in-Ok.ensures.unfailed
           (subst (λ raw. IsSuggestionCause later (g.I.Inputs.failures c.read_definition.new.inputs) read arguments raw N r.cause) written.raw why)),
