@@ -58,11 +58,14 @@ def large(places: int, widest: int) -> tuple[Json, Json]:
 
 
 def definition(kind: str, schema: Schema) -> Json:
-    version: dict[str, Json] = {"name": "v1", "schema": {"openAPIV3Schema": schema}}
+    version: dict[str, Json] = {"name": "v1", "served": True, "storage": True, "schema": {"openAPIV3Schema": schema}}
+    plural = f"{kind.lower()}s"
+    names: dict[str, Json] = {"kind": kind, "plural": plural}
     return {
         "apiVersion": "apiextensions.k8s.io/v1",
         "kind": "CustomResourceDefinition",
-        "spec": {"group": "example.org", "names": {"kind": kind}, "versions": [version]},
+        "metadata": {"name": f"{plural}.example.org"},
+        "spec": {"group": "example.org", "names": names, "scope": "Namespaced", "versions": [version]},
     }
 
 

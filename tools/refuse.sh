@@ -92,7 +92,9 @@ echo 'crdx: more' >"$folder/more"
 echo 'structural' >"$folder/structural"
 # a definition with this schema
 define() {
-    printf '{"apiVersion":"apiextensions.k8s.io/v1","kind":"CustomResourceDefinition","spec":{"group":"example.org","names":{"kind":"Widget"},"versions":[{"name":"v1","schema":{"openAPIV3Schema":%s}}]}}\n' "$1"
+    printf '{"apiVersion":"apiextensions.k8s.io/v1","kind":"CustomResourceDefinition","metadata":{"name":"widgets.example.org"},
+    "spec":{"group":"example.org","scope":"Namespaced","names":{"plural":"widgets","kind":"Widget"},
+    "versions":[{"name":"v1","served":true,"storage":true,"schema":{"openAPIV3Schema":%s}}]}}\n' "$1"
 }
 define '{"type":"object","properties":{"a":{},"b":{"type":"string","uniqueItems":true}}}' >"$folder/broken.json"
 cat >"$folder/broken" <<'LINES'

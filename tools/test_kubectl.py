@@ -164,11 +164,11 @@ class Runs(unittest.TestCase):
 
 class Definitions(Runs):
     def test_a_file(self) -> None:
-        """The definition goes to crdx with one version, --large, --why and the profile of a cluster."""
+        """The definition goes to crdx with the schema of one version, --large, --why and the profile of a cluster."""
         self.file("crd.json", definition(PLAIN, PATTERN))
         command, *words, crd, version = self.given("check", "-f", "crd.json")
         self.assertEqual((command, words, version), ("check", ALWAYS, "v1"))
-        wanted = definition(PLAIN)
+        wanted = definition(PLAIN, {"type": "object"})
         self.assertEqual(json.loads(crd), wanted)
 
     def test_it_is_relaxed_and_the_line_says_so(self) -> None:
@@ -863,10 +863,13 @@ class Answers(Runs):
         """Rules that a cluster asks for too are named by `check`, though the relaxed schema breaks none."""
         before = {"type": "object", "properties": {
             "a": {"pattern": "a"}, "b": {"minimum": 0.5}, "c": {"type": "array", "uniqueItems": True, "items": {"type": "number"}},
-            "d": {"type": "array", "x-kubernetes-list-type": "set", "items": {"type": "object"}},
+            "d": {"type": "array", "x-kubernetes-list-type": "set", "items": {"type": "object"}}, "e": {"type": "string", "pattern": "["},
         }}
         self.file("crd.json", definition(before, PATTERN))
-        broken = ['V01 "/properties/a" missing type', 'V01 "/properties/b" missing type', 'V06 "/properties/c" uniqueItems is true']
+        broken = [
+            'V01 "/properties/a" missing type', 'V01 "/properties/b" missing type', 'V06 "/properties/c" uniqueItems is true',
+            'C01 "/properties/e" bad pattern',
+        ]
         rows: list[tuple[str, list[str]]] = [("v1", broken), ("v2", [])]
         for version, said in rows:
             with self.subTest(version):

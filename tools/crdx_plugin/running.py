@@ -64,7 +64,7 @@ def run_command(command: Command, asked: Arguments) -> int:
     version = version or chosen_version(definition, objects)
     text, schema = (definition.text, None) if asked.exact else relaxed(definition, version)
     if command.name == "check" and schema:
-        say(NAME, hidden_rules(command.crdx, definition, version))
+        say(NAME, hidden_rules(command.crdx, definition, version, text))
     with in_memory(text) as crd:
         words = [*asked.passed, crd, version, *asked.words]
         if command.takes_object:

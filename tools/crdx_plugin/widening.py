@@ -8,7 +8,7 @@ import re
 import subprocess
 
 from crdx_schemas.changes import unjudged
-from crdx_schemas.definitions import relax_definition, relax_document, take_version
+from crdx_schemas.definitions import relax_definition, relax_document, take_schema, take_version
 from crdx_schemas.documents import Json, Refusal, definition_text, in_text, parse
 from crdx_schemas.pool_values import add_found_values, is_at_or_below, pool_paths
 from crdx_schemas.programs import say, write
@@ -22,11 +22,11 @@ from .texts import NAME
 
 
 def relaxed(definition: Document, version: str) -> tuple[str, Relaxed | None]:
-    """The text of a definition with this version alone, relaxed, and its schemas. Where it cannot be relaxed, the text stays as it is, and
-    crdx says why it refuses it."""
+    """The text of a definition with the schema of this version alone, relaxed, and its schemas. Where it cannot be relaxed, the text stays
+    as it is, and crdx says why it refuses it."""
     try:
         document = parse(definition.text.encode("utf-8"))
-        take_version(document, version)
+        take_schema(document, version)
         schema = relax_definition(document)[version]
     except (Refusal, ValueError, RecursionError):
         return definition.text, None
@@ -55,14 +55,19 @@ def without_fractions(tree: Json) -> Json:
     return 0 if isinstance(tree, decimal.Decimal) else tree
 
 
-def hidden_rules(crdx: Crdx, definition: Document, version: str) -> list[str]:
-    """The lines on what the schema breaks as it was written of the rules that a cluster has too, V01 to V11 and V13; V14 is asked of the
-    relaxed schema."""
+def hidden_rules(crdx: Crdx, definition: Document, version: str, relaxed_text: str) -> list[str]:
+    """The lines on what the definition breaks as it was written, and no longer when relaxed, of the rules that a cluster has too: V01 to V11,
+    V13, C01 and those of definitions. V14 is asked of the relaxed schema."""
     document = without_fractions(parse(definition.text.encode("utf-8")))
-    take_version(document, version)
-    with in_memory(in_text(document)) as crd:
+    known = broken_rules(crdx, relaxed_text, version)
+    lines = [line for line in broken_rules(crdx, in_text(document), version) if line not in known]
+    return [f"as written, and a cluster refuses it too: {line}" for line in lines]
+
+
+def broken_rules(crdx: Crdx, definition: str, version: str) -> list[str]:
+    with in_memory(definition) as crd:
         said = crdx.run("check", "--large", "--profile=cluster", crd, version, stdout=subprocess.PIPE, stderr=subprocess.DEVNULL)
-    return [f"as written, and a cluster refuses it too: {line}" for line in re.findall("^V(?:0.|1[013]) .*", said.stdout, re.M)]
+    return re.findall("^(?:V(?:0.|1[013])|C(?!02)..) .*", said.stdout, re.M)
 
 
 def values_of(words: list[str], option: str) -> list[str]:

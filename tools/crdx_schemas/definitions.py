@@ -32,10 +32,21 @@ def versions_of(document):
 
 def take_version(document: Json, name: str) -> None:
     """Leaves this version alone in a definition."""
-    versions = [version for version in versions_of(document) if version["name"] == name]
-    if not versions:
+    check_version(document, name)
+    document["spec"]["versions"] = [version for version in versions_of(document) if version["name"] == name]
+
+
+def take_schema(document: Json, name: str) -> None:
+    """Leaves the schema of this version alone in a definition: other versions accept any object."""
+    check_version(document, name)
+    for version in versions_of(document):
+        if version["name"] != name and isinstance(below(version, "schema", "openAPIV3Schema"), dict):
+            version["schema"]["openAPIV3Schema"] = {"type": "object"}
+
+
+def check_version(document: Json, name: str) -> None:
+    if not any(version["name"] == name for version in versions_of(document)):
         raise Refusal("crd: S2", 3)
-    document["spec"]["versions"] = versions
 
 
 def relax_definition(document: Json) -> dict[str, Relaxed]:
