@@ -6,12 +6,14 @@ use Rattle.jtree.specs.Path.{under}
 use Rattle.judge.specs.Envelope.{is_kind_name}
 use Rattle.definition.specs.Texts.{is_among, is_name, is_group, is_below_spec, is_below_status}
 use Rattle.definition.specs.Fields.{required}
-use Rattle.definition.specs.Reading.{is_true, is_absent}
+use Rattle.definition.specs.Reading.{is_true, is_there, is_absent, text_or_empty}
 use Rattle.definition.specs.Schemas.{place_breaks}
 use Rattle.definition.specs.Rules.{is}
 use Rattle.definition.specs.declared.rule.Rule.{Rule}
 use Rattle.definition.specs.declared.rule.Rule.TheVariants as rule
+use Rattle.definition.specs.declared.part.Fields.{Fields}
 use Rattle.definition.specs.declared.part.Fields.TheVariants as fields
+use Rattle.definition.specs.declared.part.Listed.{Listed}
 use Rattle.definition.specs.declared.part.Listed.TheVariants as listed
 use Rattle.definition.specs.declared.part.Value.{Value}
 use Rattle.definition.specs.declared.part.Value.TheVariants as value
@@ -141,24 +143,51 @@ stores_another_number null = false
 stores_another_number (list ds) = not (one_stored ds)
 stores_another_number _ = true
 
+-- ---- webhooks
+
+-- the address is a URL or a service, and not both
+abbrev pub has_one_address : Data → Bool
+has_one_address null = true
+has_one_address d = if is_there (under d (codes "url")) then not (is_there (under d (codes "service"))) else is_there (under d (codes "service"))
+
+abbrev pub review_versions : List (List ℕ)
+review_versions = codes "v1" ∷ codes "v1beta1" ∷ []
+
+-- one of the versions of reviews is known
+abbrev pub knows_one : Items → Bool
+knows_one no_items = false
+knows_one (item d ds) = is_among (text_or_empty (Some d)) review_versions || knows_one ds
+
+abbrev pub knows_a_review : Data → Bool
+knows_a_review null = true
+knows_a_review (list ds) = knows_one ds
+knows_a_review _ = false
+
 -- ---- all rules
+
+-- an object that lacks a field, or a webhook's client without an address of its own
+abbrev pub fields_break : Rule → Fields → Data → Bool
+fields_break rule.MissingField o d = lacks (required o) d
+fields_break rule.BadConversion fields.ClientConfig d = not (has_one_address d)
+fields_break _ o d = false
+
+abbrev pub list_breaks : Rule → Listed → Data → Bool
+list_breaks rule.RepeatedVersion listed.Versions d = repeats_version d
+list_breaks rule.StorageVersions listed.Versions d = stores_another_number d
+list_breaks rule.BadConversion listed.ReviewVersions d = not (knows_a_review d)
+list_breaks _ l d = false
 
 abbrev pub metadata_breaks : Rule → Metadata → Data → Bool
 metadata_breaks rule.MissingField m d = lacks (required fields.Metadata) d
 metadata_breaks rule.ProtectedGroup m d = not m.is_approved
 metadata_breaks _ m d = false
 
-abbrev pub versions_break : Rule → Data → Bool
-versions_break rule.RepeatedVersion d = repeats_version d
-versions_break rule.StorageVersions d = stores_another_number d
-versions_break _ d = false
-
 -- a part breaks the rule
 abbrev pub breaks : Rule → Part → Data → Bool
 breaks r (part.Value v agrees) d = is r (rule_of v) && is_bad v agrees d
-breaks r (part.Fields o) d = is r rule.MissingField && lacks (required o) d
+breaks r (part.Fields o) d = fields_break r o d
 breaks r (part.Metadata m) d = metadata_breaks r m d
-breaks r (part.Listed listed.Versions) d = versions_break r d
+breaks r (part.Listed l) d = list_breaks r l d
 breaks r (part.UnknownField o) d = is r rule.UnknownField
 breaks r (part.Place p) d = place_breaks r p d
 breaks r _ d = false

@@ -101,6 +101,11 @@ in_conversion ms k =
     if bytes_eq k (codes "strategy") then part.Value value.Strategy (has_its_webhook ms) else
     if bytes_eq k (codes "webhook") then part.Fields Webhook else part.Other
 
+abbrev pub in_webhook : List ℕ → Part
+in_webhook k =
+    if bytes_eq k (codes "clientConfig") then part.Fields ClientConfig else
+    if bytes_eq k (codes "conversionReviewVersions") then part.Listed listed.ReviewVersions else part.Other
+
 -- of a schema: the schemas in it are where JSONSchemaProps has them
 abbrev pub has_schema : List ℕ → Bool
 has_schema k = is_among k (codes "additionalItems" ∷ codes "additionalProperties" ∷ codes "items" ∷ codes "not" ∷ [])
@@ -134,7 +139,7 @@ field Subresources ms k = only_in (codes "scale") Scale k
 field Scale ms k = in_scale k
 field Column ms k = in_column k
 field Conversion ms k = in_conversion ms k
-field Webhook ms k = only_in (codes "clientConfig") ClientConfig k
+field Webhook ms k = in_webhook k
 field ClientConfig ms k = only_in (codes "service") Service k
 field Schema ms k = in_schema k
 field _ ms k = part.Other
@@ -192,6 +197,7 @@ abbrev pub item_of : Listed → Part
 item_of listed.Versions = part.Fields Version
 item_of listed.Columns = part.Fields Column
 item_of listed.SelectableFields = part.Fields SelectableField
+item_of listed.ReviewVersions = part.Other
 item_of listed.Names = part.Value value.ListedName true
 item_of listed.Schemas = part.Fields Schema
 item_of listed.ValidationRules = part.Fields ValidationRule

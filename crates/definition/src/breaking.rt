@@ -5,6 +5,7 @@ ghost use Rattle.definition.specs.Broken as spec;
 ghost use Rattle.definition.specs.Fields.{texts_at};
 
 use crate::part::{Fields, Listed, Metadata, Part, Value};
+use crate::reading::{is_there, text_or_empty};
 use crate::rule::Rule;
 use crate::schemas::place_breaks;
 use crate::texts::{is_below_spec, is_below_status, is_group, is_name, is_one_of, is_simple_path};
@@ -194,12 +195,55 @@ fn metadata_breaks(rule: Rule, metadata: Metadata, tree: &Tree) -> bool
     }
 }
 
-fn versions_break(rule: Rule, tree: &Tree) -> bool
-    ensures { result ≡ spec.versions_break rule (data_of tree.now) }
+/// Whether the client of a webhook has a URL or a service, and not both.
+fn has_one_address(client: &Tree) -> bool
+    ensures { result ≡ spec.has_one_address (data_of client.now) }
 {
-    match rule {
-        Rule::RepeatedVersion => repeats_version(tree),
-        Rule::StorageVersions => stores_another_number(tree),
+    match client {
+        Tree::Null => true,
+        _ => is_there(client.get("url")) != is_there(client.get("service")),
+    }
+}
+
+/// Whether one of these versions of reviews is known.
+fn knows_one(versions: &[Tree]) -> bool
+    ensures { result ≡ spec.knows_one (items_of versions.now) }
+{
+    for version in versions {
+        if is_one_of(text_or_empty(Some(version)), &["v1", "v1beta1"]) {
+            return true;
+        }
+    }
+    false
+}
+
+fn knows_a_review(versions: &Tree) -> bool
+    ensures { result ≡ spec.knows_a_review (data_of versions.now) }
+{
+    match versions {
+        Tree::Null => true,
+        Tree::List(versions) => knows_one(&versions.items),
+        _ => false,
+    }
+}
+
+fn fields_break(rule: Rule, fields: Fields, tree: &Tree) -> bool
+    ensures { result ≡ spec.fields_break rule fields (data_of tree.now) }
+{
+    match (rule, fields) {
+        (Rule::MissingField, _) => fields.lacks(tree),
+        (Rule::BadConversion, Fields::ClientConfig) => !has_one_address(tree),
+        _ => false,
+    }
+}
+
+fn list_breaks(rule: Rule, list: Listed, tree: &Tree) -> bool
+    ensures { result ≡ spec.list_breaks rule list (data_of tree.now) }
+{
+    match (rule, list) {
+        (Rule::RepeatedVersion, Listed::Versions) => repeats_version(tree),
+        (Rule::StorageVersions, Listed::Versions) => stores_another_number(tree),
+        (Rule::BadConversion, Listed::ReviewVersions) => !knows_a_review(tree),
         _ => false,
     }
 }
@@ -210,9 +254,9 @@ pub(crate) fn breaks(rule: Rule, part: Part, tree: &Tree) -> bool
 {
     match part {
         Part::Value(value, agrees) => rule.is(value.rule()) && value.is_bad(agrees, tree),
-        Part::Fields(fields) => rule.is(Rule::MissingField) && fields.lacks(tree),
+        Part::Fields(fields) => fields_break(rule, fields, tree),
         Part::Metadata(metadata) => metadata_breaks(rule, metadata, tree),
-        Part::Listed(Listed::Versions) => versions_break(rule, tree),
+        Part::Listed(list) => list_breaks(rule, list, tree),
         Part::UnknownField(_) => rule.is(Rule::UnknownField),
         Part::Place(place) => place_breaks(rule, place, tree),
         _ => false,

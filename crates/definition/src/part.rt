@@ -48,6 +48,8 @@ pub enum Listed {
     Columns,
     /// `selectableFields`
     SelectableFields,
+    /// `conversionReviewVersions`
+    ReviewVersions,
     /// `shortNames` or `categories`
     Names,
     /// `allOf`, `anyOf` or `oneOf`

@@ -176,6 +176,16 @@ fn in_conversion(conversion: &Members, name: &str) -> Part
     }
 }
 
+fn in_webhook(name: &str) -> Part
+    ensures { result ≡ spec.in_webhook name.now }
+{
+    match name {
+        "clientConfig" => Part::Fields(Fields::ClientConfig),
+        "conversionReviewVersions" => Part::Listed(Listed::ReviewVersions),
+        _ => Part::Other,
+    }
+}
+
 fn has_schema(keyword: &str) -> bool
     ensures { result ≡ spec.has_schema keyword.now }
 {
@@ -249,7 +259,7 @@ fn field(fields: Fields, members: &Members, name: &str) -> Part
         Fields::Scale => in_scale(name),
         Fields::Column => in_column(name),
         Fields::Conversion => in_conversion(members, name),
-        Fields::Webhook => only_in("clientConfig", Fields::ClientConfig, name),
+        Fields::Webhook => in_webhook(name),
         Fields::ClientConfig => only_in("service", Fields::Service, name),
         Fields::Schema => in_schema(name),
         _ => Part::Other,
@@ -263,6 +273,7 @@ fn item_of(list: Listed) -> Part
         Listed::Versions => Part::Fields(Fields::Version),
         Listed::Columns => Part::Fields(Fields::Column),
         Listed::SelectableFields => Part::Fields(Fields::SelectableField),
+        Listed::ReviewVersions => Part::Other,
         Listed::Names => Part::Value(Value::ListedName, true),
         Listed::Schemas => Part::Fields(Fields::Schema),
         Listed::ValidationRules => Part::Fields(Fields::ValidationRule),

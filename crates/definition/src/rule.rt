@@ -29,7 +29,7 @@ pub enum Rule {
     BadColumn,
     /// A path of the subresource `scale` does not lead below `spec` or `status`.
     BadScalePath,
-    /// The strategy of a conversion is unknown, or does not go with `webhook`.
+    /// The strategy of a conversion is unknown or does not go with `webhook`, which has not one address or no known version of reviews.
     BadConversion,
     /// A schema has a type that is none of the six.
     UnknownType,

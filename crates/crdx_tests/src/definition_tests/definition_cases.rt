@@ -60,7 +60,7 @@ unknown fields are not preserved | "scope" | "preserveUnknownFields":false,"scop
 "#;
 
 static VERSIONS: &str = r#"
-30 rows: name | old | new | faults
+33 rows: name | old | new | faults
 @V1 | {"name":"v1","served":true,"storage":true,"schema":{"openAPIV3Schema":{"type":"object","properties":{"a":{}}}}}
 no version | @V1 | - | C11 /spec/versions
 two stored versions | @V1
@@ -104,7 +104,13 @@ no strategy | "scope" | "conversion":{},"scope" | C04 /spec/conversion
 a webhook | "scope" | "conversion":{"strategy":"Webhook","webhook":{"conversionReviewVersions":["v1"],"clientConfig":{"url":"https://a"}}},"scope" | -
 that is not there | "scope" | "conversion":{"strategy":"Webhook"},"scope" | C15 /spec/conversion/strategy
 that is not asked for | "scope" | "conversion":{"strategy":"None","webhook":{"conversionReviewVersions":["v1"],"clientConfig":{}}},"scope"
-    | C15 /spec/conversion/strategy
+    | C15 /spec/conversion/strategy, C15 /spec/conversion/webhook/clientConfig
+that has two addresses | "scope" | "conversion":{"strategy":"Webhook","webhook":{"conversionReviewVersions":["v1"],
+    "clientConfig":{"url":"https://a","service":{"name":"a","namespace":"n"}}}},"scope" | C15 /spec/conversion/webhook/clientConfig
+that knows another review | "scope" | "conversion":{"strategy":"Webhook","webhook":{"conversionReviewVersions":["v2",1],
+    "clientConfig":{"url":"https://a"}}},"scope" | C15 /spec/conversion/webhook/conversionReviewVersions
+that knows one of two | "scope" | "conversion":{"strategy":"Webhook","webhook":{"conversionReviewVersions":["v2","v1beta1"],
+    "clientConfig":{"service":{"name":"a","namespace":"n","path":"/p","port":443}}}},"scope" | -
 that has no client | "scope" | "conversion":{"strategy":"Webhook","webhook":{"conversionReviewVersions":["v1"]}},"scope" | C04 /spec/conversion/webhook
 that has a nameless service | "scope" | "conversion":{"strategy":"Webhook","webhook":{"conversionReviewVersions":["v1"],
     "clientConfig":{"service":{"namespace":"n"}}}},"scope" | C04 /spec/conversion/webhook/clientConfig/service
