@@ -1,7 +1,7 @@
 -- Which rules a part breaks (apiextensions.k8s.io/v1; k8s.io/apiextensions-apiserver, pkg/apis/apiextensions/validation).
-use Rattle.std.specs.Prelude.{ℕ, List, [], ◌∷◌, Bool, true, false, Option, Some, None, not, ◌&&◌, ◌||◌, ◌==◌, length, if◌then◌else◌, codes}
+use Rattle.std.specs.Prelude.{ℕ, List, [], ◌∷◌, Bool, true, false, Option, Some, not, ◌&&◌, ◌||◌, ◌==◌, length, if◌then◌else◌, codes}
 use Rattle.std.specs.Str.{bytes_eq}
-use Rattle.jtree.specs.Data.{Data, null, boolean, text, list, Items, no_items, item}
+use Rattle.jtree.specs.Data.{Data, null, text, list, Items, no_items, item}
 use Rattle.jtree.specs.Path.{under}
 use Rattle.judge.specs.Envelope.{is_kind_name}
 use Rattle.definition.specs.Texts.{is_among, is_name, is_group, is_below_spec, is_below_status}

@@ -11,7 +11,6 @@ use Rattle.definition.specs.declared.part.Fields.TheVariants.{Definition, Spec, 
 use Rattle.definition.specs.declared.part.Fields.TheVariants as fields
 use Rattle.definition.specs.declared.part.Listed.{Listed}
 use Rattle.definition.specs.declared.part.Listed.TheVariants as listed
-use Rattle.definition.specs.declared.part.Value.{Value}
 use Rattle.definition.specs.declared.part.Value.TheVariants as value
 use Rattle.definition.specs.declared.part.Metadata.{Metadata}
 use Rattle.definition.specs.declared.part.Needed.{Needed}

@@ -1,6 +1,5 @@
 -- How the values of fields are read (apiextensions.k8s.io/v1). A field whose value has another JSON form says nothing.
 use Rattle.std.specs.Prelude.{ℕ, List, [], Bool, true, false, Option, Some, None, not, ◌==◌, length}
-use Rattle.std.specs.Str.{bytes_eq}
 use Rattle.jtree.specs.Data.{Data, null, boolean, text, object, Members, no_members, member}
 
 -- null counts as absent

@@ -1,6 +1,6 @@
 -- Which rules a schema breaks, by its own keywords and where it stands (apiextensions.k8s.io/v1, JSONSchemaProps;
 -- k8s.io/apiextensions-apiserver, pkg/apis/apiextensions/validation and pkg/apiserver/schema).
-use Rattle.std.specs.Prelude.{ℕ, List, [], ◌∷◌, Bool, true, false, Some, not, ◌&&◌, ◌||◌, ◌==◌, length, codes}
+use Rattle.std.specs.Prelude.{ℕ, List, [], ◌∷◌, Bool, true, false, not, ◌&&◌, ◌||◌, ◌==◌, length, codes}
 use Rattle.std.specs.Str.{bytes_eq}
 use Rattle.jtree.specs.Data.{Data, null, boolean, text, object, Members, no_members, member}
 use Rattle.jtree.specs.Path.{under}

@@ -1,5 +1,5 @@
 -- For private contracts: all faults of a part in order, level by level, and how a walk reports them.
-use Rattle.std.specs.Prelude.{ℕ, ◌+◌, List, [], ◌∷◌, ◌++◌, map, Bool, if◌then◌else◌, string_bytes}
+use Rattle.std.specs.Prelude.{ℕ, ◌+◌, List, [], ◌∷◌, ◌++◌, map, if◌then◌else◌, string_bytes}
 use Rattle.jtree.specs.Data.{Data, list, object, Items, no_items, item, Members, no_members, member}
 use Rattle.jtree.specs.Path.{Step, name, index}
 use Rattle.jtree.specs.Pointer.{pointer}
