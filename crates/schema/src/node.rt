@@ -8,6 +8,8 @@ use std::marker::Model;
 pub enum ScalarKind {
     Boolean,
     Integer,
+    /// Integers and other numbers.
+    Number,
     String,
     IntOrString,
 }

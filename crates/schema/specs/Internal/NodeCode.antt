@@ -20,12 +20,14 @@ kind_number kind.Boolean = 0
 kind_number kind.Integer = 1
 kind_number kind.String = 2
 kind_number kind.IntOrString = 3
+kind_number kind.Number = 4
 
 abbrev kind_from : ℕ → ScalarKind
 kind_from zero = kind.Boolean
 kind_from (suc zero) = kind.Integer
 kind_from (suc (suc zero)) = kind.String
-kind_from (suc (suc (suc n))) = kind.IntOrString
+kind_from (suc (suc (suc zero))) = kind.IntOrString
+kind_from (suc (suc (suc (suc n)))) = kind.Number
 
 pub kind_back : (k : ScalarKind) → kind_from (kind_number k) ≡ k
 kind_back kind.Boolean = refl
