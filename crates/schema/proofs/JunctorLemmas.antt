@@ -141,24 +141,24 @@ junctors_named in_branch all any one negated s k in_all in_any in_one in_negated
 ]
 
 mutual
-  validations_named : (c : Validations) (s : Data) (k : List ℕ) → AreValidationsOf c s → Among (names_in c) k → IsNamed true s k
-  validations_named (validations t all any one negated) s k h a = elim (among_parts t.required (names_of all ++ (names_of any ++ (names_of one ++ names_of negated))) k a) [
+  validations_named : (profile : Profile) (c : Validations) (s : Data) (k : List ℕ) → AreValidationsOf profile c s → Among (names_in c) k → IsNamed true s k
+  validations_named profile (validations t all any one negated) s k h a = elim (among_parts t.required (names_of all ++ (names_of any ++ (names_of one ++ names_of negated))) k a) [
     | inl own ↦ record { place = []; alone = refl; inside = refl; schema = s; at = refl; required = subst (λ ks. Among ks k) h.0.required own }
-    | inr b ↦ junctors_named true all any one negated s k (branches_named all _ k h.1) (branches_named any _ k h.2) (branches_named one _ k h.3) (branches_named negated _ k h.4) b
+    | inr b ↦ junctors_named true all any one negated s k (branches_named profile all _ k h.1) (branches_named profile any _ k h.2) (branches_named profile one _ k h.3) (branches_named profile negated _ k h.4) b
   ]
 
-  branches_named : (cs : Branches) (ds : Items) (k : List ℕ) → AreBranchesOf cs ds → Among (names_of cs) k → ItemNamed ds k
-  branches_named no_branches ds k h a = absurd a
-  branches_named (branch c cs) no_items k h a = absurd h
-  branches_named (branch c cs) (item d ds) k h a = elim (among_parts (names_in c) (names_of cs) k a) [
-    | inl l ↦ (0, d, refl, validations_named c d k h.0 l)
-    | inr l ↦ let r = branches_named cs ds k h.1 l in (suc r.0, r.1, r.2, r.3)
+  branches_named : (profile : Profile) (cs : Branches) (ds : Items) (k : List ℕ) → AreBranchesOf profile cs ds → Among (names_of cs) k → ItemNamed ds k
+  branches_named profile no_branches ds k h a = absurd a
+  branches_named profile (branch c cs) no_items k h a = absurd h
+  branches_named profile (branch c cs) (item d ds) k h a = elim (among_parts (names_in c) (names_of cs) k a) [
+    | inl l ↦ (0, d, refl, validations_named profile c d k h.0 l)
+    | inr l ↦ let r = branches_named profile cs ds k h.1 l in (suc r.0, r.1, r.2, r.3)
   ]
 
 object_named : (cs : Validations) (s : Data) (k : List ℕ) → AreObjectJunctorsOf cs s → Among (names_in cs) k → IsNamed false s k
 object_named (validations t all any one negated) s k h a = elim (among_parts t.required (names_of all ++ (names_of any ++ (names_of one ++ names_of negated))) k a) [
   | inl own ↦ let none : t.required ≡ [] = ap (λ u. u.required) h.0 in absurd (rw none at own)
-  | inr b ↦ junctors_named false all any one negated s k (branches_named all _ k h.1) (branches_named any _ k h.2) (branches_named one _ k h.3) (branches_named negated _ k h.4) b
+  | inr b ↦ junctors_named false all any one negated s k (branches_named Core all _ k h.1) (branches_named Core any _ k h.2) (branches_named Core one _ k h.3) (branches_named Core negated _ k h.4) b
 ]
 
 -- ---- named fields are declared
@@ -208,7 +208,7 @@ absent test s w none is = elim (option_cases (under s w)) [
   | inr some ↦ let found = keyword_found test s w (rw some.1 refl) is in cc
 ]
 
-constraints_alone : (t : Constraints) (s : Data) → AreConstraintsOf t s → has_keyword (λ k. not (is_presence_keyword k)) s ≡ false → t ≡ presence t.required
+constraints_alone : (t : Constraints) (s : Data) → AreConstraintsOf Core t s → has_keyword (λ k. not (is_presence_keyword k)) s ≡ false → t ≡ presence t.required
 constraints_alone t s are none =
     let no = λ (w : List ℕ) (is : not (is_presence_keyword w) ≡ true). absent (λ k. not (is_presence_keyword k)) s w none is in
     let choices : t.choices ≡ None = are.choices ∙ rw (no (codes "enum") refl) refl in
@@ -225,11 +225,12 @@ constraints_alone t s are none =
       exclusive_minimum = above i;
       exclusive_maximum = below i;
       lengths = record { least = least i; most = most i };
+      written = are.written i;
       required = t.required;
     }
 
 mutual
-  validations_alone : (c : Validations) (s : Data) → AreValidationsOf c s → AsksNoMore true s → AsksPresence c
+  validations_alone : (c : Validations) (s : Data) → AreValidationsOf Core c s → AsksNoMore true s → AsksPresence c
   validations_alone (validations t all any one negated) s h only = (
     constraints_alone t s h.0 (only [] refl refl s refl),
     branches_alone all _ h.1 (asked_below true s _ (all_in s) only),
@@ -238,7 +239,7 @@ mutual
     branches_alone negated _ h.4 (asked_below true s _ (negated_in s) only),
   )
 
-  branches_alone : (cs : Branches) (ds : Items) → AreBranchesOf cs ds → ((i : ℕ) (e : Data) → item_at i ds ≡ Some e → AsksNoMore true e) → AskPresence cs
+  branches_alone : (cs : Branches) (ds : Items) → AreBranchesOf Core cs ds → ((i : ℕ) (e : Data) → item_at i ds ≡ Some e → AsksNoMore true e) → AskPresence cs
   branches_alone no_branches ds h each = tt
   branches_alone (branch c cs) no_items h each = absurd h
   branches_alone (branch c cs) (item d ds) h each = (validations_alone c d h.0 (each 0 d refl), branches_alone cs ds h.1 (λ i e at. each (suc i) e at))
@@ -345,7 +346,7 @@ sound_junctors profile (node n x (object_node fs pr t b cs)) raw root is p s at 
     }
 sound_junctors profile (node n x (scalar j cs)) raw root is p s at out forms h =
     let reported = (here profile (is_root p && true) _ s h).0 in
-    no_names (names_in cs) (λ k a. scalar_names_none profile raw root is p s at out j reported.2.is k (validations_named cs s k reported.3 a))
+    no_names (names_in cs) (λ k a. scalar_names_none profile raw root is p s at out j reported.2.is k (validations_named profile cs s k reported.3 a))
 sound_junctors profile M raw root is p s at out forms h = tt
 
 pub sound_junctors_at : (raw : Raw) (root : Node) → IsRootOf root raw → (p : Place) (M : Node) → node_at root p ≡ Some M → HasSoundJunctors M

@@ -22,6 +22,7 @@ use Rattle.schema.specs.declared.node.MapType.{MapType}
 use Rattle.schema.proofs.KindLemmas.{one_kind}
 use Rattle.schema.proofs.ShapeLemmas.{place_more, place_rest}
 use Rattle.schema.specs.declared.profile.Profile.{Profile}
+use Rattle.schema.specs.declared.profile.Profile.TheVariants.{Core}
 
 -- ---- sorts by their kinds
 
@@ -42,32 +43,33 @@ scalar_kind_is _ = refl
 same_bounds : (b c : Bounds) (s : Data) (least most : List ℕ) → AreBoundsOf b s least most → AreBoundsOf c s least most → b ≡ c
 same_bounds b c s least most h k = λ i. record { least = (h.0 ∙ sym k.0) i; most = (h.1 ∙ sym k.1) i }
 
-same_constraints : (t u : Constraints) (s : Data) → AreConstraintsOf t s → AreConstraintsOf u s → t ≡ u
-same_constraints t u s h k = λ i. record {
+same_constraints : (profile : Profile) (t u : Constraints) (s : Data) → AreConstraintsOf profile t s → AreConstraintsOf profile u s → t ≡ u
+same_constraints profile t u s h k = λ i. record {
   choices = (h.choices ∙ sym k.choices) i;
   minimum = (h.minimum ∙ sym k.minimum) i;
   maximum = (h.maximum ∙ sym k.maximum) i;
   exclusive_minimum = (h.exclusive_minimum ∙ sym k.exclusive_minimum) i;
   exclusive_maximum = (h.exclusive_maximum ∙ sym k.exclusive_maximum) i;
   lengths = record { least = (h.least_length ∙ sym k.least_length) i; most = (h.most_length ∙ sym k.most_length) i };
+  written = (h.written ∙ sym k.written) i;
   required = (h.required ∙ sym k.required) i;
 }
 
 mutual
-  same_validations : (c d : Validations) (s : Data) → AreValidationsOf c s → AreValidationsOf d s → c ≡ d
-  same_validations (validations t a b e n) (validations u f g j m) s h k = λ i.
-      validations (same_constraints t u s h.0 k.0 i) (same_branches a f _ h.1 k.1 i) (same_branches b g _ h.2 k.2 i) (same_branches e j _ h.3 k.3 i) (same_branches n m _ h.4 k.4 i)
+  same_validations : (profile : Profile) (c d : Validations) (s : Data) → AreValidationsOf profile c s → AreValidationsOf profile d s → c ≡ d
+  same_validations profile (validations t a b e n) (validations u f g j m) s h k = λ i.
+      validations (same_constraints profile t u s h.0 k.0 i) (same_branches profile a f _ h.1 k.1 i) (same_branches profile b g _ h.2 k.2 i) (same_branches profile e j _ h.3 k.3 i) (same_branches profile n m _ h.4 k.4 i)
 
-  same_branches : (cs ds : Branches) (ss : Items) → AreBranchesOf cs ss → AreBranchesOf ds ss → cs ≡ ds
-  same_branches no_branches no_branches no_items h k = refl
-  same_branches (branch c cs) (branch d ds) (item s ss) h k = λ i. branch (same_validations c d s h.0 k.0 i) (same_branches cs ds ss h.1 k.1 i)
-  same_branches no_branches _ (item s ss) h k = absurd h
-  same_branches (branch c cs) _ no_items h k = absurd h
-  same_branches _ _ _ h k = absurd k
+  same_branches : (profile : Profile) (cs ds : Branches) (ss : Items) → AreBranchesOf profile cs ss → AreBranchesOf profile ds ss → cs ≡ ds
+  same_branches profile no_branches no_branches no_items h k = refl
+  same_branches profile (branch c cs) (branch d ds) (item s ss) h k = λ i. branch (same_validations profile c d s h.0 k.0 i) (same_branches profile cs ds ss h.1 k.1 i)
+  same_branches profile no_branches _ (item s ss) h k = absurd h
+  same_branches profile (branch c cs) _ no_items h k = absurd h
+  same_branches profile _ _ _ h k = absurd k
 
 same_object_junctors : (c d : Validations) (s : Data) → AreObjectJunctorsOf c s → AreObjectJunctorsOf d s → c ≡ d
 same_object_junctors (validations t a b e n) (validations u f g j m) s h k = λ i.
-    validations ((h.0 ∙ sym k.0) i) (same_branches a f _ h.1 k.1 i) (same_branches b g _ h.2 k.2 i) (same_branches e j _ h.3 k.3 i) (same_branches n m _ h.4 k.4 i)
+    validations ((h.0 ∙ sym k.0) i) (same_branches Core a f _ h.1 k.1 i) (same_branches Core b g _ h.2 k.2 i) (same_branches Core e j _ h.3 k.3 i) (same_branches Core n m _ h.4 k.4 i)
 
 -- ---- fields by their names
 
@@ -209,9 +211,9 @@ mutual
       let scalar_is = sym (scalar_kind_is A) ∙ (ap scalar_of kind_is ∙ scalar_kind_is B) in
       λ i. node ((x.0 ∙ sym y.0) i) ((x.1 ∙ sym y.1) i) (same_sort profile A B n m d e s kind_is scalar_is x.3 y.3 both i)
 
-  same_sort : (profile : Profile) (A B : Sort) (n m : Bool) (d e : Option (List ℕ)) (s : Data) → sort_kind A ≡ sort_kind B → scalar_in A ≡ scalar_in B → HasKeywords A s → HasKeywords B s
+  same_sort : (profile : Profile) (A B : Sort) (n m : Bool) (d e : Option (List ℕ)) (s : Data) → sort_kind A ≡ sort_kind B → scalar_in A ≡ scalar_in B → HasKeywords profile A s → HasKeywords profile B s
       → AreOfOne profile (node n d A) (node m e B) → A ≡ B
-  same_sort profile (scalar k v) (scalar l w) n m d e s kind_is scalar_is x y both = λ i. scalar (same_Some k l scalar_is i) (same_validations v w s x y i)
+  same_sort profile (scalar k v) (scalar l w) n m d e s kind_is scalar_is x y both = λ i. scalar (same_Some k l scalar_is i) (same_validations profile v w s x y i)
   same_sort profile (object fs p t b cs) (object gs q u c ds) n m d e s kind_is scalar_is x y both =
       let alike = fields_alike profile n m d e fs gs p q t u b c cs ds both in
       let back = fields_alike profile m n e d gs fs q p u t c b ds cs (turned profile (node n d (object fs p t b cs)) (node m e (object gs q u c ds)) both) in

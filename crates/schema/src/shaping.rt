@@ -102,7 +102,7 @@ fn read_sort(alloc: Global, profile: Profile, schema: &Tree, root: bool) -> Resu
 {
     match kind_of(profile, schema) {
         Some(Kind::Scalar(kind)) => {
-            let validations = read_validations(alloc, schema)?;
+            let validations = read_validations(alloc, profile, schema)?;
             Ok(Sort::Scalar(ScalarNode { kind, validations }))
         }
         Some(Kind::Object) => Ok(Sort::Object(read_object(alloc, profile, schema, root)?)),

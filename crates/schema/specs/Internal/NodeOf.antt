@@ -39,4 +39,4 @@ abbrev mutual
 
 -- what the node of the schema accepts besides null
 abbrev pub IsSortOf : Profile → Bool → Sort → Data → Type 0
-IsSortOf profile root sort s = IsOfKind profile s (sort_kind sort) × HasKeywords sort s × AreBelow profile root sort s
+IsSortOf profile root sort s = IsOfKind profile s (sort_kind sort) × HasKeywords profile sort s × AreBelow profile root sort s

@@ -44,22 +44,22 @@ abbrev pub AreBoundsOf : Bounds → Data → List ℕ → List ℕ → Type 0
 AreBoundsOf b s least most = (b.least ≡ count_under s least) × (b.most ≡ count_under s most)
 
 -- what is asked of the value itself is what the keywords of the schema say (JSONSchemaProps)
-abbrev pub HasKeywords : Sort → Data → Type 0
-HasKeywords (scalar kind cs) s = AreValidationsOf cs s
-HasKeywords (object fs preserves type bounds cs) s =
+abbrev pub HasKeywords : Profile → Sort → Data → Type 0
+HasKeywords profile (scalar kind cs) s = AreValidationsOf profile cs s
+HasKeywords profile (object fs preserves type bounds cs) s =
     (preserves ≡ flag s (codes "x-kubernetes-preserve-unknown-fields")) × (type ≡ map_type_named (text_under s (codes "x-kubernetes-map-type")))
     × AreBoundsOf bounds s (codes "minProperties") (codes "maxProperties") × AreObjectJunctorsOf cs s
-HasKeywords (map N type bounds) s =
+HasKeywords profile (map N type bounds) s =
     (type ≡ map_type_named (text_under s (codes "x-kubernetes-map-type"))) × AreBoundsOf bounds s (codes "minProperties") (codes "maxProperties")
-HasKeywords (list N type keys bounds) s =
+HasKeywords profile (list N type keys bounds) s =
     (type ≡ list_type_named (text_under s (codes "x-kubernetes-list-type"))) × (keys ≡ texts_under s (codes "x-kubernetes-list-map-keys"))
     × AreBoundsOf bounds s (codes "minItems") (codes "maxItems")
-HasKeywords open_ s = Unit {0}
+HasKeywords profile open_ s = Unit {0}
 
 -- the node, leaving aside the nodes below it, is of the schema's kind and has its keywords
 abbrev pub IsNodeHere : Profile → Node → Data → Type 0
 IsNodeHere profile (node nullable description sort) s =
-    (nullable ≡ flag s (codes "nullable")) × (description ≡ text_under s (codes "description")) × IsOfKind profile s (sort_kind sort) × HasKeywords sort s
+    (nullable ≡ flag s (codes "nullable")) × (description ≡ text_under s (codes "description")) × IsOfKind profile s (sort_kind sort) × HasKeywords profile sort s
 
 -- ---- the nodes below a node
 
