@@ -864,13 +864,16 @@ class Answers(Runs):
         before = {"type": "object", "properties": {
             "a": {"pattern": "a"}, "b": {"minimum": 0.5}, "c": {"type": "array", "uniqueItems": True, "items": {"type": "number"}},
             "d": {"type": "array", "x-kubernetes-list-type": "set", "items": {"type": "object"}}, "e": {"type": "string", "pattern": "["},
+            "f": {"type": "string", "readOnly": True},
         }}
         self.file("crd.json", definition(before, PATTERN))
         broken = [
             'V01 "/properties/a" missing type', 'V01 "/properties/b" missing type', 'V06 "/properties/c" uniqueItems is true',
-            'C01 "/properties/e" bad pattern',
+            'V05 "/properties/f" keyword not supported', 'C01 "/properties/e" bad pattern',
         ]
-        rows: list[tuple[str, list[str]]] = [("v1", broken), ("v2", [])]
+        # (of the definition, whatever the version)
+        unknown = 'C03 "/spec/versions/0/schema/openAPIV3Schema/properties/f/readOnly" unknown field'
+        rows: list[tuple[str, list[str]]] = [("v1", [*broken, unknown]), ("v2", [unknown])]
         for version, said in rows:
             with self.subTest(version):
                 status, out, err = self.run_plugin("check", "-f", "crd.json", version, CRDX=REAL_CRDX)
