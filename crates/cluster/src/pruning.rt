@@ -3,7 +3,8 @@ ghost use Rattle.std.specs.Prelude.{◌≡◌, Some, codes, map, filter};
 ghost use Rattle.jtree.specs.Data as tree;
 ghost use Rattle.jtree.specs.View.{data_of};
 ghost use Rattle.cluster.specs.Keywords.{is_embedded as is_embedded_of};
-ghost use Rattle.cluster.specs.Pruned.{is_enveloped as is_enveloped_of, is_entered as is_entered_of, is_kept as is_kept_of, items_keep as items_keep_of, pruned, pruned_object};
+ghost use Rattle.cluster.specs.Pruned.{is_enveloped as is_enveloped_of, is_entered as is_entered_of, is_kept as is_kept_of};
+ghost use Rattle.cluster.specs.Pruned.{items_keep as items_keep_of, pruned, pruned_object};
 ghost use Rattle.cluster.specs.Internal.Trees.{schema_of, pruned_tree, pruned_member, is_kept_member};
 
 use crate::keywords::{is_set, keyword, member_schema};
