@@ -5,7 +5,7 @@ use Rattle.std.specs.Str.{bytes_eq}
 use Rattle.std.proofs.lemmas.Bool.{and_parts, and_from, and_right, or_parts, or_from, not-true, not-false, false_from_ne_true}
 use Rattle.std.proofs.lemmas.Option.{same_Some}
 use Rattle.schema.specs.declared.node.ScalarKind.{ScalarKind}
-use Rattle.schema.specs.declared.node.ScalarKind.TheVariants.{Boolean, Integer, String, IntOrString}
+use Rattle.schema.specs.declared.node.ScalarKind.TheVariants.{Boolean, Integer, Number, String, IntOrString}
 use Rattle.jtree.specs.Data.{Data, Items, no_items, item, Members, no_members, member, IsTree, AreTrees, AreMembers}
 use Rattle.jtree.specs.Data as tree
 use Rattle.jtree.specs.Path.{Step, name, index, Path, member_at, item_at, part_by}
@@ -78,6 +78,7 @@ null_is_no_scalar : (kind : ScalarKind) → accepts_scalar kind tree.null ≡ fa
 null_is_no_scalar Boolean = refl
 null_is_no_scalar Integer = refl
 null_is_no_scalar String = refl
+null_is_no_scalar Number = refl
 null_is_no_scalar IntOrString = refl
 
 -- of a scalar node: what does not fail where the branch holds
@@ -106,6 +107,7 @@ five_parts a b c d e h = cc
 scalar_branch : (kind : ScalarKind) (t : Constraints) (v : Data) → accepts_scalar kind v ≡ true → meets_branch v t ≡ meets_constraints t v
 scalar_branch Boolean t (tree.object ms) h = cc
 scalar_branch Integer t (tree.object ms) h = cc
+scalar_branch Number t (tree.object ms) h = cc
 scalar_branch String t (tree.object ms) h = cc
 scalar_branch IntOrString t (tree.object ms) h = cc
 scalar_branch kind t v h = refl

@@ -16,6 +16,7 @@ pub(crate) fn accepts_scalar(kind: ScalarKind, tree: &Tree) -> bool
     match (kind, tree) {
         (ScalarKind::Boolean, Tree::Bool(_)) => true,
         (ScalarKind::Integer | ScalarKind::IntOrString, Tree::Int(_)) => true,
+        (ScalarKind::Number, Tree::Int(_) | Tree::Number(_)) => true,
         (ScalarKind::String | ScalarKind::IntOrString, Tree::Text(_)) => true,
         _ => false,
     }

@@ -16,7 +16,7 @@ use Rattle.schema.specs.Nodes.ByPlace.{Declared, field_at, node_below}
 use Rattle.schema.specs.declared.node.Constraints.{Constraints}
 use Rattle.schema.specs.declared.node.ListType.TheVariants.{Atomic, Set, Map}
 use Rattle.schema.specs.declared.node.ScalarKind.{ScalarKind}
-use Rattle.schema.specs.declared.node.ScalarKind.TheVariants.{Boolean, Integer, String, IntOrString}
+use Rattle.schema.specs.declared.node.ScalarKind.TheVariants.{Boolean, Integer, Number, String, IntOrString}
 use Rattle.stored.specs.Objects.Becomes.{IsStored}
 use Rattle.stored.specs.Objects.Fault.{is_null, constraints_of, items_count, members_count}
 use Rattle.stored.specs.Objects.Parts.{at, part_of, part_by_path, leads}
@@ -242,6 +242,7 @@ no_object : (kind : ScalarKind) (ms : Members) → accepts_scalar kind (tree.obj
 no_object Boolean ms e = cc
 no_object Integer ms e = cc
 no_object String ms e = cc
+no_object Number ms e = cc
 no_object IntOrString ms e = cc
 
 scalar_meets : (kind : ScalarKind) (t : Constraints) (all any one negated : Branches) (v : Data) → accepts_scalar kind v ≡ true → holds (validations t all any one negated) v ≡ true → meets_constraints t v ≡ true
@@ -272,6 +273,7 @@ without_choices : (P : Pools) (nullable : Bool) (description : Option (List ℕ)
 without_choices P nullable description Boolean cs v none itself accepted = boolean_listed P v accepted
 without_choices P nullable description Integer cs v none itself accepted = absurd (let is : is_some {T = Items} None ≡ true = rw none at itself in cc)
 without_choices P nullable description String cs v none itself accepted = absurd (let is : is_some {T = Items} None ≡ true = rw none at itself in cc)
+without_choices P nullable description Number cs v none itself accepted = absurd (let is : is_some {T = Items} None ≡ true = rw none at itself in cc)
 without_choices P nullable description IntOrString cs v none itself accepted = absurd (let is : is_some {T = Items} None ≡ true = rw none at itself in cc)
 
 -- a value that is taken there is over the pools where there is no list

@@ -13,7 +13,7 @@ use Rattle.schema.specs.Nodes.Node.{Node, node, scalar, object, list, open_, Fie
 use Rattle.schema.specs.Nodes.Node as nodes
 use Rattle.schema.specs.Nodes.ByPlace.{Declared, field_at, node_at}
 use Rattle.schema.specs.declared.node.ScalarKind.{ScalarKind}
-use Rattle.schema.specs.declared.node.ScalarKind.TheVariants.{Boolean, Integer, String, IntOrString}
+use Rattle.schema.specs.declared.node.ScalarKind.TheVariants.{Boolean, Integer, Number, String, IntOrString}
 use Rattle.stored.specs.Objects.Becomes.{IsStored}
 use Rattle.stored.specs.Objects.Fault.{is_null}
 use Rattle.stored.specs.Objects.Tests.{accepts_scalar, holds}
@@ -187,6 +187,7 @@ no_null : (kind : ScalarKind) → accepts_scalar kind tree.null ≡ true → ⊥
 no_null Boolean e = cc
 no_null Integer e = cc
 no_null String e = cc
+no_null Number e = cc
 no_null IntOrString e = cc
 
 some_taken : (N : Node) (v : Data) → takes N v ≡ true → is_null v ≡ false

@@ -25,7 +25,7 @@ use Rattle.schema.specs.Nodes.Node.{Validations, validations, Branches, Node, no
 use Rattle.schema.specs.Nodes.ByPlace.{field_at, node_below, node_at}
 use Rattle.schema.specs.declared.node.Constraints.{Constraints}
 use Rattle.schema.specs.declared.node.ScalarKind.{ScalarKind}
-use Rattle.schema.specs.declared.node.ScalarKind.TheVariants.{Boolean, Integer, String, IntOrString}
+use Rattle.schema.specs.declared.node.ScalarKind.TheVariants.{Boolean, Integer, Number, String, IntOrString}
 use Rattle.stored.specs.Objects.Becomes.{IsStored}
 use Rattle.stored.specs.Objects.Tests.{accepts_scalar, is_same, is_below, is_above, is_below_minimum, is_above_maximum, meets_constraints, meets_branch, holds}
 use Rattle.explain.specs.Paths.FieldPath.{FieldPath, place_step, place_of}
@@ -327,12 +327,14 @@ same_integer : (k : ScalarKind) (z w : ℤ) → accepts_scalar k (tree.integer z
 same_integer Boolean z w = refl
 same_integer Integer z w = refl
 same_integer String z w = refl
+same_integer Number z w = refl
 same_integer IntOrString z w = refl
 
 same_text : (k : ScalarKind) (s t : List ℕ) → accepts_scalar k (tree.text s) ≡ accepts_scalar k (tree.text t)
 same_text Boolean s t = refl
 same_text Integer s t = refl
 same_text String s t = refl
+same_text Number s t = refl
 same_text IntOrString s t = refl
 
 -- ---- values that a scalar takes

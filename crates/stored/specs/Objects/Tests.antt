@@ -8,15 +8,17 @@ use Rattle.jtree.specs.Data as tree
 use Rattle.jtree.specs.Kind.{is_boolean, is_integer, is_text}
 use Rattle.jtree.specs.Order.{tree_cmp}
 use Rattle.jtree.specs.Path.{member_at}
+use Rattle.schema.specs.Document.Forms.{is_number}
 use Rattle.schema.specs.Nodes.Node.{Validations, validations, Branches, no_branches, branch}
 use Rattle.schema.specs.declared.node.Constraints.{Constraints}
 use Rattle.schema.specs.declared.node.ScalarKind.{ScalarKind}
-use Rattle.schema.specs.declared.node.ScalarKind.TheVariants.{Boolean, Integer, String, IntOrString}
+use Rattle.schema.specs.declared.node.ScalarKind.TheVariants.{Boolean, Integer, Number, String, IntOrString}
 
 -- the kinds of scalars
 abbrev pub accepts_scalar : ScalarKind → Data → Bool
 accepts_scalar Boolean v = is_boolean v
 accepts_scalar Integer v = is_integer v
+accepts_scalar Number v = is_number v
 accepts_scalar String v = is_text v
 accepts_scalar IntOrString v = is_integer v || is_text v
 
