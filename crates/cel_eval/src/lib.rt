@@ -29,6 +29,8 @@ mod unary;
 pub use answer::Answer;
 pub use env::Env;
 pub use evaluating::eval;
-pub use laws::{de_morgan, errors_are_absorbed, exists_is_dual, macros_expand};
+pub use laws::{
+    de_morgan, errors_are_absorbed, exists_is_dual, macros_expand, membership_is_exists,
+};
 pub use stop::{Fault, Reason, Stop};
 pub use truth::Truth;

@@ -1,2 +1,3 @@
 -- Lemmas.
 mod TextLemmas
+mod SameLemmas

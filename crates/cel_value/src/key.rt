@@ -1,7 +1,7 @@
 //! Keys of maps, and the values under them.
 ghost use Rattle.std.specs.Prelude.{◌≡◌, Some, None, option_map, MatchOption, IfOk};
 ghost use Rattle.cel_value.specs.Map.{key_of as spec_key_of, value_of_key};
-ghost use Rattle.cel_value.specs.Same.{same_key, value_at};
+ghost use Rattle.cel_value.specs.Same.{same_key, value_at, entries_count};
 ghost use Rattle.cel_value.specs.View.{key_of, borrowed_of, value_of};
 
 use crate::texts;
@@ -79,6 +79,13 @@ impl Key {
 }
 
 impl Entries {
+    /// How many entries there are.
+    pub fn count(&self) -> usize
+        ensures { result ≡ entries_count self.now }
+    {
+        self.entries.as_slice().len()
+    }
+
     /// The value of the first entry with the key, if there is one.
     pub fn get(&self, key: BorrowedKey<'_>) -> Option<&Value>
         ensures { MatchOption result (value_at (borrowed_of key.entry) self.now ≡ None) (λ v. value_at (borrowed_of key.entry) self.now ≡ Some (value_of v.now)) }

@@ -1,6 +1,6 @@
 //! Values that are equal.
-ghost use Rattle.std.specs.Prelude.{◌≡◌, ◌&&◌};
-ghost use Rattle.cel_value.specs.Same.{same, same_values, has_entries, is_there, value_at};
+ghost use Rattle.std.specs.Prelude.{◌≡◌, ◌&&◌, nat_eq};
+ghost use Rattle.cel_value.specs.Same.{same, same_values, has_entries, is_there, value_at, entries_count};
 ghost use Rattle.cel_value.specs.View.{key_of, value_of, values_of, entries_of};
 
 use crate::texts;
@@ -18,9 +18,7 @@ impl Value {
             (Value::Int(a), Value::Int(b)) => a == b,
             (Value::String(a), Value::String(b)) => texts::is_same(a, b),
             (Value::List(a), Value::List(b)) => are_same(&a.values, &b.values),
-            (Value::Map(a), Value::Map(b)) => {
-                a.entries.len() == b.entries.len() && are_in(&a.entries, b)
-            }
+            (Value::Map(a), Value::Map(b)) => are_same_maps(a, b),
             _ => false,
         }
     }
@@ -40,6 +38,14 @@ fn are_same(left: &[Value], right: &[Value]) -> bool
         }
     }
     true
+}
+
+/// Whether the maps have the same number of entries, and those of the first are in the second.
+#[cycle(same)]
+fn are_same_maps(left: &Entries, right: &Entries) -> bool
+    ensures { result ≡ (nat_eq (entries_count left.now) (entries_count right.now) && has_entries left.now right.now) }
+{
+    left.count() == right.count() && are_in(&left.entries, right)
 }
 
 /// Whether each of the entries is one of the map.
