@@ -1,7 +1,8 @@
 -- Operators on values. Common Expression Language specification, "List of Standard Definitions" (langdef.md). An operator that is not defined for
 -- the types of its operands gives `NoOverload`.
 use Rattle.std.specs.Prelude.{ℕ, zero, suc, ℤ, pos, negsuc, ◌+ℤ◌, ◌-ℤ◌, ◌*ℤ◌, neg_ℤ, int_div, int_rem, Result, Ok, Err, Option, Some, None, List, [], ◌∷◌, ◌++◌, Bool, true, false, not, ◌||◌, nat_eq}
-use Rattle.std.specs.Ordering.{is_lt, is_le, int_cmp, nat_cmp, bool_cmp, slice_cmp}
+use Rattle.std.specs.Ordering.{is_lt, is_le, int_cmp, nat_cmp, bool_cmp}
+use Rattle.std.specs.Cmp.Lexicographic.{slice_cmp}
 use Rattle.std.specs.Option.{is_some}
 use Rattle.std.specs.declared.cmp.Ordering.{Ordering}
 use Rattle.cel_ast.specs.Syntax.{Text}

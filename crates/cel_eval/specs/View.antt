@@ -14,4 +14,4 @@ outcome_of (answer.Stopped s) = stopped s
 
 abbrev pub bindings_of : Env → Bindings
 bindings_of env.Empty = []
-bindings_of (env.Bound x v p rest) = (x.now, value_of v.now) ∷ bindings_of rest
+bindings_of (env.Bound' x v p rest) = (x.now, value_of v.now) ∷ bindings_of rest

@@ -1,6 +1,7 @@
 //! `<` and `<=`.
 ghost use Rattle.std.specs.Prelude.{◌≡◌, chars, string_bytes};
-ghost use Rattle.std.specs.Ordering.{is_lt, is_le, nat_cmp, slice_cmp};
+ghost use Rattle.std.specs.Ordering.{is_lt, is_le, nat_cmp};
+ghost use Rattle.std.specs.Cmp.Lexicographic.{slice_cmp};
 ghost use Rattle.cel_value.specs.View.{value_of};
 ghost use Rattle.cel_eval.specs.Operators.{order_of as spec_order_of, compared};
 ghost use Rattle.cel_eval.specs.View.{outcome_of};
