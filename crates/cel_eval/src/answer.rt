@@ -23,7 +23,7 @@ pub enum Answer<'a> {
 
 impl Answer<'_> {
     /// The value, or why there is none.
-    pub fn value(&self) -> Result<&Value, Stop>
+    pub(crate) fn value(&self) -> Result<&Value, Stop>
         ensures { MatchResult result (λ v. outcome_of self.now ≡ value (value_of v.now)) (λ s. outcome_of self.now ≡ stopped s) }
     {
         match self {
@@ -34,7 +34,7 @@ impl Answer<'_> {
     }
 
     /// What it is as a truth value.
-    pub fn truth(&self) -> Truth
+    pub(crate) fn truth(&self) -> Truth
         ensures { result ≡ truth (outcome_of self.now) }
     {
         match self.value() {
@@ -44,7 +44,7 @@ impl Answer<'_> {
     }
 
     /// The value, which is copied where it is lent, or why there is none. `AllocError` where an allocation fails.
-    pub fn into_value(self, alloc: Global) -> Result<Result<Value, Stop>, AllocError>
+    pub(crate) fn into_value(self, alloc: Global) -> Result<Result<Value, Stop>, AllocError>
         ensures { IfOk result (λ r. MatchResult r (λ v. outcome_of self.entry ≡ value (value_of v)) (λ s. outcome_of self.entry ≡ stopped s)) }
     {
         match self {

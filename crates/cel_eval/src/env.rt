@@ -17,7 +17,7 @@ pub enum Env<'a> {
 
 impl<'a> Env<'a> {
     /// The value of the name, lent. It is not judged where nothing is bound to it.
-    pub fn find(&self, name: &Text) -> Answer<'a>
+    pub(crate) fn find(&self, name: &Text) -> Answer<'a>
         ensures { outcome_of result ≡ bound name.now (bindings_of self.now) }
     {
         match self {

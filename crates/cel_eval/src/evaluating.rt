@@ -8,7 +8,7 @@ ghost use Rattle.cel_eval.specs.Internal.Views.{key_found, pair_found};
 ghost use Rattle.cel_eval.specs.View.{outcome_of, bindings_of};
 
 use crate::access::{field, presence};
-use crate::answer::{Answer, failed, not_judged};
+use crate::answer::{Answer, not_judged};
 use crate::apply::apply_binary;
 use crate::env::Env;
 use crate::making::{constant, key_from, list_of, map_of};

@@ -33,4 +33,3 @@ pub use laws::{
     de_morgan, errors_are_absorbed, exists_is_dual, macros_expand, membership_is_exists,
 };
 pub use stop::{Fault, Reason, Stop};
-pub use truth::Truth;

@@ -10,7 +10,7 @@ use cel_value::Value;
 
 /// True, false, or neither.
 #[derive(Clone, Copy)]
-pub enum Truth {
+pub(crate) enum Truth {
     Yes,
     No,
     Neither(Stop),
@@ -18,7 +18,7 @@ pub enum Truth {
 
 impl Truth {
     /// What a value is: `NoOverload` where it is no boolean.
-    pub fn of(value: &Value) -> Truth
+    pub(crate) fn of(value: &Value) -> Truth
         ensures { result ≡ truth_of (value_of value.now) }
     {
         match value {
@@ -29,7 +29,7 @@ impl Truth {
     }
 
     /// `self && other`: false where one of them is, and true where both are. Else the first stop that is not judged, or the first error.
-    pub fn and(self, other: Truth) -> Truth
+    pub(crate) fn and(self, other: Truth) -> Truth
         ensures { result ≡ both self other }
     {
         match self {
@@ -44,7 +44,7 @@ impl Truth {
     }
 
     /// `self || other`: true where one of them is, and false where both are. Else the first stop that is not judged, or the first error.
-    pub fn or(self, other: Truth) -> Truth
+    pub(crate) fn or(self, other: Truth) -> Truth
         ensures { result ≡ either self other }
     {
         match self {
@@ -59,7 +59,7 @@ impl Truth {
     }
 
     /// `!self`
-    pub fn not(self) -> Truth
+    pub(crate) fn not(self) -> Truth
         ensures { result ≡ opposite self }
     {
         match self {
@@ -70,7 +70,7 @@ impl Truth {
     }
 
     /// What it is as an answer.
-    pub fn answer<'a>(self) -> Answer<'a>
+    pub(crate) fn answer<'a>(self) -> Answer<'a>
         ensures { outcome_of result ≡ outcome self }
     {
         match self {
