@@ -9,7 +9,7 @@ use Rattle.cel_eval.specs.declared.truth.Truth.TheVariants.{Yes, No, Neither}
 use Rattle.cel_eval.specs.Outcome.{Outcome, value}
 use Rattle.cel_eval.specs.Truth.{both, either, truth}
 use Rattle.cel_eval.specs.Operators.{joined}
-use Rattle.cel_eval.specs.Ranges.{all_of, any_of, count_of, counted, mapped, mapped_where, put_where, put}
+use Rattle.cel_eval.specs.Ranges.{all_of, any_of, count_of, counted, mapped, filtered, kept, put}
 use Rattle.cel_eval.proofs.ListLemmas.{joined_more, joined_none, values_left}
 use Rattle.cel_eval.proofs.TruthLemmas.{both_assoc, either_assoc}
 
@@ -51,28 +51,25 @@ any_step body found t next o whole xs i x h p n e f w =
     ∙ either_assoc found (truth (body (value_of x))) (any_of body (values_of (drop (i + 1) xs)))
     ∙ ap (λ vs. either found (any_of body vs)) (sym (values_left xs i x h p)) ∙ w
 
--- an item where the test is true, with what its target made
-pub keep_step : (test target : Value → Outcome) (made : List Held) (t : Truth) (o q : Outcome) (y : Held) (whole : Result Values Stop) (xs : List Held) (i : ℕ) (x : Held)
-    → i < length xs → x ≡ get_or xs i x → t ≡ truth o → o ≡ test (value_of x) → t ≡ Yes → q ≡ value (value_of y) → q ≡ target (value_of x)
-    → ahead (values_of made) (mapped_where test target (values_of (drop i xs))) ≡ whole
-    → ahead (values_of (made ++ y ∷ [])) (mapped_where test target (values_of (drop (i + 1) xs))) ≡ whole
-keep_step test target made t o q y whole xs i x h p e f yes is by w =
-    let rest = mapped_where test target (values_of (drop (i + 1) xs)) in
-    let true_there : truth (test (value_of x)) ≡ Yes = ap truth (sym f) ∙ sym e ∙ yes in
-    sym (ahead_put made y rest) ∙ ap (λ u. ahead (values_of made) (put u rest)) (sym is ∙ by)
-    ∙ ap (λ u. ahead (values_of made) (put_where u (target (value_of x)) rest)) (sym true_there)
-    ∙ ap (λ vs. ahead (values_of made) (mapped_where test target vs)) (sym (values_left xs i x h p)) ∙ w
+-- an item that is kept
+pub keep_step : (body : Value → Outcome) (made : List Held) (t : Truth) (o : Outcome) (whole : Result Values Stop) (xs : List Held) (i : ℕ) (x : Held) → i < length xs → x ≡ get_or xs i x
+    → t ≡ truth o → o ≡ body (value_of x) → t ≡ Yes → ahead (values_of made) (filtered body (values_of (drop i xs))) ≡ whole
+    → ahead (values_of (made ++ x ∷ [])) (filtered body (values_of (drop (i + 1) xs))) ≡ whole
+keep_step body made t o whole xs i x h p e f y w =
+    let rest = filtered body (values_of (drop (i + 1) xs)) in
+    let holds : truth (body (value_of x)) ≡ Yes = ap truth (sym f) ∙ sym e ∙ y in
+    sym (ahead_put made x rest) ∙ ap (λ u. ahead (values_of made) (kept u (value_of x) rest)) (sym holds)
+    ∙ ap (λ vs. ahead (values_of made) (filtered body vs)) (sym (values_left xs i x h p)) ∙ w
 
--- an item where it is false
-pub skip_step : (test target : Value → Outcome) (made : List Held) (t : Truth) (o : Outcome) (whole : Result Values Stop) (xs : List Held) (i : ℕ) (x : Held)
-    → i < length xs → x ≡ get_or xs i x → t ≡ truth o → o ≡ test (value_of x) → t ≡ No
-    → ahead (values_of made) (mapped_where test target (values_of (drop i xs))) ≡ whole
-    → ahead (values_of made) (mapped_where test target (values_of (drop (i + 1) xs))) ≡ whole
-skip_step test target made t o whole xs i x h p e f no w =
-    let rest = mapped_where test target (values_of (drop (i + 1) xs)) in
-    let false_there : truth (test (value_of x)) ≡ No = ap truth (sym f) ∙ sym e ∙ no in
-    ap (λ u. ahead (values_of made) (put_where u (target (value_of x)) rest)) (sym false_there)
-    ∙ ap (λ vs. ahead (values_of made) (mapped_where test target vs)) (sym (values_left xs i x h p)) ∙ w
+-- an item that is left out
+pub skip_step : (body : Value → Outcome) (made : List Held) (t : Truth) (o : Outcome) (whole : Result Values Stop) (xs : List Held) (i : ℕ) (x : Held) → i < length xs → x ≡ get_or xs i x
+    → t ≡ truth o → o ≡ body (value_of x) → t ≡ No → ahead (values_of made) (filtered body (values_of (drop i xs))) ≡ whole
+    → ahead (values_of made) (filtered body (values_of (drop (i + 1) xs))) ≡ whole
+skip_step body made t o whole xs i x h p e f y w =
+    let rest = filtered body (values_of (drop (i + 1) xs)) in
+    let fails : truth (body (value_of x)) ≡ No = ap truth (sym f) ∙ sym e ∙ y in
+    ap (λ u. ahead (values_of made) (kept u (value_of x) rest)) (sym fails)
+    ∙ ap (λ vs. ahead (values_of made) (filtered body vs)) (sym (values_left xs i x h p)) ∙ w
 
 -- the body's value
 pub map_step : (body : Value → Outcome) (made : List Held) (o : Outcome) (y : Held) (whole : Result Values Stop) (xs : List Held) (i : ℕ) (x : Held) → i < length xs → x ≡ get_or xs i x

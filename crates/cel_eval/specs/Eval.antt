@@ -3,6 +3,7 @@
 -- bytes.
 use Rattle.std.specs.Prelude.{◌∷◌, Result, Ok, Err}
 use Rattle.cel_ast.specs.Syntax.{Syntax, literal, name, select, optional_select, present, call, method, list, map, message, unary, binary, choice, macro, map_where, Parts, Elements, no_elements, element, Entries, no_entries, entry, Key, key, field}
+use Rattle.cel_ast.specs.declared.operators.Macro.TheVariants.{Filter, Map}
 use Rattle.cel_value.specs.Data as data_
 use Rattle.cel_value.specs.Data.{Value, Values, no_values}
 use Rattle.cel_eval.specs.declared.stop.Stop.{Stop}
@@ -10,7 +11,7 @@ use Rattle.cel_eval.specs.declared.stop.Stop.TheVariants.{NotJudged}
 use Rattle.cel_eval.specs.declared.stop.Reason.TheVariants.{Function, Message, Optional}
 use Rattle.cel_eval.specs.Outcome.{Outcome, not_judged, bind, bound, Bindings}
 use Rattle.cel_eval.specs.Operators as op
-use Rattle.cel_eval.specs.Ranges.{put, listed, over, over_range, mapped_where}
+use Rattle.cel_eval.specs.Ranges.{put, listed, over, over_range}
 use Rattle.cel_eval.specs.Making.{constant_value, as_key, pair_of, put_entry, required, made_map}
 
 abbrev mutual
@@ -29,8 +30,9 @@ abbrev mutual
   eval (binary o a b) bs = op.binary_of o (eval a bs) (eval b bs)
   eval (choice c a b) bs = op.chosen (eval c bs) (eval a bs) (eval b bs)
   eval (macro m e x body) bs = bind (eval e bs) (over_range (over m (λ v. eval body ((x, v) ∷ bs))))
+  -- `e.map(x, p, t)` is `e.filter(x, p).map(x, t)`
   eval (map_where e x p t) bs =
-      bind (eval e bs) (over_range (λ vs. listed (mapped_where (λ v. eval p ((x, v) ∷ bs)) (λ v. eval t ((x, v) ∷ bs)) vs)))
+      bind (bind (eval e bs) (over_range (over Filter (λ v. eval p ((x, v) ∷ bs))))) (over_range (over Map (λ v. eval t ((x, v) ∷ bs))))
 
   -- the elements of a list; the first stop is the answer
   pub eval_elements : Elements → Bindings → Result Values Stop

@@ -49,20 +49,16 @@ put (value v) (Ok vs) = Ok (item v vs)
 put (value v) (Err s) = Err s
 put (stopped s) vs = Err s
 
--- the value in front, where the truth value is true
-abbrev pub put_where : Truth → Outcome → Result Values Stop → Result Values Stop
-put_where Yes o vs = put o vs
-put_where No o vs = vs
-put_where (Neither s) o vs = Err s
-
--- `map` with a test: the target at each item where the test is true; the first stop is the answer
-abbrev pub mapped_where : (Value → Outcome) → (Value → Outcome) → Values → Result Values Stop
-mapped_where test target no_values = Ok no_values
-mapped_where test target (item v vs) = put_where (truth (test v)) (target v) (mapped_where test target vs)
+-- an item in front, where the truth value is true
+abbrev pub kept : Truth → Value → Result Values Stop → Result Values Stop
+kept Yes v vs = put (value v) vs
+kept No v vs = vs
+kept (Neither s) v vs = Err s
 
 -- `filter`: the items where the body is true; the first stop is the answer
 abbrev pub filtered : (Value → Outcome) → Values → Result Values Stop
-filtered body vs = mapped_where body value vs
+filtered body no_values = Ok no_values
+filtered body (item v vs) = kept (truth (body v)) v (filtered body vs)
 
 -- `map`: the body at each item; the first stop is the answer
 abbrev pub mapped : (Value → Outcome) → Values → Result Values Stop

@@ -12,11 +12,11 @@ use crate::answer::{Answer, not_judged};
 use crate::apply::apply_binary;
 use crate::env::Env;
 use crate::making::{constant, key_from, list_of, map_of};
-use crate::ranges::{eval_range, eval_where};
+use crate::ranges::eval_macro;
 use crate::stop::{Reason, Stop};
 use crate::truth::Truth;
 use crate::unary::apply_unary;
-use cel_ast::{Binary, Elements, Entries, Entry, Expr, Key, Part};
+use cel_ast::{Binary, Elements, Entries, Entry, Expr, Key, Macro, Part};
 use cel_value::{Entries as ValueEntries, Entry as ValueEntry, Key as ValueKey, Values};
 use std::alloc::{AllocError, Global};
 
@@ -61,17 +61,12 @@ pub fn eval<'a>(alloc: Global, expr: &Expr, env: &Env<'a>) -> Result<Answer<'a>,
         },
         Expr::Macro(kind, range, name, body) => {
             let range = eval_part(alloc, range, env)?;
-            match range.value() {
-                Ok(value) => eval_range(alloc, *kind, &*body, &*name, value, &*env),
-                Err(stop) => Ok(Answer::Stopped(stop)),
-            }
+            eval_macro(alloc, *kind, &*body, &*name, &range, &*env)
         }
         Expr::MapWhere(range, name, test, target) => {
             let range = eval_part(alloc, range, env)?;
-            match range.value() {
-                Ok(value) => eval_where(alloc, &*test, &*target, &*name, value, &*env),
-                Err(stop) => Ok(Answer::Stopped(stop)),
-            }
+            let kept = eval_macro(alloc, Macro::Filter, &*test, &*name, &range, &*env)?;
+            eval_macro(alloc, Macro::Map, &*target, &*name, &kept, &*env)
         }
     }
 }

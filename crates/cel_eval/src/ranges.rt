@@ -1,7 +1,8 @@
 //! Macros.
 ghost use Rattle.std.specs.Prelude.{◌≡◌, ◌∷◌, IfOk};
 ghost use Rattle.cel_value.specs.View.{value_of};
-ghost use Rattle.cel_eval.specs.Ranges.{listed, all_of, any_of, count_of, filtered, mapped, mapped_where, over, over_range};
+ghost use Rattle.cel_eval.specs.Outcome.{bind};
+ghost use Rattle.cel_eval.specs.Ranges.{all_of, any_of, count_of, filtered, mapped, over, over_range};
 ghost use Rattle.cel_eval.specs.Eval.{eval as eval_of};
 ghost use Rattle.cel_eval.specs.View.{outcome_of, bindings_of};
 
@@ -15,9 +16,27 @@ use cel_ast::{Macro, Part, Text};
 use cel_value::{Value, Values};
 use std::alloc::{AllocError, Global};
 
+/// A macro over what an expression gave.
+#[cycle(eval)]
+pub(crate) fn eval_macro<'a, 'b>(
+    alloc: Global,
+    kind: Macro,
+    body: &'b Part,
+    name: &'b Text,
+    range: &'b Answer<'b>,
+    env: &'b Env<'b>,
+) -> Result<Answer<'a>, AllocError>
+    ensures { IfOk result (λ a. outcome_of a ≡ bind (outcome_of range.now) (over_range (over kind (λ v. eval_of body.now ((name.now, v) ∷ bindings_of env.now))))) }
+{
+    match range.value() {
+        Ok(value) => eval_range(alloc, kind, &*body, &*name, value, &*env),
+        Err(stop) => Ok(Answer::Stopped(stop)),
+    }
+}
+
 /// A macro over a value: over the items of a list, or the keys of a map.
 #[cycle(eval)]
-pub(crate) fn eval_range<'a, 'b>(
+fn eval_range<'a, 'b>(
     alloc: Global,
     kind: Macro,
     body: &'b Part,
@@ -32,28 +51,6 @@ pub(crate) fn eval_range<'a, 'b>(
         Value::Map(entries) => {
             let keys = keys_of(alloc, entries)?;
             eval_over(alloc, kind, &*body, &*name, &keys, &*env)
-        }
-        _ => Ok(failed(Fault::NoOverload)),
-    }
-}
-
-/// `map` with a test, over a value.
-#[cycle(eval)]
-pub(crate) fn eval_where<'a, 'b>(
-    alloc: Global,
-    test: &'b Part,
-    target: &'b Part,
-    name: &'b Text,
-    range: &'b Value,
-    env: &'b Env<'b>,
-) -> Result<Answer<'a>, AllocError>
-    ensures { IfOk result (λ a. outcome_of a ≡ over_range (λ vs. listed (mapped_where (λ v. eval_of test.now ((name.now, v) ∷ bindings_of env.now)) (λ v. eval_of target.now ((name.now, v) ∷ bindings_of env.now)) vs)) (value_of range.now)) }
-{
-    match range {
-        Value::List(values) => Ok(list_of(eval_map_where(alloc, &*test, &*target, &*name, &*values, &*env)?)),
-        Value::Map(entries) => {
-            let keys = keys_of(alloc, entries)?;
-            Ok(list_of(eval_map_where(alloc, &*test, &*target, &*name, &keys, &*env)?))
         }
         _ => Ok(failed(Fault::NoOverload)),
     }
@@ -185,34 +182,6 @@ fn eval_map<'b>(
         match eval_part(alloc, &*body, &Env::Bound(&*name, &*item, &*env))?.into_value(alloc)? {
             Ok(value) => made.push(value)?,
             Err(stop) => return Ok(Err(stop)),
-        }
-    }
-    Ok(Ok(Values { values: made }))
-}
-
-/// The target at each item where the test is true.
-#[cycle(eval)]
-fn eval_map_where<'b>(
-    alloc: Global,
-    test: &'b Part,
-    target: &'b Part,
-    name: &'b Text,
-    values: &'b Values,
-    env: &'b Env<'b>,
-) -> Result<Result<Values, Stop>, AllocError>
-    ensures { IfOk result (λ vs. vs ≡ mapped_where (λ v. eval_of test.now ((name.now, v) ∷ bindings_of env.now)) (λ v. eval_of target.now ((name.now, v) ∷ bindings_of env.now)) values.now) }
-{
-    let mut made = Vec::new(alloc);
-    for item in &values.values {
-        match eval_part(alloc, &*test, &Env::Bound(&*name, &*item, &*env))?.truth() {
-            Truth::Yes => {
-                match eval_part(alloc, &*target, &Env::Bound(&*name, &*item, &*env))?.into_value(alloc)? {
-                    Ok(value) => made.push(value)?,
-                    Err(stop) => return Ok(Err(stop)),
-                }
-            }
-            Truth::No => {}
-            Truth::Neither(stop) => return Ok(Err(stop)),
         }
     }
     Ok(Ok(Values { values: made }))

@@ -3,14 +3,15 @@ use Rattle.std.proofs.lemmas.Grind.{common_steps}
 use Rattle.cel_ast.specs.View as ast
 use Rattle.cel_value.specs.Data.{Value}
 use Rattle.cel_value.specs.View.{value_of, values_of, entries_of}
-use Rattle.cel_eval.specs.Outcome.{value, bind}
+use Rattle.cel_eval.specs.Outcome.{bind}
 use Rattle.cel_eval.specs.Operators.{strict_of}
-use Rattle.cel_eval.specs.Ranges.{filtered, mapped, mapped_where, over, over_range}
+use Rattle.cel_eval.specs.Ranges.{filtered, mapped, over, over_range}
 use Rattle.cel_eval.specs.Eval.{eval, eval_elements, eval_entries}
 use Rattle.cel_eval.specs.View.{outcome_of, bindings_of}
 use Rattle.cel_eval.proofs.OperatorLemmas.{binary_strict, answered}
 use Rattle.cel_eval.proofs.RangeLemmas.{all_step, any_step, keep_step, skip_step, map_step, ahead_none}
 use Rattle.cel_eval.proofs.MakingLemmas.{element_step, entry_step, entries_end}
+use Rattle.cel_eval.proofs.+eval.Goals.{ranges::eval_filter-in-Yes+in_ok-copy-in-Yes+in_ok-push-in-Yes, ranges::eval_filter-in-No}
 use Rattle.cel_eval.proofs.+eval.Goals as goal
 
 pub ranges::eval_all-loop-item-preserved : goal.ranges::eval_all-loop-item-preserved
@@ -69,4 +70,39 @@ pub ranges::eval_filter-returns : goal.ranges::eval_filter-returns
 ranges::eval_filter-returns t c =
     let body = λ (v : Value). eval c.args.body.now ((c.args.name.now, v) ∷ bindings_of c.args.env.now) in
     let over : drop c.loop-item.item-index c.deref-item-items.result.now ≡ [] = grind (arith, common_steps) in
-    ahead_none c.loop-item.made.items _ _ (ap (λ z. mapped_where body value (values_of z)) over) c.loop-item.invariant
+    ahead_none c.loop-item.made.items _ _ (ap (λ z. filtered body (values_of z)) over) c.loop-item.invariant
+
+pub ranges::eval_macro-returns-in-Ok : goal.ranges::eval_macro-returns-in-Ok
+ranges::eval_macro-returns-in-Ok t c =
+    let body = λ (v : Value). eval c.args.body.now ((c.args.name.now, v) ∷ bindings_of c.args.env.now) in
+    answered c.eval_range.result _ _ (ap (λ o. bind o (over_range (over c.args.kind body))) (sym c.in-Ok.ensures)) c.eval_range.ensures
+
+pub evaluating::eval_entries-loop-entry-preserved : goal.evaluating::eval_entries-loop-entry-preserved
+evaluating::eval_entries-loop-entry-preserved t c =
+    let bs = bindings_of c.args.env.now in
+    let same = rw c.in-Ok.is at c.in_ok-pair.ensures in
+    let step = entry_step bs c.loop-entry.made.items c.in-Ok.pair _ c.deref-entry-items.result.now c.loop-entry.entry-index c.entry-item.result
+    (omega arith) c.entry-item.is same c.loop-entry.invariant in
+    rw c.in_ok-push-in-Ok.ensures.items step
+
+pub evaluating::eval_entries-returns : goal.evaluating::eval_entries-returns
+evaluating::eval_entries-returns t c =
+    let bs = bindings_of c.args.env.now in
+    let over : drop c.loop-entry.entry-index c.deref-entry-items.result.now ≡ [] = grind (arith, common_steps) in
+    entries_end c.loop-entry.made.items _ _ (ap (λ z. eval_entries (ast.entries_of z) bs) over) c.loop-entry.invariant
+
+pub ranges::eval_filter-loop-item-preserved : goal.ranges::eval_filter-loop-item-preserved
+ranges::eval_filter-loop-item-preserved t c =
+    let body = λ (v : Value). eval c.args.body.now ((c.args.name.now, v) ∷ bindings_of c.args.env.now) in
+    let xs = c.deref-item-items.result.now in
+    let made = c.loop-item.made.items in
+    let x = c.item-item.result in
+    elim c.match-truth.branch [
+      | ranges::eval_filter-in-Yes+in_ok-copy-in-Yes+in_ok-push-in-Yes w ↦
+          (let pushed = w.in_ok-push-in-Yes.ensures.items ∙ ap (λ y. made ++ y ∷ []) w.in_ok-copy-in-Yes.ensures in
+          let step = keep_step body made c.truth.result _ _ xs c.loop-item.item-index x (omega arith) c.item-item.is c.truth.ensures c.in_ok-eval_part.ensures w.in-Yes.is c.loop-item.invariant in
+          rw w.made-is (rw pushed step))
+      | ranges::eval_filter-in-No w ↦
+          (let step = skip_step body made c.truth.result _ _ xs c.loop-item.item-index x (omega arith) c.item-item.is c.truth.ensures c.in_ok-eval_part.ensures w.in-No.is c.loop-item.invariant in
+          rw w.made-is step)
+    ]

@@ -2,9 +2,8 @@ use Rattle.std.proofs.Common.{◌≡◌, ◌≤◌, ◌∷◌, drop}
 use Rattle.cel_ast.specs.View as ast
 use Rattle.cel_value.specs.Data.{Value}
 use Rattle.cel_value.specs.View.{values_of, entries_of}
-use Rattle.cel_eval.specs.Outcome.{value}
 use Rattle.cel_eval.specs.Truth.{both, either}
-use Rattle.cel_eval.specs.Ranges.{all_of, any_of, count_of, filtered, mapped, mapped_where}
+use Rattle.cel_eval.specs.Ranges.{all_of, any_of, count_of, filtered, mapped}
 use Rattle.cel_eval.specs.Eval.{eval, eval_elements, eval_entries}
 use Rattle.cel_eval.specs.View.{bindings_of}
 use Rattle.cel_eval.proofs.RangeLemmas.{plus, ahead}
@@ -29,18 +28,12 @@ invariant-ranges::eval_count-loop-item l =
 abbrev pub invariant-ranges::eval_filter-loop-item : goal.invariant-ranges::eval_filter-loop-item
 invariant-ranges::eval_filter-loop-item l =
     let body = λ (v : Value). eval l.body ((l.name, v) ∷ bindings_of l.env) in
-    ahead (values_of l.made.items) (mapped_where body value (values_of (drop l.item-index l.item-items))) ≡ mapped_where body value l.values
+    ahead (values_of l.made.items) (filtered body (values_of (drop l.item-index l.item-items))) ≡ filtered body l.values
 
 abbrev pub invariant-ranges::eval_map-loop-item : goal.invariant-ranges::eval_map-loop-item
 invariant-ranges::eval_map-loop-item l =
     let body = λ (v : Value). eval l.body ((l.name, v) ∷ bindings_of l.env) in
     ahead (values_of l.made.items) (mapped body (values_of (drop l.item-index l.item-items))) ≡ mapped body l.values
-
-abbrev pub invariant-ranges::eval_map_where-loop-item : goal.invariant-ranges::eval_map_where-loop-item
-invariant-ranges::eval_map_where-loop-item l =
-    let test = λ (v : Value). eval l.test ((l.name, v) ∷ bindings_of l.env) in
-    let target = λ (v : Value). eval l.target ((l.name, v) ∷ bindings_of l.env) in
-    ahead (values_of l.made.items) (mapped_where test target (values_of (drop l.item-index l.item-items))) ≡ mapped_where test target l.values
 
 abbrev pub invariant-evaluating::eval_elements-loop-element : goal.invariant-evaluating::eval_elements-loop-element
 invariant-evaluating::eval_elements-loop-element l =

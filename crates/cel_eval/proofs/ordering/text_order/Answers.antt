@@ -12,8 +12,8 @@ returns c =
     let a = string_bytes c.a.inside.text in
     let b = string_bytes c.b.inside.text in
     let is : c.cmp.result ≡ slice_cmp nat_cmp (chars a) (chars b) =
-    cmp_from_yields_List _ _ nat_cmp c.cmp.result c.cmp.ensures.ran
+    cmp_from_yields_List (λ x y. y ≡ x) _ nat_cmp _ c.cmp.ensures.ran
     (YieldsList-from_chars a (IsUtf8-string_bytes c.a.inside.text) (c.chars.ensures.rest ∙ c.deref.ensures))
-    (λ it g. YieldsList-from_chars b (IsUtf8-string_bytes c.b.inside.text) (ap chars_rest g ∙ c.chars-2.ensures.rest ∙ c.deref-2.ensures))
+    (λ it e. YieldsList-from_chars b (IsUtf8-string_bytes c.b.inside.text) (ap chars_rest e ∙ c.chars-2.ensures.rest ∙ c.deref-2.ensures))
     (λ x y. refl) in
     is ∙ ap (λ t. slice_cmp nat_cmp t (chars b)) c.a.view_is ∙ ap (slice_cmp nat_cmp c.args.a.now) c.b.view_is
