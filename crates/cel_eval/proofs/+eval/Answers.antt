@@ -1,6 +1,7 @@
 use Rattle.std.proofs.Common.{◌≡◌, ◌∷◌, ◌++◌, [], drop, sym, ap, ◌∙◌, arith}
 use Rattle.std.proofs.lemmas.Grind.{common_steps}
 use Rattle.cel_ast.specs.View as ast
+use Rattle.cel_ast.specs.declared.operators.Macro.TheVariants.{Filter, Map}
 use Rattle.cel_value.specs.Data.{Value}
 use Rattle.cel_value.specs.View.{value_of, values_of, entries_of}
 use Rattle.cel_eval.specs.Outcome.{bind}
@@ -106,3 +107,19 @@ ranges::eval_filter-loop-item-preserved t c =
           (let step = skip_step body made c.truth.result _ _ xs c.loop-item.item-index x (omega arith) c.item-item.is c.truth.ensures c.in_ok-eval_part.ensures w.in-No.is c.loop-item.invariant in
           rw w.made-is step)
     ]
+
+pub evaluating::eval-returns-in-Macro : goal.evaluating::eval-returns-in-Macro
+evaluating::eval-returns-in-Macro t c =
+    let bs = bindings_of c.args.env.now in
+    let m = c.in-Macro in
+    let whole = ap (λ o. bind o (over_range (over m.kind (λ v. eval m.body ((m.name, v) ∷ bs))))) c.in_ok-range-in-Macro.ensures
+    ∙ ap (λ e. eval (ast.syntax_of e) bs) (sym m.is) in
+    answered c.eval_macro.result _ _ whole c.eval_macro.ensures
+
+pub evaluating::eval-returns : goal.evaluating::eval-returns
+evaluating::eval-returns t c =
+    let bs = bindings_of c.args.env.now in
+    let m = c.in-MapWhere in
+    let kept = c.in_ok-kept-in-MapWhere.ensures ∙ ap (λ o. bind o (over_range (over Filter (λ v. eval m.test ((m.name, v) ∷ bs))))) c.in_ok-range-in-MapWhere.ensures in
+    let whole = ap (λ o. bind o (over_range (over Map (λ v. eval m.target ((m.name, v) ∷ bs))))) kept ∙ ap (λ e. eval (ast.syntax_of e) bs) (sym m.is) in
+    answered c.eval_macro-in-MapWhere-2.result _ _ whole c.eval_macro-in-MapWhere-2.ensures
