@@ -13,16 +13,14 @@ use cel_value::{Value, Values};
 use std::alloc::{AllocError, Global};
 
 /// `left + right`
-pub(crate) fn sum<'a>(
-    alloc: Global,
-    left: &Value,
-    right: &Value,
-) -> Result<Answer<'a>, AllocError>
+pub(crate) fn sum<'a>(alloc: Global, left: &Value, right: &Value) -> Result<Answer<'a>, AllocError>
     ensures { IfOk result (λ a. outcome_of a ≡ sum_of (value_of left.now) (value_of right.now)) }
 {
     match (left, right) {
         (Value::Int(a), Value::Int(b)) => Ok(added(*a, *b)),
-        (Value::String(a), Value::String(b)) => Ok(Answer::Made(Value::String(text_sum(alloc, a, b)?))),
+        (Value::String(a), Value::String(b)) => Ok(Answer::Made(Value::String(text_sum(
+            alloc, a, b,
+        )?))),
         (Value::List(a), Value::List(b)) => Ok(Answer::Made(Value::List(joined(alloc, a, b)?))),
         _ => Ok(failed(Fault::NoOverload)),
     }

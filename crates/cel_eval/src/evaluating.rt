@@ -148,7 +148,9 @@ fn eval_entry<'a>(
     ensures { IfOk result (λ r. pair_found r ≡ pair_of (key_is (syntax_key_of entry.now.key) (bindings_of env.now)) (required entry.now.optional (eval_of entry.now.value (bindings_of env.now)))) }
 {
     match eval_key(alloc, &entry.key, env)? {
-        Ok(key) => match eval_required(alloc, entry.optional, &entry.value, env)?.into_value(alloc)? {
+        Ok(key) => match eval_required(alloc, entry.optional, &entry.value, env)?.into_value(
+            alloc,
+        )? {
             Ok(value) => Ok(Ok(ValueEntry { key, value })),
             Err(stop) => Ok(Err(stop)),
         },

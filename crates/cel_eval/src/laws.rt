@@ -37,8 +37,6 @@ pub fn macros_expand()
 
 /// `x in e` is `e.exists(y, x == y)`, where `e` is a list and `x` another name than `y` that has a value.
 pub fn membership_is_exists()
-    ensures {
-        (x y : Text) (e : Syntax) (v : Value) (vs : Values) (bs : Bindings) → pointwise nat_eq x y ≡ false → eval (name x) bs ≡ value v → eval e bs ≡ value (list_value vs)
-        → eval (binary In (name x) e) bs ≡ eval (macro Exists e y (binary Equal (name x) (name y))) bs
-    }
+    ensures { (x y : Text) (e : Syntax) (v : Value) (vs : Values) (bs : Bindings) → pointwise nat_eq x y ≡ false → eval (name x) bs ≡ value v → eval e bs ≡ value (list_value vs)
+        → eval (binary In (name x) e) bs ≡ eval (macro Exists e y (binary Equal (name x) (name y))) bs }
 {}

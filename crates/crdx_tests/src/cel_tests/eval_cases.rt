@@ -217,7 +217,11 @@ fn write_entries(said: &mut String, entries: &Entries) -> Result<(), Fail> {
         write_value(said, &entry.value)?;
         before = ", ";
     }
-    said.push_str(if entries.entries.is_empty() { "{}" } else { "}" })?;
+    said.push_str(if entries.entries.is_empty() {
+        "{}"
+    } else {
+        "}"
+    })?;
     Ok(())
 }
 
@@ -260,8 +264,6 @@ fn what_expressions_give(rt: HostRuntime) -> Result<(), Fail> {
         &rt,
         rt.alloc(),
         &EvalRow,
-        &[
-            LITERALS, MAPS, ACCESS, EQUALITY, ARITHMETIC, LOGIC, MACROS,
-        ],
+        &[LITERALS, MAPS, ACCESS, EQUALITY, ARITHMETIC, LOGIC, MACROS],
     )
 }
