@@ -1,5 +1,6 @@
 -- Lemmas.
 mod ListLemmas
+mod TextLemmas
 mod TruthLemmas
 mod OperatorLemmas
 mod RangeLemmas

@@ -8,6 +8,7 @@ use Rattle.cel_value.specs.View.{value_of, values_of}
 use Rattle.cel_value.specs.declared.value.Value.{Value}
 use Rattle.cel_eval.specs.declared.stop.Fault.TheVariants.{IndexOutOfRange}
 use Rattle.cel_eval.specs.Outcome.{value, error, value_or}
+use Rattle.cel_eval.specs.Functions.{values_count}
 use Rattle.cel_eval.specs.Operators.{joined, indexed, item_at}
 
 pub values_append : (xs ys : List Value) → values_of (xs ++ ys) ≡ joined (values_of xs) (values_of ys)
@@ -52,3 +53,7 @@ indexed_past vs xs z i e p h = rw p (ap (value_or IndexOutOfRange) (ap (item_at 
 pub indexed_negative : (vs : Values) (z : ℤ) → z <ℤ pos 0 → indexed (list vs) (integer z) ≡ error IndexOutOfRange
 indexed_negative vs (pos n) h = absurd (omega (arith, ints))
 indexed_negative vs (negsuc n) h = refl
+
+pub values_counted : (xs : List Value) → length xs ≡ values_count (values_of xs)
+values_counted [] = refl
+values_counted (x ∷ xs) = omega (arith, values_counted xs)

@@ -1,16 +1,17 @@
 -- What an expression gives under bindings: by recursion on the expression alone. Common Expression Language specification, "Evaluation"
--- (langdef.md). What crdx does not know is not judged: functions and methods, messages, optional parts, numbers with a suffix `u` or a point,
--- bytes.
-use Rattle.std.specs.Prelude.{◌∷◌, Result, Ok, Err}
-use Rattle.cel_ast.specs.Syntax.{Syntax, literal, name, select, optional_select, present, call, method, list, map, message, unary, binary, choice, macro, map_where, Parts, Elements, no_elements, element, Entries, no_entries, entry, Key, key, field}
+-- (langdef.md). What crdx does not know is not judged: other functions and methods, messages, optional parts, numbers with a suffix `u` or a
+-- point, bytes.
+use Rattle.std.specs.Prelude.{List, [], ◌∷◌, Result, Ok, Err}
+use Rattle.cel_ast.specs.Syntax.{Syntax, literal, name, select, optional_select, present, call, method, list, map, message, unary, binary, choice, macro, map_where, Parts, no_parts, part, Elements, no_elements, element, Entries, no_entries, entry, Key, key, field}
 use Rattle.cel_ast.specs.declared.operators.Macro.TheVariants.{Filter, Map}
 use Rattle.cel_value.specs.Data as data_
 use Rattle.cel_value.specs.Data.{Value, Values, no_values}
 use Rattle.cel_eval.specs.declared.stop.Stop.{Stop}
 use Rattle.cel_eval.specs.declared.stop.Stop.TheVariants.{NotJudged}
-use Rattle.cel_eval.specs.declared.stop.Reason.TheVariants.{Function, Message, Optional}
+use Rattle.cel_eval.specs.declared.stop.Reason.TheVariants.{Message, Optional}
 use Rattle.cel_eval.specs.Outcome.{Outcome, not_judged, bind, bound, Bindings}
 use Rattle.cel_eval.specs.Operators as op
+use Rattle.cel_eval.specs.Functions.{called, method_called}
 use Rattle.cel_eval.specs.Ranges.{put, listed, over, over_range}
 use Rattle.cel_eval.specs.Making.{constant_value, as_key, pair_of, put_entry, required, made_map}
 
@@ -21,8 +22,8 @@ abbrev mutual
   eval (select e f) bs = bind (eval e bs) (op.field f)
   eval (optional_select e f) bs = not_judged Optional
   eval (present e f) bs = bind (eval e bs) (op.has_field f)
-  eval (call f ps) bs = not_judged Function
-  eval (method e f ps) bs = not_judged Function
+  eval (call f ps) bs = called f (eval_parts ps bs)
+  eval (method e f ps) bs = method_called f (eval e bs) (eval_parts ps bs)
   eval (list es) bs = listed (eval_elements es bs)
   eval (map es) bs = made_map (eval_entries es bs)
   eval (message n es) bs = not_judged Message
@@ -33,6 +34,10 @@ abbrev mutual
   -- `e.map(x, p, t)` is `e.filter(x, p).map(x, t)`
   eval (map_where e x p t) bs =
       bind (bind (eval e bs) (over_range (over Filter (λ v. eval p ((x, v) ∷ bs))))) (over_range (over Map (λ v. eval t ((x, v) ∷ bs))))
+
+  pub eval_parts : Parts → Bindings → List Outcome
+  eval_parts no_parts bs = []
+  eval_parts (part e es) bs = eval e bs ∷ eval_parts es bs
 
   -- the elements of a list; the first stop is the answer
   pub eval_elements : Elements → Bindings → Result Values Stop

@@ -3,6 +3,7 @@ pub mod Outcome
 pub mod View
 pub mod Truth
 pub mod Operators
+pub mod Functions
 pub mod Ranges
 pub mod Making
 pub mod Eval

@@ -1,9 +1,10 @@
 //! Evaluation.
-ghost use Rattle.std.specs.Prelude.{◌≡◌, ◌∷◌, IfOk};
+ghost use Rattle.std.specs.Prelude.{◌≡◌, ◌∷◌, Some, IfOk};
 ghost use Rattle.cel_ast.specs.View.{syntax_of, key_of as syntax_key_of};
 ghost use Rattle.cel_eval.specs.Operators.{binary_of};
+ghost use Rattle.cel_eval.specs.Functions.{called, method_called, tested};
 ghost use Rattle.cel_eval.specs.Making.{pair_of, required};
-ghost use Rattle.cel_eval.specs.Eval.{eval as eval_of, eval_elements as elements_of, eval_entries as entries_of, eval_key as key_is};
+ghost use Rattle.cel_eval.specs.Eval.{eval as eval_of, eval_parts as parts_of, eval_elements as elements_of, eval_entries as entries_of, eval_key as key_is};
 ghost use Rattle.cel_eval.specs.Internal.Views.{key_found, pair_found};
 ghost use Rattle.cel_eval.specs.View.{outcome_of, bindings_of};
 
@@ -11,12 +12,13 @@ use crate::access::{field, presence};
 use crate::answer::{Answer, not_judged};
 use crate::apply::apply_binary;
 use crate::env::Env;
+use crate::functions::{TextTest, apply_function, apply_test, function_of, method_of, test_of};
 use crate::making::{constant, key_from, list_of, map_of};
 use crate::ranges::eval_macro;
 use crate::stop::{Reason, Stop};
 use crate::truth::Truth;
 use crate::unary::apply_unary;
-use cel_ast::{Binary, Elements, Entries, Entry, Expr, Key, Macro, Part};
+use cel_ast::{Binary, Elements, Entries, Entry, Expr, Key, Macro, Part, Parts, Text};
 use cel_value::{Entries as ValueEntries, Entry as ValueEntry, Key as ValueKey, Values};
 use std::alloc::{AllocError, Global};
 
@@ -38,8 +40,8 @@ pub fn eval<'a>(alloc: Global, expr: &Expr, env: &Env<'a>) -> Result<Answer<'a>,
             let whole = eval_part(alloc, whole, env)?;
             Ok(presence(&whole, name))
         }
-        Expr::Call(_, _) => Ok(not_judged(Reason::Function)),
-        Expr::Method(_, _, _) => Ok(not_judged(Reason::Function)),
+        Expr::Call(name, parts) => eval_call(alloc, name, parts, env),
+        Expr::Method(receiver, name, parts) => eval_method(alloc, receiver, name, parts, env),
         Expr::List(elements) => Ok(list_of(eval_elements(alloc, elements, env)?)),
         Expr::Map(entries) => Ok(map_of(eval_entries(alloc, entries, env)?)),
         Expr::Message(_, _) => Ok(not_judged(Reason::Message)),
@@ -81,6 +83,70 @@ pub(crate) fn eval_part<'a>(
     ensures { IfOk result (λ a. outcome_of a ≡ eval_of part.now (bindings_of env.now)) }
 {
     eval(alloc, &part.expr, env)
+}
+
+/// `name(parts)`
+#[cycle(eval)]
+fn eval_call<'a>(
+    alloc: Global,
+    name: &Text,
+    parts: &Parts,
+    env: &Env<'a>,
+) -> Result<Answer<'a>, AllocError>
+    ensures { IfOk result (λ a. outcome_of a ≡ called name.now (parts_of parts.now (bindings_of env.now))) }
+{
+    match parts.exprs.as_slice() {
+        [part] => match function_of(name) {
+            Some(function) => Ok(apply_function(function, eval_part(alloc, part, env)?)),
+            None => Ok(not_judged(Reason::Function)),
+        },
+        _ => Ok(not_judged(Reason::Function)),
+    }
+}
+
+/// `receiver.name(parts)`
+#[cycle(eval)]
+fn eval_method<'a>(
+    alloc: Global,
+    receiver: &Part,
+    name: &Text,
+    parts: &Parts,
+    env: &Env<'a>,
+) -> Result<Answer<'a>, AllocError>
+    ensures { IfOk result (λ a. outcome_of a ≡ method_called name.now (eval_of receiver.now (bindings_of env.now)) (parts_of parts.now (bindings_of env.now))) }
+{
+    match parts.exprs.as_slice() {
+        [] => match method_of(name) {
+            Some(function) => Ok(apply_function(function, eval_part(alloc, receiver, env)?)),
+            None => Ok(not_judged(Reason::Function)),
+        },
+        [part] => match test_of(name) {
+            Some(test) => eval_test(alloc, test, receiver, part, env),
+            None => Ok(not_judged(Reason::Function)),
+        },
+        _ => Ok(not_judged(Reason::Function)),
+    }
+}
+
+/// A method that tests a text by another one.
+#[cycle(eval)]
+fn eval_test<'a>(
+    alloc: Global,
+    test: TextTest,
+    receiver: &Part,
+    part: &Part,
+    env: &Env<'a>,
+) -> Result<Answer<'a>, AllocError>
+    ensures { IfOk result (λ a. outcome_of a ≡ tested (Some test) (eval_of receiver.now (bindings_of env.now)) (eval_of part.now (bindings_of env.now))) }
+{
+    let receiver = eval_part(alloc, receiver, env)?;
+    match receiver.value() {
+        Ok(value) => match eval_part(alloc, part, env)?.value() {
+            Ok(other) => Ok(apply_test(test, value, other)),
+            Err(stop) => Ok(Answer::Stopped(stop)),
+        },
+        Err(stop) => Ok(Answer::Stopped(stop)),
+    }
 }
 
 /// What an element or the value of an entry gives.

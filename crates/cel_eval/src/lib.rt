@@ -18,6 +18,7 @@ mod binary;
 mod calculating;
 mod env;
 mod evaluating;
+mod functions;
 mod laws;
 mod making;
 mod ordering;

@@ -1,5 +1,6 @@
 //! Texts by their characters.
 ghost use Rattle.std.specs.Prelude.{◌≡◌, nat_eq, IfOk};
+ghost use Rattle.std.specs.Str.{IsAscii};
 ghost use lib.Pointwise.{pointwise};
 
 use cel_ast::Text;
@@ -19,4 +20,12 @@ pub fn is_same(a: &Text, b: &Text) -> bool
     ensures { result ≡ pointwise nat_eq a.now b.now }
 {
     a.text == b.text
+}
+
+/// Whether the text is this word.
+pub fn is_word(text: &Text, word: &str) -> bool
+    requires { IsAscii word.now }
+    ensures { result ≡ pointwise nat_eq text.now word.now }
+{
+    text.text.as_str() == word
 }
