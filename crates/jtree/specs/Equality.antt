@@ -38,5 +38,5 @@ rank ByValue = 1
 abbrev pub keyed_cmp : Equality × Data → Equality × Data → Ordering
 keyed_cmp k l = ordering_then (nat_cmp (rank k.0) (rank l.0)) (order_by k.0 k.1 l.1)
 
-abbrev pub key_of : TreeKey → Equality × Data
-key_of k = (k.equality, data_of k.tree.now)
+abbrev pub keyed : TreeKey → Equality × Data
+keyed k = (k.equality, data_of k.tree.now)

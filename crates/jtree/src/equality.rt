@@ -5,7 +5,7 @@ ghost use Rattle.std.specs.Ordering.{eq_by_cmp, as_partial_cmp, on, ordering_the
 ghost use Rattle.jtree.specs.NumberOrder.{value_cmp};
 ghost use Rattle.jtree.specs.Order.{kind, text_cmp};
 ghost use Rattle.jtree.specs.OrderBy.{items_by, members_by};
-ghost use Rattle.jtree.specs.Equality.{equal_by, kind_cmp, value_order, order_by, rank, keyed_cmp, key_of};
+ghost use Rattle.jtree.specs.Equality.{equal_by, kind_cmp, value_order, order_by, rank, keyed_cmp, keyed};
 ghost use Rattle.jtree.specs.Internal.EqualityLaws.{keyed_total};
 ghost use Rattle.jtree.specs.View.{data_of, items_of, members_of};
 
@@ -54,9 +54,9 @@ pub struct TreeKey<'a> {
 }
 
 impl PartialEq for TreeKey<'_> {
-    ghost eq = { eq_by_cmp (on key_of keyed_cmp) };
+    ghost eq = { eq_by_cmp (on keyed keyed_cmp) };
 
-    ghost laws = { partial_equiv_from_equiv (eq_by_cmp_equiv (on_total key_of keyed_total)) };
+    ghost laws = { partial_equiv_from_equiv (eq_by_cmp_equiv (on_total keyed keyed_total)) };
 
     /// Whether the keys tie.
     fn eq(&self, other: &TreeKey<'_>) -> bool {
@@ -65,13 +65,13 @@ impl PartialEq for TreeKey<'_> {
 }
 
 impl Eq for TreeKey<'_> {
-    ghost laws = { eq_by_cmp_equiv (on_total key_of keyed_total) };
+    ghost laws = { eq_by_cmp_equiv (on_total keyed keyed_total) };
 }
 
 impl PartialOrd for TreeKey<'_> {
-    ghost partial_cmp = { as_partial_cmp (on key_of keyed_cmp) };
+    ghost partial_cmp = { as_partial_cmp (on keyed keyed_cmp) };
 
-    ghost laws = { partial_order_from_total (on_total key_of keyed_total) };
+    ghost laws = { partial_order_from_total (on_total keyed keyed_total) };
 
     /// The order of keys, as `cmp` has it.
     fn partial_cmp(&self, other: &TreeKey<'_>) -> Option<Ordering> {
@@ -80,9 +80,9 @@ impl PartialOrd for TreeKey<'_> {
 }
 
 impl Ord for TreeKey<'_> {
-    ghost cmp = { on key_of keyed_cmp };
+    ghost cmp = { on keyed keyed_cmp };
 
-    ghost total = { on_total key_of keyed_total };
+    ghost total = { on_total keyed keyed_total };
 
     ghost matches_partial_cmp = { λ k l. refl };
 

@@ -63,8 +63,8 @@ under_same P Q text t h u x = subst (IsSameAt P Q) (sym (append_assoc (below tex
 
 item_same : (P Q : Pools) (type : ListType) (text : List ℕ) → IsSameAt P Q text → fixed_item Q type text ≡ fixed_item P type text
 item_same P Q Atomic text h = h.1
-item_same P Q Set text h = h.1
-item_same P Q Map text h = refl
+item_same P Q (Set e) text h = h.1
+item_same P Q (Map e) text h = refl
 
 fixed_same : (P Q : Pools) (at : List ℕ) (N : Node) (t : FieldStep) → AreSameBelow P Q at → fixed_below Q at N t ≡ fixed_below P at N t
 fixed_same P Q at (node n d (list N type keys b)) t h = item_same P Q type (below at t) (step_same P Q at t h)

@@ -6,7 +6,7 @@ use Rattle.std.specs.Ordering.{is_eq, ordering_then, ordering_reverse}
 use Rattle.std.specs.Str.{bytes_eq}
 use Rattle.std.specs.declared.cmp.Ordering.{Ordering}
 use Rattle.std.specs.declared.cmp.Ordering.TheVariants.{Less, Equal, Greater}
-use Rattle.std.proofs.lemmas.Cmp.{nat_cmp_total, on_total, nat_list_eq_equiv}
+use Rattle.std.proofs.lemmas.Cmp.{nat_cmp_total, on_total, nat_list_eq_equiv, tied_itself}
 use Rattle.std.proofs.lemmas.Float.{nan_last}
 use Rattle.std.proofs.lemmas.Map.Text.{is_eq-slice_cmp}
 use Rattle.jtree.specs.Data.{Data, null, boolean, integer, number, text, list, object, Items, no_items, item, Members, no_members, member}
@@ -130,3 +130,14 @@ mutual
 pub order_ties : (e : Equality) (u v : Data) → is_eq (order_by e u v) ≡ equal_by e u v
 order_ties Exact u v = refl
 order_ties ByValue u v = by_kind u v (content_ties u v)
+
+-- keys that are compared by the same are in its order, and so tie where their trees count as the same
+pub keyed_same : (e : Equality) (u v : Data) → order_by e u v ≡ keyed_cmp (e, u) (e, v)
+keyed_same Exact u v = refl
+keyed_same ByValue u v = refl
+
+pub keyed_ties : (e : Equality) (u v : Data) → equal_by e u v ≡ is_eq (keyed_cmp (e, u) (e, v))
+keyed_ties e u v = sym (order_ties e u v) ∙ ap is_eq (keyed_same e u v)
+
+pub equal_itself : (e : Equality) (v : Data) → equal_by e v v ≡ true
+equal_itself e v = sym (order_ties e v v) ∙ ap is_eq (tied_itself (order_total e) v)
