@@ -11,9 +11,9 @@ use Rattle.std.proofs.Math.Bool.{and-true}
 use Rattle.std.proofs.lemmas.Bool.{and_parts, and_from, or_from}
 use Rattle.jtree.specs.Data.{Data, Items, no_items, item, Members}
 use Rattle.jtree.specs.Data as tree
-use Rattle.jtree.specs.Equality.{equal_by, order_by, keyed_cmp}
+use Rattle.jtree.specs.Equality.{equal_by, keyed_cmp}
 use Rattle.jtree.specs.Path.{member_at}
-use Rattle.jtree.specs.Internal.EqualityLaws.{keyed_total, keyed_same, keyed_ties}
+use Rattle.jtree.specs.Internal.EqualityLaws.{keyed_total, keyed_ties}
 use Rattle.jtree.specs.declared.equality.Equality.{Equality}
 use Rattle.schema.specs.Rules.Keywords.{any_item}
 use Rattle.schema.specs.declared.node.ListType.{ListType}
@@ -21,17 +21,6 @@ use Rattle.schema.specs.declared.node.ListType.TheVariants.{Atomic, Set, Map}
 use Rattle.stored.specs.Objects.Fault.{agree_at, agree, are_alike}
 use Rattle.stored.specs.Objects.StoredByParts.{are_apart}
 use Rattle.stored.specs.Internal.ItemKeys.{ItemKey, value_at, item_key, values_cmp, item_cmp, has_key, passes, is_before_first, ascend, are_ordered}
-
--- ---- the order of items
-
-then_none : (o : Ordering) → o ≡ ordering_then o Equal
-then_none Less = refl
-then_none Equal = refl
-then_none Greater = refl
-
--- two items of a set
-pub set_order : (e : Equality) (keys : List (List ℕ)) (v w : Data) → order_by e v w ≡ item_cmp (Set e) keys v w
-set_order e keys v w = keyed_same e v w ∙ then_none (keyed_cmp (e, v) (e, w))
 
 -- ---- items that are alike
 
