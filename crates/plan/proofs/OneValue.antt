@@ -18,6 +18,7 @@ use Rattle.plan.specs.Pools.Pools.{Pools, fixed_at}
 use Rattle.plan.specs.Samples.Over.{listed, is_in, IsOver}
 use Rattle.plan.specs.Samples.Part.{IsPart}
 use Rattle.plan.specs.Samples.Sites.{Site}
+use Rattle.plan.proofs.FirstsLemmas.{firsts_one}
 use Rattle.plan.proofs.TupleLemmas.{same_tree}
 
 -- what a scalar may be: one of the values that are fixed, or else of those that are listed
@@ -39,7 +40,7 @@ over_in P None path (node n t open_) v plain h = absurd plain
 -- of the values that are listed or fixed at a path no two are of one value
 one_listed : (P : Pools) (path : List ℕ) (N : Node) (v w : Data) → is_in v (values_at P (fixed_at path P) path N) ≡ true → is_in w (values_at P (fixed_at path P) path N) ≡ true
     → same_value v w ≡ true → v ≡ w
-one_listed P path N v w p q same = ?
+one_listed P path N v w p q same = firsts_one (values_at P (fixed_at path P) path N) v w ? ? same
 
 by_equality : (e : Equality) (P : Pools) (path : List ℕ) (N : Node) (v w : Data) → is_in v (values_at P (fixed_at path P) path N) ≡ true → is_in w (values_at P (fixed_at path P) path N) ≡ true
     → equal_by e v w ≡ true → v ≡ w
