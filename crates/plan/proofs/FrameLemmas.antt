@@ -208,7 +208,7 @@ keys_over : (P Q : Pools) (ss : List Slot) → SlotsAreSame P Q ss → AreKeySlo
 keys_over P Q ss h keys s c key =
     let k = keys s c key in
     let same = h s (contained ss s c) in
-    record { must = k.must; leaf = k.leaf; one = λ v p. k.one v ((same v).1 p); no_null = λ p. k.no_null ((same tree.null).1 p) }
+    record { must = k.must; leaf = k.leaf; one = λ v p. k.one v ((same v).1 p); no_null = λ p. k.no_null ((same tree.null).1 p); one_value = λ e v w p q. k.one_value e v w ((same v).1 p) ((same w).1 q) }
 
 later_over : (P Q : Pools) (ss : List Slot) (ns : List ℕ) → SlotsAreSame P Q ss → AreLater P ss ns → AreLater Q ss ns
 later_over P Q ss ns h later k n l keys =
