@@ -290,9 +290,9 @@ no_end o root N M p front left t is no_item reach down map_list = elim (end_case
 
 fixed_narrowed : (o : Option Data) (P Q : Pools) (at : List ℕ) (left : List ℕ → Option FieldPath) (N : Node) (t : FieldStep) → AreNarrowed o P Q left
     → (is_map_list N ≡ true → kept_fixed o (left (below at t)) None ≡ None) → fixed_below Q at N t ≡ kept_fixed o (left (below at t)) (fixed_below P at N t)
-fixed_narrowed o P Q at left (node nullable description (list N Map keys bounds)) t n ends = sym (ends refl)
+fixed_narrowed o P Q at left (node nullable description (list N (Map e) keys bounds)) t n ends = sym (ends refl)
 fixed_narrowed o P Q at left (node nullable description (list N Atomic keys bounds)) t n ends = n.fixed (below at t)
-fixed_narrowed o P Q at left (node nullable description (list N Set keys bounds)) t n ends = n.fixed (below at t)
+fixed_narrowed o P Q at left (node nullable description (list N (Set e) keys bounds)) t n ends = n.fixed (below at t)
 fixed_narrowed o P Q at left (node nullable description (scalar kind cs)) t n ends = n.fixed (below at t)
 fixed_narrowed o P Q at left (node nullable description open_) t n ends = n.fixed (below at t)
 fixed_narrowed o P Q at left (node nullable description (object fs preserves type bounds cs)) t n ends = n.fixed (below at t)
@@ -300,9 +300,9 @@ fixed_narrowed o P Q at left (node nullable description (nodes.map N type bounds
 
 -- what is fixed below another node is what is fixed at the path
 fixed_plain : (P : Pools) (at : List ℕ) (N : Node) (t : FieldStep) → is_map_list N ≡ false → fixed_below P at N t ≡ fixed_at (below at t) P
-fixed_plain P at (node nullable description (list N Map keys bounds)) t other = absurd (cc)
+fixed_plain P at (node nullable description (list N (Map e) keys bounds)) t other = absurd (cc)
 fixed_plain P at (node nullable description (list N Atomic keys bounds)) t other = refl
-fixed_plain P at (node nullable description (list N Set keys bounds)) t other = refl
+fixed_plain P at (node nullable description (list N (Set e) keys bounds)) t other = refl
 fixed_plain P at (node nullable description (scalar kind cs)) t other = refl
 fixed_plain P at (node nullable description open_) t other = refl
 fixed_plain P at (node nullable description (object fs preserves type bounds cs)) t other = refl

@@ -42,12 +42,12 @@ scalar_keys nullable description kind cs M keys is h = subst (λ N. HasKeys N ke
 
 no_map_list : (root L : Node) (nullable : Bool) (description : Option (List ℕ)) (kind : ScalarKind) (cs : Validations) (q : FieldPath) → HasSoundItems L → node_at root (place_of q) ≡ Some L
     → node_at root (place_of (q ++ item ∷ [])) ≡ Some (node nullable description (scalar kind cs)) → is_map_list L ≡ true → ⊥
-no_map_list root (node m d (list M Map keys bounds)) nullable description kind cs q sound reach at is =
-    let there = node_after root (node m d (list M Map keys bounds)) M q item reach refl in
+no_map_list root (node m d (list M (Map e) keys bounds)) nullable description kind cs q sound reach at is =
+    let there = node_after root (node m d (list M (Map e) keys bounds)) M q item reach refl in
     let same : M ≡ node nullable description (scalar kind cs) = cc in
     scalar_keys nullable description kind cs M keys same sound
 no_map_list root (node m d (list M Atomic keys bounds)) nullable description kind cs q sound reach at is = absurd (cc)
-no_map_list root (node m d (list M Set keys bounds)) nullable description kind cs q sound reach at is = absurd (cc)
+no_map_list root (node m d (list M (Set e) keys bounds)) nullable description kind cs q sound reach at is = absurd (cc)
 no_map_list root (node m d (scalar k c)) nullable description kind cs q sound reach at is = absurd (cc)
 no_map_list root (node m d open_) nullable description kind cs q sound reach at is = absurd (cc)
 no_map_list root (node m d (object fs preserves type bounds c)) nullable description kind cs q sound reach at is = absurd (cc)

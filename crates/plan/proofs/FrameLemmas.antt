@@ -63,8 +63,8 @@ under_same P Q text t h u x = subst (IsSameAt P Q) (sym (append_assoc (below tex
 
 item_same : (P Q : Pools) (type : ListType) (text : List ℕ) → IsSameAt P Q text → fixed_item Q type text ≡ fixed_item P type text
 item_same P Q Atomic text h = h.1
-item_same P Q Set text h = h.1
-item_same P Q Map text h = refl
+item_same P Q (Set e) text h = h.1
+item_same P Q (Map e) text h = refl
 
 fixed_same : (P Q : Pools) (at : List ℕ) (N : Node) (t : FieldStep) → AreSameBelow P Q at → fixed_below Q at N t ≡ fixed_below P at N t
 fixed_same P Q at (node n d (list N type keys b)) t h = item_same P Q type (below at t) (step_same P Q at t h)
@@ -208,7 +208,7 @@ keys_over : (P Q : Pools) (ss : List Slot) → SlotsAreSame P Q ss → AreKeySlo
 keys_over P Q ss h keys s c key =
     let k = keys s c key in
     let same = h s (contained ss s c) in
-    record { must = k.must; leaf = k.leaf; one = λ v p. k.one v ((same v).1 p); no_null = λ p. k.no_null ((same tree.null).1 p) }
+    record { must = k.must; leaf = k.leaf; one = λ v p. k.one v ((same v).1 p); no_null = λ p. k.no_null ((same tree.null).1 p); one_value = λ e v w p q. k.one_value e v w ((same v).1 p) ((same w).1 q) }
 
 later_over : (P Q : Pools) (ss : List Slot) (ns : List ℕ) → SlotsAreSame P Q ss → AreLater P ss ns → AreLater Q ss ns
 later_over P Q ss ns h later k n l keys =

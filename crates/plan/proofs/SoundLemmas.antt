@@ -76,8 +76,8 @@ abbrev pub AreKeysOf : Node → List (List ℕ) → Type 0
 AreKeysOf N keys = (keys ≡ []) ⊎ HasKeys N keys
 
 keys_of_items : (type : ListType) (keys : List (List ℕ)) (N : Node) → AreDistinct type keys N → AreKeysOf N (item_keys type keys)
-keys_of_items Map keys N h = inr h
-keys_of_items Set keys N h = inl refl
+keys_of_items (Map e) keys N h = inr h
+keys_of_items (Set e) keys N h = inl refl
 keys_of_items Atomic keys N h = inl refl
 
 -- its node is ordered, its items and those below it can be distinguished, the site of its items is one of all, and its keys are its own

@@ -1,6 +1,7 @@
 -- What samples are made of.
 pub mod Site
 pub mod Over
+pub mod Firsts
 pub mod Part
 pub mod Names
 pub mod Presence

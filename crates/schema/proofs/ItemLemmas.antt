@@ -6,6 +6,7 @@ use Rattle.std.proofs.lemmas.Option.{none-some, option_and_then_some, same_Some}
 use Rattle.jtree.specs.Data.{Data, text, list as list_data, item}
 use Rattle.jtree.specs.Kind.{is_text}
 use Rattle.jtree.specs.Path.{Path, name, index, under, part_at}
+use Rattle.jtree.specs.declared.equality.Equality.{Equality}
 use Rattle.jtree.specs.Internal.Lookups.{part_at-append}
 use Rattle.schema.specs.Document.Forms.{form_by, form_at, has_form, BreaksForm}
 use Rattle.schema.specs.Document.Texts.{is_among}
@@ -15,7 +16,7 @@ use Rattle.schema.specs.Rules.Keywords.{flag, text_under, items_in, items_under,
 use Rattle.schema.specs.Rules.Profile.{is_root}
 use Rattle.schema.specs.Rules.Lists.{is_of_list_type, is_plain_scalar, has_bad_set_items, has_default, is_key, are_keys, have_keys, has_bad_keys}
 use Rattle.schema.specs.Nodes.Node.{Node, node, scalar, object, list, Fields}
-use Rattle.schema.specs.Nodes.ByPlace.{list_type_named, field_at, node_below, node_at, AreNodesOf}
+use Rattle.schema.specs.Nodes.ByPlace.{equality_of, list_type_named, field_at, node_below, node_at, AreNodesOf}
 use Rattle.schema.specs.Nodes.Shape.{IsRootOf}
 use Rattle.schema.specs.Nodes.Items.{IsPlainScalar, IsKey, AreKeys, HasKeys, HasSoundItems}
 use Rattle.schema.specs.declared.node.ListType.TheVariants.{Set, Map}
@@ -59,11 +60,11 @@ schema_of profile (step ∷ p) root N M s h forms at =
 
 -- ---- what the rules ask of the items of a list
 
-set_named : (s : Data) → Set ≡ list_type_named (text_under s (codes "x-kubernetes-list-type")) → is_of_list_type (codes "set") s ≡ true
-set_named s is = grind arith
+set_named : (e f : Equality) (s : Data) → Set e ≡ list_type_named f (text_under s (codes "x-kubernetes-list-type")) → is_of_list_type (codes "set") s ≡ true
+set_named e f s is = grind arith
 
-map_named : (s : Data) → Map ≡ list_type_named (text_under s (codes "x-kubernetes-list-type")) → is_of_list_type (codes "map") s ≡ true
-map_named s is = grind arith
+map_named : (e f : Equality) (s : Data) → Map e ≡ list_type_named f (text_under s (codes "x-kubernetes-list-type")) → is_of_list_type (codes "map") s ≡ true
+map_named e f s is = grind arith
 
 some_text : (o : Option Data) → ((v : Data) → option_and_then (λ d. part_at d (index 0 ∷ [])) o ≡ Some v → is_text v ≡ false → ⊥) → is_empty (items_in o) ≡ false
     → texts_of (items_in o) ≢ []
@@ -113,15 +114,15 @@ text_form Core v other = other
 text_form Cluster v other = other
 
 sound_items : (profile : Profile) (M : Node) (s : Data) (root : Bool) → AreNodesOf root M (raw_by profile s) → HaveForms profile s → (has_bad_keys profile s ≡ true → ⊥) → (has_bad_set_items profile s ≡ true → ⊥) → HasSoundItems M
-sound_items profile (node n x (list N Set ks b)) s root h forms keys_good items_good =
+sound_items profile (node n x (list N (Set e) ks b)) s root h forms keys_good items_good =
     let is = (here profile root _ s h).0 in
     let d = schema_below profile root _ N s items h refl in
-    plain_scalar profile N d.0 d.3 (true_from_ne_false _ (λ bad. items_good (rw (is.2.is, set_named s is.3.0, d.2, bad) refl)))
-sound_items profile (node n x (list N Map ks b)) s root h forms keys_good items_good =
+    plain_scalar profile N d.0 d.3 (true_from_ne_false _ (λ bad. items_good (rw (is.2.is, set_named e (equality_of profile) s is.3.0, d.2, bad) refl)))
+sound_items profile (node n x (list N (Map e) ks b)) s root h forms keys_good items_good =
     let keys = codes "x-kubernetes-list-map-keys" in
     let is = (here profile root _ s h).0 in
     let d = schema_below profile root _ N s items h refl in
-    let have = true_from_ne_false (have_keys profile (Some d.0) (items_under s keys)) (λ bad. keys_good (rw (map_named s is.3.0, is.2.is, d.2, bad) refl)) in
+    let have = true_from_ne_false (have_keys profile (Some d.0) (items_under s keys)) (λ bad. keys_good (rw (map_named e (equality_of profile) s is.3.0, is.2.is, d.2, bad) refl)) in
     let single = and_parts _ _ (and_parts _ _ have).1 in
     let some = and_parts _ _ single.1 in
     let texts = some_text (under s keys) (λ v at bad. forms keys (index 0 ∷ []) (v, at, text_form profile v bad)) (not-true _ some.0) in

@@ -1,6 +1,6 @@
 //! The nodes of a schema.
 use crate::names::Names;
-use jtree::{Items, Members, Text, Tree};
+use jtree::{Equality, Items, Members, Text, Tree};
 use std::marker::Model;
 
 /// The kinds of value that a scalar node accepts: booleans, integers, strings, or both integers and strings.
@@ -14,12 +14,13 @@ pub enum ScalarKind {
     IntOrString,
 }
 
-/// How the items of a list merge, and which may be in one list (`x-kubernetes-list-type`).
+/// How the items of a list merge, and which may be in one list (`x-kubernetes-list-type`): of a set no two that count as the same, of
+/// a map list no two with keys that do.
 #[derive(Clone, Copy, Debug, PartialEq, Eq, Drop)]
 pub enum ListType {
     Atomic,
-    Set,
-    Map,
+    Set(Equality),
+    Map(Equality),
 }
 
 /// How the members of an object or a map merge (`x-kubernetes-map-type`).

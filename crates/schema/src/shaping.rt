@@ -10,7 +10,7 @@ ghost use Rattle.schema.specs.Document.Places.{Place};
 ghost use Rattle.schema.specs.Rules.Breaks.{BreaksNone};
 ghost use Rattle.schema.specs.Rules.Keywords.{text_under, texts_under, members_under};
 ghost use Rattle.schema.specs.Nodes.View.{node_of, sort_of, object_of, map_of, list_of};
-ghost use Rattle.schema.specs.Nodes.ByPlace.{AreNodesOf, list_type_named, map_type_named};
+ghost use Rattle.schema.specs.Nodes.ByPlace.{AreNodesOf, equality_of, list_type_named, map_type_named};
 ghost use Rattle.schema.specs.Nodes.Shape.{IsRootOf, IsShapeRefusal};
 ghost use Rattle.schema.specs.Internal.NodeOf;
 ghost use Rattle.schema.specs.Internal.NodeOf.{IsNodeOf, IsSortOf, AreFieldsOf, declared_of};
@@ -187,7 +187,7 @@ fn read_list(
     match schema.get("items") {
         Some(below) => Ok(ListNode {
             item: read_below(alloc, profile, below)?,
-            list_type: list_type(schema),
+            list_type: list_type(profile, schema),
             keys: copy_texts(alloc, schema, "x-kubernetes-list-map-keys")?,
             bounds: bounds(schema, "minItems", "maxItems"),
         }),
@@ -281,12 +281,12 @@ fn copy_default(alloc: Global, property: &Tree) -> Result<Option<Tree>, AllocErr
     }
 }
 
-fn list_type(schema: &Tree) -> ListType
-    ensures { result ≡ list_type_named (text_under (data_of schema.now) (codes "x-kubernetes-list-type")) }
+fn list_type(profile: Profile, schema: &Tree) -> ListType
+    ensures { result ≡ list_type_named (equality_of profile) (text_under (data_of schema.now) (codes "x-kubernetes-list-type")) }
 {
     match text(schema, "x-kubernetes-list-type") {
-        Some("set") => ListType::Set,
-        Some("map") => ListType::Map,
+        Some("set") => ListType::Set(profile.equality()),
+        Some("map") => ListType::Map(profile.equality()),
         _ => ListType::Atomic,
     }
 }

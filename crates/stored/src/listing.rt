@@ -114,8 +114,8 @@ fn is_list_divided(list_type: ListType, items: &Items) -> bool
     ensures { result ≡ divides_list list_type items.now }
 {
     match list_type {
-        ListType::Set | ListType::Map => !items.items.is_empty(),
         ListType::Atomic => false,
+        _ => !items.items.is_empty(),
     }
 }
 

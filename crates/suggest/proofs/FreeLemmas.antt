@@ -450,9 +450,9 @@ free_next law one P G path N M v w (index i) value follows down found p = absurd
 free_next law one P G path N M v w s t follows down found p = absurd (cc)
 
 unfixed_below : (P : Pools) (path : List ℕ) (N : Node) (t : FieldStep) → fixed_at (below path t) P ≡ None → fixed_below P path N t ≡ None
-unfixed_below P path (node nullable description (list N Map keys bounds)) t none = refl
+unfixed_below P path (node nullable description (list N (Map e) keys bounds)) t none = refl
 unfixed_below P path (node nullable description (list N Atomic keys bounds)) t none = none
-unfixed_below P path (node nullable description (list N Set keys bounds)) t none = none
+unfixed_below P path (node nullable description (list N (Set e) keys bounds)) t none = none
 unfixed_below P path (node nullable description (scalar kind cs)) t none = none
 unfixed_below P path (node nullable description open_) t none = none
 unfixed_below P path (node nullable description (object fs preserves type bounds cs)) t none = none

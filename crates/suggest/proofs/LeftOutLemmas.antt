@@ -265,12 +265,12 @@ ends_at (s ∷ q) t root N K there down =
 
 next_fixed : (P : Pools) (root N K : Node) (q p : FieldPath) (t : FieldStep) → node_at root (place_of q) ≡ Some N → node_below N (place_step t) ≡ Some K → (IsMapItem root (q ++ t ∷ p) → ⊥)
     → IsFixedHere P (fixed_below P (path_text q) N t) (below (path_text q) t) p
-next_fixed P root (node nullable description (list N Map keys bounds)) K q p item there down other =
-    inr (refl, λ e. other (q, (ap (λ x. q ++ item ∷ x) e, (node nullable description (list N Map keys bounds), (there, refl)))))
-next_fixed P root (node nullable description (list N Map keys bounds)) K q p (field k) there down other = absurd (cc)
-next_fixed P root (node nullable description (list N Map keys bounds)) K q p value there down other = absurd (cc)
+next_fixed P root (node nullable description (list N (Map e) keys bounds)) K q p item there down other =
+    inr (refl, λ same. other (q, (ap (λ x. q ++ item ∷ x) same, (node nullable description (list N (Map e) keys bounds), (there, refl)))))
+next_fixed P root (node nullable description (list N (Map e) keys bounds)) K q p (field k) there down other = absurd (cc)
+next_fixed P root (node nullable description (list N (Map e) keys bounds)) K q p value there down other = absurd (cc)
 next_fixed P root (node nullable description (list N Atomic keys bounds)) K q p t there down other = inl refl
-next_fixed P root (node nullable description (list N Set keys bounds)) K q p t there down other = inl refl
+next_fixed P root (node nullable description (list N (Set e) keys bounds)) K q p t there down other = inl refl
 next_fixed P root (node nullable description (scalar kind cs)) K q p t there down other = inl refl
 next_fixed P root (node nullable description open_) K q p t there down other = inl refl
 next_fixed P root (node nullable description (object fs preserves type bounds cs)) K q p t there down other = inl refl

@@ -120,8 +120,8 @@ fn repeats_any(list: &ListNode, earlier: &[Tree], item: &Tree) -> bool {
 /// In a set equal items repeat, in a map list objects that have the same under each key.
 fn repeats(list: &ListNode, item: &Tree, other: &Tree) -> bool {
     match (list.list_type, item, other) {
-        (ListType::Set, _, _) => *item == *other,
-        (ListType::Map, Tree::Object(members), Tree::Object(others)) => {
+        (ListType::Set(_), _, _) => *item == *other,
+        (ListType::Map(_), Tree::Object(members), Tree::Object(others)) => {
             have_same_keys(&list.keys, members, others)
         }
         _ => false,

@@ -11,6 +11,7 @@ use Rattle.schema.specs.declared.node.ScalarKind.{ScalarKind}
 use Rattle.schema.specs.declared.node.ScalarKind.TheVariants as kind
 use Rattle.schema.specs.declared.node.ListType.{ListType}
 use Rattle.schema.specs.declared.node.ListType.TheVariants as list_type
+use Rattle.jtree.specs.declared.equality.Equality.TheVariants.{Exact, ByValue}
 use Rattle.schema.specs.declared.node.MapType.{MapType}
 use Rattle.schema.specs.declared.node.MapType.TheVariants as map_type
 use base.Stored.{Gv, gnil, gnum, gcons}
@@ -38,17 +39,24 @@ kind_coded = code_by ℕ coded_ℕ kind_number kind_from kind_back
 
 abbrev list_type_number : ListType → ℕ
 list_type_number list_type.Atomic = 0
-list_type_number list_type.Set = 1
-list_type_number list_type.Map = 2
+list_type_number (list_type.Set Exact) = 1
+list_type_number (list_type.Set ByValue) = 2
+list_type_number (list_type.Map Exact) = 3
+list_type_number (list_type.Map ByValue) = 4
 
 abbrev list_type_from : ℕ → ListType
 list_type_from zero = list_type.Atomic
-list_type_from (suc zero) = list_type.Set
-list_type_from (suc (suc n)) = list_type.Map
+list_type_from (suc zero) = list_type.Set Exact
+list_type_from (suc (suc zero)) = list_type.Set ByValue
+list_type_from (suc (suc (suc zero))) = list_type.Map Exact
+list_type_from (suc (suc (suc (suc n)))) = list_type.Map ByValue
 
 pub list_type_back : (t : ListType) → list_type_from (list_type_number t) ≡ t
 list_type_back list_type.Atomic = refl
-list_type_back _ = refl
+list_type_back (list_type.Set Exact) = refl
+list_type_back (list_type.Set ByValue) = refl
+list_type_back (list_type.Map Exact) = refl
+list_type_back (list_type.Map ByValue) = refl
 
 abbrev pub list_type_coded : Coded ListType
 list_type_coded = code_by ℕ coded_ℕ list_type_number list_type_from list_type_back

@@ -4,6 +4,8 @@ use Rattle.std.specs.Prelude.{◌≡◌, ℕ, List, [], ◌∷◌, Bool, true, f
 use Rattle.std.specs.Str.{bytes_eq}
 use Rattle.jtree.specs.Data.{Data}
 use Rattle.jtree.specs.Path.{under}
+use Rattle.jtree.specs.declared.equality.Equality.{Equality}
+use Rattle.jtree.specs.declared.equality.Equality.TheVariants.{Exact, ByValue}
 use Rattle.schema.specs.Document.Texts.{is_among}
 use Rattle.schema.specs.Document.Raw.{Raw}
 use Rattle.schema.specs.Document.Places.{Step, Place, property, map_value, items, schema_by, schema_at, IsPlace, is_inside, IsEnvelope}
@@ -18,6 +20,7 @@ use Rattle.schema.specs.declared.node.ListType.TheVariants as list_type
 use Rattle.schema.specs.declared.node.MapType.{MapType}
 use Rattle.schema.specs.declared.node.MapType.TheVariants as map_type
 use Rattle.schema.specs.declared.profile.Profile.{Profile}
+use Rattle.schema.specs.declared.profile.Profile.TheVariants.{Core, Cluster}
 
 -- ---- a node and the schema of its place
 
@@ -29,10 +32,15 @@ sort_kind (map N type bounds) = kinds.map
 sort_kind (list N type keys bounds) = kinds.list
 sort_kind open_ = kinds.open_
 
+-- which items and keys count as the same: a cluster has numbers that are no integers as floats
+abbrev pub equality_of : Profile → Equality
+equality_of Core = Exact
+equality_of Cluster = ByValue
+
 -- a list is atomic where nothing else is said (`x-kubernetes-list-type`); another string counts as absent, and V10 leaves none
-abbrev pub list_type_named : Option (List ℕ) → ListType
-list_type_named None = list_type.Atomic
-list_type_named (Some t) = if bytes_eq t (codes "set") then list_type.Set else if bytes_eq t (codes "map") then list_type.Map else list_type.Atomic
+abbrev pub list_type_named : Equality → Option (List ℕ) → ListType
+list_type_named e None = list_type.Atomic
+list_type_named e (Some t) = if bytes_eq t (codes "set") then list_type.Set e else if bytes_eq t (codes "map") then list_type.Map e else list_type.Atomic
 
 -- an object or a map is granular where nothing else is said (`x-kubernetes-map-type`); V13 leaves no other string
 abbrev pub map_type_named : Option (List ℕ) → MapType
@@ -52,7 +60,7 @@ HasKeywords profile (object fs preserves type bounds cs) s =
 HasKeywords profile (map N type bounds) s =
     (type ≡ map_type_named (text_under s (codes "x-kubernetes-map-type"))) × AreBoundsOf bounds s (codes "minProperties") (codes "maxProperties")
 HasKeywords profile (list N type keys bounds) s =
-    (type ≡ list_type_named (text_under s (codes "x-kubernetes-list-type"))) × (keys ≡ texts_under s (codes "x-kubernetes-list-map-keys"))
+    (type ≡ list_type_named (equality_of profile) (text_under s (codes "x-kubernetes-list-type"))) × (keys ≡ texts_under s (codes "x-kubernetes-list-map-keys"))
     × AreBoundsOf bounds s (codes "minItems") (codes "maxItems")
 HasKeywords profile open_ s = Unit {0}
 
