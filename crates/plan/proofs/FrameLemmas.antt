@@ -1,13 +1,14 @@
 -- What is known of a site stays true where the pools differ elsewhere.
-use Rattle.std.proofs.Common.{◌≡◌, ◌↔◌, ◌+◌, ◌-◌, ℕ, zero, suc, List, [], ◌∷◌, Bool, false, Option, Some, None, refl, sym, ap, subst, ◌∙◌, inl, inr, append-nil, append_assoc, length, get_or, drop}
+use Rattle.std.proofs.Common.{◌≡◌, ◌↔◌, ◌+◌, ◌-◌, ℕ, zero, suc, List, [], ◌∷◌, ◌++◌, Bool, false, Option, Some, None, refl, sym, ap, subst, ◌∙◌, inl, inr, append-nil, append_assoc, length, get_or, drop}
 use Rattle.std.specs.Prelude.{◌&&◌, not, is_some, unwrap_or, option_and_then, map, filter}
 use Rattle.std.specs.declared.vec.Vec.{Vec}
 use Rattle.std.specs.declared.alloc.Global.{Global}
-use Rattle.jtree.specs.Data.{Data, Items, Members}
+use Rattle.jtree.specs.Data.{Data, Members}
 use Rattle.jtree.specs.Data as tree
 use Rattle.jtree.specs.Path.{Path, member_at}
 use Rattle.jtree.specs.Internal.Rising.{Among, contained}
 use Rattle.schema.specs.declared.node.ScalarKind.{ScalarKind}
+use Rattle.schema.specs.declared.node.ScalarKind.TheVariants.{Boolean, Integer, Number, String, IntOrString}
 use Rattle.schema.specs.declared.node.ListType.{ListType}
 use Rattle.schema.specs.declared.node.ListType.TheVariants.{Atomic, Set, Map}
 use Rattle.schema.specs.Document.Texts.{is_among}
@@ -20,7 +21,7 @@ use Rattle.explain.specs.Paths.FieldPath.{FieldStep, FieldPath}
 use Rattle.explain.specs.Paths.FieldPath as step
 use Rattle.explain.specs.Paths.PathText.{step_text, path_text}
 use Rattle.plan.specs.Pools.Pools.{Pools, entries_in, is_present}
-use Rattle.plan.specs.Samples.Over.{choices_or, listed, all_names, asks_field, asks_below, has_present, has_enough, is_over_here, IsOverAlong}
+use Rattle.plan.specs.Samples.Over.{choices_or, scalars_for, listed, all_names, asks_field, asks_below, has_present, has_enough, is_over_here, IsOverAlong}
 use Rattle.plan.specs.Samples.Part.{IsPart}
 use Rattle.plan.specs.Samples.Names.{in_order}
 use Rattle.plan.specs.Samples.Presence.{named}

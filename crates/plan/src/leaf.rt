@@ -1,5 +1,5 @@
 //! The candidates of a leaf: a scalar, an open node, or a node whose values are fixed.
-ghost use Rattle.std.specs.Prelude.{◌≡◌, ℕ, ◌≤◌, ◌<◌, ◌↔◌, ◌⊎◌, ◌∷◌, IfOk, map, option_map};
+ghost use Rattle.std.specs.Prelude.{◌≡◌, ℕ, true, ◌≤◌, ◌<◌, ◌↔◌, ◌⊎◌, ◌∷◌, IfOk, map, option_map};
 ghost use Rattle.std.specs.List.{slice_get};
 ghost use Rattle.std.specs.Bool.{Decides};
 ghost use Rattle.std.specs.Option.{option_copied};
@@ -72,10 +72,22 @@ fn places_in(
     ensures { IfOk result (λ places. AreKinds values.now.scalars.items values.now.numbers.items values.now.kinds → (past : Tree) → AreStored limit (node_of node.now) (trees_of (base_of values.now base.now)) (at_places past (base_of values.now base.now) places.items)) }
 {
     match (base, bare_kind(node)) {
-        (Base::Scalars(listed), Some(kind)) if limit > 0 && *listed == kind => {
+        (Base::Scalars(listed), Some(kind)) if limit > 0 && is_same(*listed, kind) => {
             Vec::from_slice(alloc, values.kinds.places(kind))
         }
         _ => stored_places(alloc, limit, node, base.trees(values)),
+    }
+}
+
+fn is_same(kind: ScalarKind, other: ScalarKind) -> bool
+    ensures { result ≡ true → kind ≡ other }
+{
+    match kind {
+        ScalarKind::Boolean => matches!(other, ScalarKind::Boolean),
+        ScalarKind::Integer => matches!(other, ScalarKind::Integer),
+        ScalarKind::Number => matches!(other, ScalarKind::Number),
+        ScalarKind::String => matches!(other, ScalarKind::String),
+        ScalarKind::IntOrString => matches!(other, ScalarKind::IntOrString),
     }
 }
 

@@ -164,7 +164,7 @@ impl Pools {
             numbers: trees_of(alloc, &self.numbers)?,
             strings: copies_of(alloc, self.strings())?,
             names: copies_of(alloc, self.names())?,
-            any: trees_of(alloc, self.any.as_slice())?,
+            any: trees_of(alloc, &self.any)?,
             paths: members_from(alloc, &self.paths)?,
             fixed,
             present,

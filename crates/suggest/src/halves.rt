@@ -1,6 +1,8 @@
 //! The numbers that are suggested for places of numbers.
-ghost use Rattle.std.specs.Prelude.{◌≡◌, ◌++◌, IfOk, OnOk};
+ghost use Rattle.std.specs.Prelude.{◌≡◌, ◌++◌, Some, IfOk, OnOk};
+ghost use Rattle.jtree.specs.View.{data_of};
 ghost use Rattle.schema.specs.Nodes.View.{node_of};
+ghost use Rattle.plan.specs.Pools.Document.{is_any_number};
 ghost use Rattle.suggest.specs.View.{trees_of};
 ghost use Rattle.suggest.specs.Suggested.Halves;
 
@@ -63,11 +65,24 @@ fn halves(alloc: Global, integers: &[i64]) -> Result<Vec<Tree>, AllocError>
 fn push_half(alloc: Global, integer: i64, trees: &mut Vec<Tree>) -> Result<(), AllocError>
     ensures { OnOk result (trees_of trees.new.items ≡ trees_of trees.old.items ++ Halves.half_after integer) }
 {
-    let mut text = Tree::Int(integer).append_text(Vec::new(alloc))?;
-    text.extend_from_slice(b".5")?;
-    let half = Tree::from_bytes_with(alloc, &text, Numbers::All).map_err(|_| AllocError)?;
-    if matches!(&half, Tree::Int(_) | Tree::Number(_)) {
+    let half = read_half(alloc, integer)?;
+    if is_number(&half) {
         trees.push(half)?;
     }
     Ok(())
+}
+
+/// What the digits of the integer, a point and a 5 read as. They are a document, so nothing but memory can be missing.
+fn read_half(alloc: Global, integer: i64) -> Result<Tree, AllocError>
+    ensures { IfOk result (λ t. Halves.half_read integer ≡ Some (data_of t)) }
+{
+    let mut text = Tree::Int(integer).append_text(Vec::new(alloc))?;
+    text.extend_from_slice(b".5")?;
+    Tree::from_bytes_with(alloc, &text, Numbers::All).map_err(|_| AllocError)
+}
+
+fn is_number(tree: &Tree) -> bool
+    ensures { result ≡ is_any_number (data_of tree.now) }
+{
+    matches!(tree, Tree::Int(_) | Tree::Number(_))
 }

@@ -1,6 +1,6 @@
 -- The numbers that are suggested where a schema has a place of numbers: for each suggested integer the half after its digits, 3.5 for 3
 -- and -3.5 for -3 (this project's own).
-use Rattle.std.specs.Prelude.{ℤ, List, [], ◌∷◌, ◌++◌, Bool, true, false, ◌||◌, if◌then◌else◌, filter, option_and_then, codes}
+use Rattle.std.specs.Prelude.{ℤ, List, [], ◌∷◌, ◌++◌, Bool, true, false, ◌||◌, if◌then◌else◌, filter, Option, option_and_then, codes}
 use Rattle.std.specs.Option.{option_to_list}
 use Rattle.jtree.specs.Data.{Data, integer}
 use Rattle.jtree.specs.ReadsAll.{tree_in, document_of}
@@ -30,9 +30,13 @@ abbrev mutual
   have_numbers no_fields = false
   have_numbers (field k N required default fs) = has_numbers N || have_numbers fs
 
--- the number that is written as the integer, a point and a 5
+-- what the digits of the integer, a point and a 5 read as
+abbrev pub half_read : ℤ → Option Data
+half_read z = option_and_then tree_in (document_of (compact (integer z) ++ codes ".5"))
+
+-- where that is a number
 abbrev pub half_after : ℤ → List Data
-half_after z = filter is_any_number (option_to_list (option_and_then tree_in (document_of (compact (integer z) ++ codes ".5"))))
+half_after z = filter is_any_number (option_to_list (half_read z))
 
 abbrev pub halves : List ℤ → List Data
 halves [] = []
