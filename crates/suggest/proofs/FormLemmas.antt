@@ -211,7 +211,7 @@ form_with profile any fixed integers names numbers paths present strings pi pn p
       (λ path b. unbroken_entries is_text (map (λ t. text t) names) (texts_pass names) path b),
       numbers_form_of profile numbers _ pn (
           lists_member_form profile (codes "paths") paths _ refl lp (
-              texts_member_form profile (codes "present") present _ refl ((λ path b. unbroken_entries is_text strings ps path b), tt))),
+          texts_member_form profile (codes "present") present _ refl ((λ path b. unbroken_entries is_text strings ps path b), tt))),
     ),
   ),
 )

@@ -220,10 +220,12 @@ impl Kind for ValueRow {
     }
 }
 
-// The fields of a listing: a path and a type a line.
+// The fields of a listing: a path, a type and a default a line.
 static FIELDS: &str = r#"
-3 rows: name | field | out
+5 rows: name | field | out
 a number | {"type":"number"} | /x number
+a default as it is written | {"type":"number","default":0.50} | /x number default 0.50
+a default that is a whole number | {"type":"number","default":1.0} | /x number default 1
 a list of numbers | {"type":"array","items":{"type":"number"}} | /x []number
     > /x/[] number
 a map of objects with a number | {"type":"object","additionalProperties":{"type":"object","properties":{"n":{"type":"number"}}}} | /x map[string]Object
@@ -235,7 +237,12 @@ fn fields(alloc: Global, schema: &Schema) -> Result<String, Fail> {
     let mut lines = String::new(alloc);
     for field in Listing::new(alloc, schema)?.fields() {
         let (path, type_text) = (field.path.as_str(), field.type_text.as_str());
-        writeln!(lines, "{path} {type_text}")?;
+        write!(lines, "{path} {type_text}")?;
+        if let Some(default) = &field.default {
+            let default = default.to_text(alloc)?;
+            write!(lines, " default {default}")?;
+        }
+        lines.push_str("\n")?;
     }
     Ok(lines)
 }
