@@ -9,6 +9,7 @@ use Rattle.jtree.specs.Path.{Path, Step, part_by, item_at, member_at}
 use Rattle.jtree.specs.Path as part
 use Rattle.jtree.specs.Internal.Lookups.{bool_cases, option_cases, same_name}
 use Rattle.schema.specs.declared.node.ScalarKind.{ScalarKind}
+use Rattle.schema.specs.declared.node.ScalarKind.TheVariants.{Boolean, Integer, Number, String, IntOrString}
 use Rattle.schema.specs.Nodes.Node.{Node, Validations, node, scalar, object, list, open_, Fields, no_fields}
 use Rattle.schema.specs.Nodes.Node as nodes
 use Rattle.schema.specs.Nodes.ByPlace.{Declared, field_at, node_below, node_at}
@@ -24,7 +25,7 @@ use Rattle.plan.specs.Pools.FixedPaths.{is_map_list, IsMapItem}
 use Rattle.plan.specs.Samples.Part.{IsPart}
 use Rattle.plan.specs.Samples.Site.{below, fixed_below, plain}
 use Rattle.schema.specs.Document.Texts.{is_among}
-use Rattle.plan.specs.Samples.Over.{choices_or, listed, all_names, is_in, asks_field, has_present, has_enough, is_over_here, StepFollows, IsOverAlong, IsOver}
+use Rattle.plan.specs.Samples.Over.{choices_or, scalars_for, listed, all_names, is_in, asks_field, has_present, has_enough, is_over_here, StepFollows, IsOverAlong, IsOver}
 use Rattle.cover.specs.There.{has_value, is_there}
 use Rattle.cover.proofs.WayLemmas.{found_field}
 use Rattle.cover.proofs.PathLemmas.{IsLeft, text_below, append_one}
@@ -120,13 +121,16 @@ same_fields o P Q at left (nodes.field k N required default fs) n leads = rw (sa
 
 -- ---- a value at its node
 
-same_choices : (P : Pools) (F : Members) (ps : List (List ℕ)) (o : Option Items) → choices_or o P ≡ choices_or o (with_paths P F ps)
-same_choices P F ps None = refl
-same_choices P F ps (Some ds) = refl
+same_scalars : (P : Pools) (F : Members) (ps : List (List ℕ)) (kind : ScalarKind) → scalars_for kind P ≡ scalars_for kind (with_paths P F ps)
+same_scalars P F ps Number = refl
+same_scalars P F ps Boolean = refl
+same_scalars P F ps Integer = refl
+same_scalars P F ps String = refl
+same_scalars P F ps IntOrString = refl
 
 same_listed : (P : Pools) (F : Members) (ps : List (List ℕ)) (at : List ℕ) (nullable : Bool) (description : Option (List ℕ)) (kind : ScalarKind) (cs : Validations)
     → listed P at (node nullable description (scalar kind cs)) ≡ listed (with_paths P F ps) at (node nullable description (scalar kind cs))
-same_listed P F ps at nullable description kind cs = ap (λ xs. unwrap_or (list_at at P) xs) (same_choices P F ps (constraints_of cs).choices)
+same_listed P F ps at nullable description kind cs = ap (λ xs. unwrap_or (list_at at P) xs) (ap (choices_or (constraints_of cs).choices) (same_scalars P F ps kind))
 
 here_narrow : (o : Option Data) (P : Pools) (F : Members) (ps : List (List ℕ)) (at : List ℕ) (left : List ℕ → Option FieldPath) (N : Node) (v : Data) → AreNarrowed o P (with_paths P F ps) left
     → Leads o (λ t. left (below at t)) v → is_over_here P at N v ≡ true → is_over_here (with_paths P F ps) at N v ≡ true

@@ -22,14 +22,15 @@ use Rattle.crdx.specs.Program.RunResult.{Effects, WritesNothing, IsRunResult, an
 use Rattle.crdx.specs.Output.Line.{lines}
 use Rattle.crdx.specs.Output.PartialOutput.{IsPartialOutput}
 use Rattle.crdx.specs.Output.Walk.{WritesPage}
-use Rattle.crdx.specs.Program.Requested.{numbers_of, limits_of, pool_limits_of, total_of, IsRequested, IsRequestedWalk, IsRequestedCrd, IsRequestedSchema, IsRequestedRoot, IsRequestedWritten, IsRequestedStandard, form_asked, HasRefusedPattern, HasAcceptedSchema, IsCrdRefused, IsRefusedAs, ArePools, AreRootAndPools}
+use Rattle.crdx.specs.Program.Requested.{numbers_of, rules_of, limits_of, pool_limits_of, total_of, IsRequested, IsRequestedWalk, IsRequestedCrd, IsRequestedSchema, IsRequestedRoot, IsRequestedWritten, IsRequestedStandard, form_asked, HasRefusedPattern, HasAcceptedSchema, IsCrdRefused, IsRefusedAs, ArePools, AreRootAndPools}
 use Rattle.crdx.specs.Program.Standard.{Standard, asks_as_written}
 use Rattle.crdx.specs.declared.inputs.InputName.{InputName}
 use Rattle.crdx.specs.Program.Documents.{Read as ReadDocuments, Documents, file_name, AreAmong}
 use Rattle.crdx.specs.Internal.ExitStatus.{status, cause_of_reading, cause_of_refusal, cause_of_pools, cause_of_walk, IsWritten}
 use Rattle.crdx.specs.Internal.Cause.{IsReadFailure, IsReadCauseAs, IsPatternsCause, IsWrittenCause, IsBrokenCause, IsSchemaCause, IsPoolsCause, IsPlanCause, IsTextCause, IsAfterCause, IsOfPlan, IsRequestedPlanCause, IsFieldCause, IsObjectCause, IsDocumentCause, IsInputCause, IsSampleCause, IsSampleResult, IsWalkCause, IsCoveringCause, IsCoverCause, IsCoverResult}
 use Rattle.plan.specs.Pools.Pools.{Pools}
-use Rattle.plan.specs.Pools.PoolsFault.{IsPoolsFault}
+use Rattle.schema.specs.declared.profile.Profile.{Profile as Rules}
+use Rattle.plan.specs.Pools.PoolsFault.{IsPoolsFaultBy}
 use Rattle.plan.specs.Pools.PlanFault.{IsPlanFault}
 use Rattle.plan.specs.declared.pool_limits.PoolLimits.{PoolLimits}
 use Rattle.plan.specs.Samples.Question.{Question}
@@ -165,13 +166,13 @@ module _ (has later : Documents) (unread read : ℕ) (arguments : ObjectArgument
   object_input cause (inl why) = input_of_object cause why
   object_input cause (inr (document, at, why)) = input_of_document document cause at why
 
-pub cause_of_pools_fault : (has : ReadDocuments) (unread read : ℕ) (limits : PoolLimits) (name : InputName) (d : Data) (fault : PFault) → has (file_name name) (Ok d)
-    → IsPoolsFault limits d fault → IsPoolsCause has unread read limits (Some name) (cause_of_pools fault)
-cause_of_pools_fault has unread read limits name d (PoolsForm p) at is = (d, at, λ e. cc, is)
-cause_of_pools_fault has unread read limits name d p.TooLarge at is = (d, at, λ e. cc, is)
-cause_of_pools_fault has unread read limits name d p.NoMemory at is = tt
-cause_of_pools_fault has unread read limits name d p.BadLimit at is = absurd is
-cause_of_pools_fault has unread read limits name d (p.BadPath text) at is = absurd is
+pub cause_of_pools_fault : (has : ReadDocuments) (unread read : ℕ) (rules : Rules) (limits : PoolLimits) (name : InputName) (d : Data) (fault : PFault) → has (file_name name) (Ok d)
+    → IsPoolsFaultBy rules limits d fault → IsPoolsCause has unread read rules limits (Some name) (cause_of_pools fault)
+cause_of_pools_fault has unread read rules limits name d (PoolsForm p) at is = (d, at, λ e. cc, is)
+cause_of_pools_fault has unread read rules limits name d p.TooLarge at is = (d, at, λ e. cc, is)
+cause_of_pools_fault has unread read rules limits name d p.NoMemory at is = tt
+cause_of_pools_fault has unread read rules limits name d p.BadLimit at is = absurd is
+cause_of_pools_fault has unread read rules limits name d (p.BadPath text) at is = absurd is
 
 -- of a limit that a plan can have
 pub cause_of_plan_fault : (N : Node) (P : Pools) (limit bits : ℕ) (fault : PFault) → 1 ≤ limit → limit < bits → IsPlanFault N P limit bits fault → IsPlanCause N P (cause_of_pools fault)
@@ -202,7 +203,7 @@ no_plan has plan _ of breaks are = absurd of
 
 -- the pools are read of documents that were at hand before, where the schema is accepted
 pools_refused : (has later : Documents) (unread read : ℕ) (arguments : PlanArguments) (request : Request) (cause : Cause) → IsOfPlan arguments request → AreAmong later has → HasAcceptedSchema has arguments.common
-    → IsPoolsCause (later (numbers_of arguments.common)) unread read (pool_limits_of arguments.common) arguments.pools cause → IsInputCause has unread read request cause
+    → IsPoolsCause (later (numbers_of arguments.common)) unread read (rules_of arguments.common) (pool_limits_of arguments.common) arguments.pools cause → IsInputCause has unread read request cause
 pools_refused has later unread read arguments request (Read i) of among accepted why = why.1
 pools_refused has later unread read arguments request (Document i fault) of among accepted why =
     plan_refused has arguments request of (inr (inl (accepted, inl (fault, why.1, among_some arguments.pools _ _ (λ n is. among (numbers_of arguments.common) (file_name n) (Err fault) is) why.2))))
@@ -214,14 +215,14 @@ pools_refused has later unread read arguments request NoMemory of among accepted
 pools_refused has later unread read arguments request _ of among accepted why = absurd why
 
 pub pools_input : (has later : Documents) (unread read : ℕ) (arguments : PlanArguments) (cause : Cause) → AreAmong later has → HasAcceptedSchema has arguments.common
-    → IsPoolsCause (later (numbers_of arguments.common)) unread read (pool_limits_of arguments.common) arguments.pools cause → IsRequestedPlanCause has unread read arguments cause
+    → IsPoolsCause (later (numbers_of arguments.common)) unread read (rules_of arguments.common) (pool_limits_of arguments.common) arguments.pools cause → IsRequestedPlanCause has unread read arguments cause
 pools_input has later unread read arguments cause among accepted why request of = pools_refused has later unread read arguments request cause of among accepted why
 
 -- pools of documents that were at hand before
-pub pools_before : (has later : Documents) (numbers : Numbers) (limits : PoolLimits) (name : Option InputName) (P : Pools) → AreAmong later has → ArePools (later numbers) limits name P
-    → ArePools (has numbers) limits name P
-pools_before has later numbers limits None P among is = is
-pools_before has later numbers limits (Some n) P among is = (is.0, among numbers (file_name n) (Ok is.0) is.1, is.2, is.3, is.4)
+pub pools_before : (has later : Documents) (numbers : Numbers) (rules : Rules) (limits : PoolLimits) (name : Option InputName) (P : Pools) → AreAmong later has → ArePools (later numbers) rules limits name P
+    → ArePools (has numbers) rules limits name P
+pools_before has later numbers rules limits None P among is = is
+pools_before has later numbers rules limits (Some n) P among is = (is.0, among numbers (file_name n) (Ok is.0) is.1, is.2, is.3, is.4)
 
 module _ (has : Documents) (unread read : ℕ) (arguments : PlanArguments) (N : Node) (P : Pools) (are : AreRootAndPools has arguments N P) where
   path_refused : (request : Request) (cause : Cause) → IsOfPlan arguments request → IsPlanCause N P cause → IsInputCause has unread read request cause

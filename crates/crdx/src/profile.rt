@@ -1,4 +1,4 @@
-//! How documents are read.
+//! How documents and pools are read.
 ghost use Rattle.std.specs.Prelude.{◌≡◌};
 ghost use Rattle.crdx.specs.Program.Profiles as spec;
 
@@ -31,6 +31,16 @@ impl Profile {
         match self {
             Profile::Core => Numbers::Integers,
             Profile::Cluster => Numbers::All,
+        }
+    }
+
+    /// The profile that pools are read by.
+    pub(crate) fn rules(self) -> schema::Profile
+        ensures { result ≡ spec.rules_by self }
+    {
+        match self {
+            Profile::Core => schema::Profile::Core,
+            Profile::Cluster => schema::Profile::Cluster,
         }
     }
 }

@@ -30,7 +30,7 @@ abbrev IsSoundBelow : Node → Type 0
 IsSoundBelow N = (p : Place) (M : Node) → node_at N p ≡ Some M → HasSoundItems M × HasSoundJunctors M
 
 no_pools : Pools
-no_pools = record { integers = []; strings = []; names = []; any = []; paths = no_members; present = []; fixed = no_members }
+no_pools = record { integers = []; numbers = []; strings = []; names = []; any = []; paths = no_members; present = []; fixed = no_members }
 
 -- a field after the first has another name
 pub later_field : (l : List ℕ) (N : Node) (required : Bool) (default : Option Data) (fs : Fields) → AreOrdered (field l N required default fs) → (k : List ℕ) (f : Declared) → field_at k fs ≡ Some f → bytes_eq k l ≡ false

@@ -1,5 +1,5 @@
 -- Lists in order, each element once.
-use Rattle.std.proofs.Common.{◌≡◌, ◌∙◌, ℕ, List, [], ◌∷◌, map, refl, ap, sym, subst, inl, inr}
+use Rattle.std.proofs.Common.{◌≡◌, ◌∙◌, ℕ, List, [], ◌∷◌, ◌++◌, true, false, map, refl, ap, sym, subst, inl, inr}
 use Rattle.std.specs.Cmp.{IsTotalOrder}
 use Rattle.std.specs.Ordering.{on}
 use Rattle.std.specs.declared.cmp.Ordering.{Ordering}
@@ -8,7 +8,7 @@ use Rattle.std.proofs.lemmas.Cmp.{nat_list_cmp_total, tied_itself}
 use Rattle.std.proofs.lemmas.Map.Lookups.{exact_bytes}
 use Rattle.jtree.specs.Internal.Rising.{Among, Rising, contains, contained, rising, all_pairs}
 use Rattle.jtree.specs.Internal.OrderLaws.{tree_same}
-use Rattle.jtree.specs.Data.{Data}
+use Rattle.jtree.specs.Data.{Data, boolean}
 use Rattle.jtree.specs.Order.{text_cmp, tree_cmp}
 use Rattle.jtree.specs.View.{data_of, tree_from}
 use Rattle.jtree.specs.declared.value.Tree.{Tree}
@@ -62,6 +62,11 @@ same_tree t u e = sym (tree_back t) ∙ (ap tree_from (tree_same (data_of t) (da
 -- trees put in order are a base of those that they were
 pub base_from : (ds : List Data) (ts us : List Tree) → trees_of ts ≡ ds → (((t u : Tree) → tree_cmp (data_of t) (data_of u) ≡ Equal → t ≡ u) → IsInOrder (on data_of tree_cmp) ts us) → IsBase ds us
 base_from ds ts us e h = subst (λ ds. IsBase ds us) e (in_order_by (λ t. data_of t) tree_cmp ts us (h same_tree))
+
+-- what is added one after the other is one list
+pub scalars_joined : (bs : List Tree) (is ts : List Data) → (trees_of ((bs ++ tree.Bool false ∷ []) ++ tree.Bool true ∷ []) ++ is) ++ ts ≡ trees_of bs ++ (boolean false ∷ boolean true ∷ is ++ ts)
+scalars_joined [] is ts = refl
+scalars_joined (b ∷ bs) is ts = ap (λ ds. data_of b ∷ ds) (scalars_joined bs is ts)
 
 -- ---- lists with the same elements, both in order
 

@@ -19,7 +19,9 @@ pub(crate) struct Values {
     pub null: Tree,
     /// Null, both booleans, the integers and the strings.
     pub scalars: Vec<Tree>,
-    /// The places of each kind among the scalars.
+    /// These and the numbers.
+    pub numbers: Vec<Tree>,
+    /// The places of each kind among the scalars, of numbers among the latter.
     pub kinds: Kinds,
     /// Null, and the values of open nodes.
     pub any: Vec<Tree>,
@@ -48,10 +50,12 @@ impl Values {
     pub(crate) fn new(alloc: Global, pools: &Pools) -> Result<Values, AllocError>
         ensures { IfOk result (λ v. AreValues pools.now v) }
     {
-        let scalars = scalars_of(alloc, pools)?;
+        let scalars = scalars_beside(alloc, pools, &[])?;
+        let numbers = scalars_beside(alloc, pools, pools.numbers())?;
         Ok(Values {
-            kinds: Kinds::new(alloc, &scalars)?,
+            kinds: Kinds::new(alloc, &scalars, &numbers)?,
             scalars,
+            numbers,
             any: with_null(alloc, pools.any())?,
             names: names(alloc, pools.names())?,
             null: Tree::Null,
@@ -59,15 +63,32 @@ impl Values {
     }
 }
 
-/// Null, both booleans, the integers and the strings, in order, each once.
-fn scalars_of(alloc: Global, pools: &Pools) -> Result<Vec<Tree>, AllocError>
-    ensures { IfOk result (λ v. IsBase (null ∷ scalars_of pools.now) v.items) }
+/// Null, these trees, both booleans, the integers and the strings, in order, each once.
+fn scalars_beside(
+    alloc: Global,
+    pools: &Pools,
+    beside: &[Tree],
+) -> Result<Vec<Tree>, AllocError>
+    ensures { IfOk result (λ v. IsBase (null ∷ trees_of beside.now ++ scalars_of pools.now) v.items) }
 {
-    let mut trees = vec![in alloc; Tree::Null, Tree::Bool(false), Tree::Bool(true)]?;
+    let mut trees = vec![in alloc; Tree::Null]?;
+    push_trees(alloc, &mut trees, beside)?;
+    trees.push(Tree::Bool(false))?;
+    trees.push(Tree::Bool(true))?;
     push_integers(&mut trees, pools.integers())?;
     push_texts(alloc, &mut trees, pools.strings())?;
     put_in_order(&mut trees);
     Ok(trees)
+}
+
+/// Adds copies of these trees.
+fn push_trees(alloc: Global, trees: &mut Vec<Tree>, more: &[Tree]) -> Result<(), AllocError>
+    ensures { OnOk result (trees.new.items ≡ trees.old.items ++ more.now) }
+{
+    for tree in more {
+        trees.push(tree.try_clone(alloc)?)?;
+    }
+    Ok(())
 }
 
 /// Adds these integers.
@@ -106,9 +127,7 @@ pub(crate) fn in_order(
     ensures { IfOk result (λ v. IsBase (trees_of first.items ++ trees_of trees.now) v.items) }
 {
     let mut copies = first;
-    for tree in trees {
-        copies.push(tree.try_clone(alloc)?)?;
-    }
+    push_trees(alloc, &mut copies, trees)?;
     put_in_order(&mut copies);
     Ok(copies)
 }

@@ -26,7 +26,7 @@ use Rattle.explain.specs.Paths.FieldPath.{FieldStep, field, item, value, FieldPa
 use Rattle.explain.specs.Paths.PathText.{path_text}
 use Rattle.plan.specs.Pools.Pools.{Pools, items_list, list_at, fixed_at, is_present}
 use Rattle.plan.specs.Samples.Site.{below, fixed_below}
-use Rattle.plan.specs.Samples.Over.{scalars_of, listed, listed_for, is_in, all_names, asks_field, has_present, has_enough, is_over_here, StepFollows, IsOverAlong}
+use Rattle.plan.specs.Samples.Over.{scalars_of, scalars_for, listed, listed_for, is_in, all_names, asks_field, has_present, has_enough, is_over_here, StepFollows, IsOverAlong}
 use Rattle.suggest.specs.Suggested.VariedSamples.{can_be_sampled}
 use Rattle.suggest.specs.Suggested.Chosen.{chosen_values}
 use Rattle.suggest.specs.Suggested.ValuesBelow.{field_values, items_in, item_values, trees_of, names_of, members_in, member_values, member_names}
@@ -299,7 +299,7 @@ boolean_listed P (tree.list ds) e = absurd (cc)
 boolean_listed P (tree.object ms) e = absurd (cc)
 
 without_choices : (P : Pools) (nullable : Bool) (description : Option (List ℕ)) (kind : ScalarKind) (cs : Validations) (v : Data) → (constraints_of cs).choices ≡ None → lists_itself (node nullable description (scalar kind cs)) ≡ true
-    → accepts_scalar kind v ≡ true → is_in v (scalars_of P) ≡ true
+    → accepts_scalar kind v ≡ true → is_in v (scalars_for kind P) ≡ true
 without_choices P nullable description Boolean cs v none itself accepted = boolean_listed P v accepted
 without_choices P nullable description Integer cs v none itself accepted = absurd (let is : is_some {T = Items} None ≡ true = rw none at itself in cc)
 without_choices P nullable description String cs v none itself accepted = absurd (let is : is_some {T = Items} None ≡ true = rw none at itself in cc)

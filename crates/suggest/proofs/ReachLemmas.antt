@@ -35,14 +35,14 @@ use Rattle.jtree.specs.Path.{member_at, under}
 use Rattle.schema.specs.Rules.Keywords.{text_under}
 use Rattle.std.specs.Option.{option_to_list}
 use Rattle.std.specs.List.{fold}
-use Rattle.plan.specs.Samples.Over.{is_in, scalars_of, IsOver}
+use Rattle.plan.specs.Samples.Over.{is_in, scalars_of, scalars_for, IsOver}
 use Rattle.suggest.specs.Suggested.Scalars.{in_scalar, in_branches, in_scalars, in_fields}
 use Rattle.suggest.specs.Suggested.Values.{fits_64_bits, with_neighbours, bounds_with_neighbours, longest, short_length, short_lengths, all_integers, all_lengths}
 use Rattle.suggest.specs.Suggested.Document.{letters, suggested_integers, suggested_strings, members_from, general_of, nothing_wanted, suggestions_by}
 use Rattle.suggest.specs.Suggested.Reached.{HasBoundsAlone, IsBounded, IsWithinReach, suggested_alone, HasCandidateLike}
 use Rattle.suggest.specs.Suggested.Chosen.{with_value, chosen_values}
 use Rattle.suggest.specs.Suggested.Formats.{texts_of_format}
-use Rattle.suggest.specs.Suggested.LeafValues.{General, takes, lists_itself, takes_texts_alone, takes_numbers, other_number, other_bounds, own_values, format_values, few, general_values, hinted_from, hinted_values, leaf_values}
+use Rattle.suggest.specs.Suggested.LeafValues.{General, takes, lists_itself, takes_texts_alone, takes_numbers, other_number, other_bounds, own_values, format_values, few, others_of, general_values, hinted_from, hinted_values, leaf_values}
 use Rattle.suggest.specs.Suggested.Lists.{Entry, lists_at}
 use Rattle.suggest.specs.Suggested.Varied.{Suggestions}
 use Rattle.suggest.proofs.AscendingLemmas.{ascending_has}
@@ -255,6 +255,18 @@ integer_listed P z a = is_listed (tree.integer z) (scalars_of P) (inr (inr (amon
 text_listed : (P : Pools) (t : List ℕ) → Among P.strings t → is_in (tree.text t) (scalars_of P) ≡ true
 text_listed P t a = is_listed (tree.text t) (scalars_of P) (inr (inr (among_right (map (λ z. tree.integer z) P.integers) (map (λ t. tree.text t) P.strings) (tree.text t) (among_map (λ t. tree.text t) P.strings t a))))
 
+in_later : (v : Data) (ds es : List Data) → is_in v es ≡ true → is_in v (ds ++ es) ≡ true
+in_later v [] es there = there
+in_later v (d ∷ ds) es there = rw (in_later v ds es there) (or_true (is_same v d))
+
+-- what is listed for all scalars is listed for those of each kind
+for_kind : (kind : ScalarKind) (P : Pools) (v : Data) → is_in v (scalars_of P) ≡ true → is_in v (scalars_for kind P) ≡ true
+for_kind Number P v there = in_later v P.numbers (scalars_of P) there
+for_kind Boolean P v there = there
+for_kind Integer P v there = there
+for_kind String P v there = there
+for_kind IntOrString P v there = there
+
 -- ---- what is listed for a scalar is over the pools
 
 no_below : (n : Bool) (d : Option (List ℕ)) (kind : ScalarKind) (cs : Validations) (s : Step) → node_below (node n d (scalar kind cs)) s ≡ None
@@ -283,11 +295,11 @@ lists_alone raw root = lists_at (general root) [] None (Some raw) [] root
 fixed_none : (raw : Data) (root : Node) (text : List ℕ) → fixed_at text (Pool raw root) ≡ None
 fixed_none raw root text = ap (λ ms. option_and_then entries_in (member_at text ms)) (pool_fixed standard root [] (said_alone raw root))
 
--- what the pools list at the path, or for all scalars
-abbrev listed_at : Data → Node → List ℕ → List Data
-listed_at raw root at = unwrap_or (list_at at (Pool raw root)) (scalars_of (Pool raw root))
+-- what the pools list at the path, or for all scalars of the kind
+abbrev listed_at : ScalarKind → Data → Node → List ℕ → List Data
+listed_at kind raw root at = unwrap_or (list_at at (Pool raw root)) (scalars_for kind (Pool raw root))
 
-over : (raw : Data) (root : Node) (n : Bool) (d : Option (List ℕ)) (kind : ScalarKind) (t : Constraints) (all any one negated : Branches) (at : List ℕ) (v : Data) → t.choices ≡ None → is_in v (listed_at raw root at) ≡ true
+over : (raw : Data) (root : Node) (n : Bool) (d : Option (List ℕ)) (kind : ScalarKind) (t : Constraints) (all any one negated : Branches) (at : List ℕ) (v : Data) → t.choices ≡ None → is_in v (listed_at kind raw root at) ≡ true
     → IsOver (Pool raw root) None at (node n d (scalar kind (validations t all any one negated))) v
 over raw root n d kind t all any one negated at v none there [] [] = rw (none, there) refl
 over raw root n d kind t all any one negated at v none there [] (s ∷ p) = tt
@@ -343,12 +355,12 @@ taken_parts : (k : ScalarKind) (cs : Validations) (v : Data) → (accepts_scalar
 taken_parts k cs v e = and_parts (accepts_scalar k v) (holds cs v) e
 
 -- a value of the list that is taken there and is of the kind
-record IsChoice (raw : Data) (root : Node) (at : List ℕ) (N : Node) (v : Data) : Type 0 where
+record IsChoice (kind_of : ScalarKind) (raw : Data) (root : Node) (at : List ℕ) (N : Node) (v : Data) : Type 0 where
   pub value : Data
   pub alike : kind value ≡ kind v
   pub tree : IsTree value
   pub stored : IsStored N value
-  pub listed : is_in value (listed_at raw root at) ≡ true
+  pub listed : is_in value (listed_at kind_of raw root at) ≡ true
 
 stored_integer : StoredLaw → (n : Bool) (d : Option (List ℕ)) (k : ScalarKind) (cs : Validations) (z : ℤ) → takes (node n d (scalar k cs)) (tree.integer z) ≡ true → IsStored (node n d (scalar k cs)) (tree.integer z)
 stored_integer law n d k cs z e = (law (node n d (scalar k cs)) (tree.integer z)).1 (taken_parts k cs (tree.integer z) e, tt)
@@ -543,17 +555,17 @@ hinted_taken G n d k cs default schema y a =
           | inl t ↦ (among_kept (takes N) (map (λ s. tree.text s) (texts_of_format (unwrap_or (option_and_then (λ s. text_under s (codes "format")) schema) []))) y (rw t at b)).1
           | inr g ↦ absurd (rw g at b)
         ]
-        | inr (inr b) ↦ elim (among_parts (take few (filter (takes N) G.integers)) (take few (filter (takes N) G.strings)) y b) [ inl c ↦ few_taken G.integers c | inr c ↦ few_taken G.strings c ]
+        | inr (inr b) ↦ elim (among_parts (take few (filter (takes N) G.integers)) (take few (filter (takes N) (others_of G N))) y b) [ inl c ↦ few_taken G.integers c | inr c ↦ few_taken (others_of G N) c ]
       ]
     ]
 
 -- ---- a choice
 
-first_choice : (raw : Data) (root : Node) (at : List ℕ) (ds : List Data) (v : Data) → list_at at (Pool raw root) ≡ Some ds → is_in v ds ≡ true → is_in v (listed_at raw root at) ≡ true
-first_choice raw root at ds v e is = subst (λ xs. is_in v xs ≡ true) (sym (ap (λ o. unwrap_or o (scalars_of (Pool raw root))) e)) is
+first_choice : (kind : ScalarKind) (raw : Data) (root : Node) (at : List ℕ) (ds : List Data) (v : Data) → list_at at (Pool raw root) ≡ Some ds → is_in v ds ≡ true → is_in v (listed_at kind raw root at) ≡ true
+first_choice kind raw root at ds v e is = subst (λ xs. is_in v xs ≡ true) (sym (ap (λ o. unwrap_or o (scalars_for kind (Pool raw root))) e)) is
 
-pool_choice : (raw : Data) (root : Node) (at : List ℕ) (v : Data) → list_at at (Pool raw root) ≡ None → is_in v (scalars_of (Pool raw root)) ≡ true → is_in v (listed_at raw root at) ≡ true
-pool_choice raw root at v e is = subst (λ xs. is_in v xs ≡ true) (sym (ap (λ o. unwrap_or o (scalars_of (Pool raw root))) e)) is
+pool_choice : (kind : ScalarKind) (raw : Data) (root : Node) (at : List ℕ) (v : Data) → list_at at (Pool raw root) ≡ None → is_in v (scalars_of (Pool raw root)) ≡ true → is_in v (listed_at kind raw root at) ≡ true
+pool_choice kind raw root at v e is = subst (λ xs. is_in v xs ≡ true) (sym (ap (λ o. unwrap_or o (scalars_for kind (Pool raw root))) e)) (for_kind kind (Pool raw root) v is)
 
 mapped : (P : Data → Type 0) {X : Type 0} (f : X → Data) (xs : List X) → ((x : X) → Among xs x → P (f x)) → (d : Data) → Among (map f xs) d → P d
 mapped P f [] h d a = absurd a
@@ -579,29 +591,30 @@ pool_lettered root y a = mapped IsLettered (λ n. tree.text (letters n)) (take s
 general_length : (root : Node) (n : Bool) (d : Option (List ℕ)) (k : ScalarKind) (cs : Validations) → length (general_values (general root) (node n d (scalar k cs))) ≤ 60
 general_length root n d k cs =
     let T = takes (node n d (scalar k cs)) in
-    omega (arith, length-append (take few (filter T (suggested_integers root))) (take few (filter T (suggested_strings root))), few_length T (suggested_integers root), few_length T (suggested_strings root))
+    let others = others_of (general root) (node n d (scalar k cs)) in
+    omega (arith, length-append (take few (filter T (suggested_integers root))) (take few (filter T others)), few_length T (suggested_integers root), few_length T others)
 
 integer_choice : StoredLaw → (raw : Data) (root : Node) (at : List ℕ) (n : Bool) (d : Option (List ℕ)) (k : ScalarKind) (cs : Validations) (ds : List Data) (z v : ℤ) → list_at at (Pool raw root) ≡ Some ds → IsHinted root (node n d (scalar k cs)) ds
     → lists_itself (node n d (scalar k cs)) ≡ false → takes_texts_alone (node n d (scalar k cs)) ≡ false → Among (suggested_integers root) (tree.integer z) → takes (node n d (scalar k cs)) (tree.integer z) ≡ true
-    → IsChoice raw root at (node n d (scalar k cs)) (tree.integer v)
+    → IsChoice k raw root at (node n d (scalar k cs)) (tree.integer v)
 integer_choice law raw root at n d k cs ds z v found h itself alone among taken =
     let N = node n d (scalar k cs) in
     let c = some_taken (takes N) (suggested_integers root) (tree.integer z) among taken in
     let f = pool_fitting root c.value c.among in
-    let general_has = among_left (take few (filter (takes N) (suggested_integers root))) (take few (filter (takes N) (suggested_strings root))) c.value c.few in
+    let general_has = among_left (take few (filter (takes N) (suggested_integers root))) (take few (filter (takes N) (others_of (general root) N))) c.value c.few in
     record {
       value = tree.integer f.integer;
       alike = refl;
       tree = f.fits;
       stored = stored_integer law n d k cs f.integer (subst (λ y. takes N y ≡ true) (sym f.is) c.takes);
-      listed = first_choice raw root at ds (tree.integer f.integer) found (subst (λ y. is_in y ds ≡ true) (sym f.is) (general_in root N ds h itself alone (general_length root n d k cs) c.value general_has));
+      listed = first_choice k raw root at ds (tree.integer f.integer) found (subst (λ y. is_in y ds ≡ true) (sym f.is) (general_in root N ds h itself alone (general_length root n d k cs) c.value general_has));
     }
 
-text_choice : StoredLaw → (raw : Data) (root : Node) (at : List ℕ) (n : Bool) (d : Option (List ℕ)) (k : ScalarKind) (cs : Validations) (ds : List Data) (s v : List ℕ) → list_at at (Pool raw root) ≡ Some ds → IsHinted root (node n d (scalar k cs)) ds
-    → lists_itself (node n d (scalar k cs)) ≡ false → takes_texts_alone (node n d (scalar k cs)) ≡ false → Among (suggested_strings root) (tree.text s) → takes (node n d (scalar k cs)) (tree.text s) ≡ true
-    → IsChoice raw root at (node n d (scalar k cs)) (tree.text v)
-text_choice law raw root at n d k cs ds s v found h itself alone among taken =
-    let N = node n d (scalar k cs) in
+text_choice : StoredLaw → (raw : Data) (root : Node) (at : List ℕ) (n : Bool) (d : Option (List ℕ)) (cs : Validations) (ds : List Data) (s v : List ℕ) → list_at at (Pool raw root) ≡ Some ds → IsHinted root (node n d (scalar IntOrString cs)) ds
+    → lists_itself (node n d (scalar IntOrString cs)) ≡ false → takes_texts_alone (node n d (scalar IntOrString cs)) ≡ false → Among (suggested_strings root) (tree.text s) → takes (node n d (scalar IntOrString cs)) (tree.text s) ≡ true
+    → IsChoice IntOrString raw root at (node n d (scalar IntOrString cs)) (tree.text v)
+text_choice law raw root at n d cs ds s v found h itself alone among taken =
+    let N = node n d (scalar IntOrString cs) in
     let c = some_taken (takes N) (suggested_strings root) (tree.text s) among taken in
     let f = pool_lettered root c.value c.among in
     let general_has = among_right (take few (filter (takes N) (suggested_integers root))) (take few (filter (takes N) (suggested_strings root))) c.value c.few in
@@ -609,13 +622,13 @@ text_choice law raw root at n d k cs ds s v found h itself alone among taken =
       value = tree.text f.text;
       alike = refl;
       tree = tt;
-      stored = stored_text law n d k cs f.text (subst (λ y. takes N y ≡ true) (sym f.is) c.takes);
-      listed = first_choice raw root at ds (tree.text f.text) found (subst (λ y. is_in y ds ≡ true) (sym f.is) (general_in root N ds h itself alone (general_length root n d k cs) c.value general_has));
+      stored = stored_text law n d IntOrString cs f.text (subst (λ y. takes N y ≡ true) (sym f.is) c.takes);
+      listed = first_choice IntOrString raw root at ds (tree.text f.text) found (subst (λ y. is_in y ds ≡ true) (sym f.is) (general_in root N ds h itself alone (general_length root n d IntOrString cs) c.value general_has));
     }
 
 -- where texts alone are taken, each value of the list is a text
-string_value : StoredLaw → (raw : Data) (root : Node) (at : List ℕ) (n : Bool) (d : Option (List ℕ)) (cs : Validations) (ds : List Data) (v : List ℕ) (y : Data) → is_in y (listed_at raw root at) ≡ true
-    → takes (node n d (scalar String cs)) y ≡ true → IsChoice raw root at (node n d (scalar String cs)) (tree.text v)
+string_value : StoredLaw → (raw : Data) (root : Node) (at : List ℕ) (n : Bool) (d : Option (List ℕ)) (cs : Validations) (ds : List Data) (v : List ℕ) (y : Data) → is_in y (listed_at String raw root at) ≡ true
+    → takes (node n d (scalar String cs)) y ≡ true → IsChoice String raw root at (node n d (scalar String cs)) (tree.text v)
 string_value law raw root at n d cs ds v (tree.text s) listed taken = record { value = tree.text s; alike = refl; tree = tt; stored = stored_text law n d String cs s taken; listed = listed }
 string_value law raw root at n d cs ds v tree.null listed taken = absurd (cc)
 string_value law raw root at n d cs ds v (tree.boolean b) listed taken = absurd (cc)
@@ -625,18 +638,18 @@ string_value law raw root at n d cs ds v (tree.list es) listed taken = absurd (c
 string_value law raw root at n d cs ds v (tree.object ms) listed taken = absurd (cc)
 
 string_choice : StoredLaw → (raw : Data) (root : Node) (at : List ℕ) (n : Bool) (d : Option (List ℕ)) (cs : Validations) (ds : List Data) (v : List ℕ) → list_at at (Pool raw root) ≡ Some ds → IsHinted root (node n d (scalar String cs)) ds
-    → IsChoice raw root at (node n d (scalar String cs)) (tree.text v)
+    → IsChoice String raw root at (node n d (scalar String cs)) (tree.text v)
 string_choice law raw root at n d cs [] v found h = absurd (h.some refl)
 string_choice law raw root at n d cs (y ∷ ys) v found h =
     let N = node n d (scalar String cs) in
     let among = subst (λ xs. Among xs y) h.is (inl refl) in
     let hinted : Among (hinted_values (general root) N h.default h.schema) y = elim (chosen_only 64 (hinted_values (general root) N h.default h.schema) [] y among) [ inl none ↦ absurd none | inr a ↦ a ] in
-    string_value law raw root at n d cs (y ∷ ys) v y (first_choice raw root at (y ∷ ys) y found (is_listed y (y ∷ ys) (inl refl))) (hinted_taken (general root) n d String cs h.default h.schema y hinted)
+    string_value law raw root at n d cs (y ∷ ys) v y (first_choice String raw root at (y ∷ ys) y found (is_listed y (y ∷ ys) (inl refl))) (hinted_taken (general root) n d String cs h.default h.schema y hinted)
 
 -- ---- a candidate
 
 chosen_candidate : (raw : Data) (root : Node) (p : FieldPath) (n : Bool) (d : Option (List ℕ)) (k : ScalarKind) (t : Constraints) (all any one negated : Branches) (v : Data) → t.choices ≡ None
-    → IsChoice raw root (path_text p) (node n d (scalar k (validations t all any one negated))) v → HasCandidateLike raw root p (node n d (scalar k (validations t all any one negated))) v
+    → IsChoice k raw root (path_text p) (node n d (scalar k (validations t all any one negated))) v → HasCandidateLike raw root p (node n d (scalar k (validations t all any one negated))) v
 chosen_candidate raw root p n d k t all any one negated v none c = record {
   candidate = c.value;
   alike = c.alike;
@@ -656,18 +669,18 @@ module _ (law : StoredLaw) (one_text : OneText) (raw : Data) (root : Node) (orde
   no_choices : is_some t.choices ≡ false
   no_choices = ap is_some bounded.0
 
-  reach_boolean : (k : ScalarKind) (b : Bool) → node_at root (place_of p) ≡ Some (node n d (scalar k cs)) → accepts_scalar k (tree.boolean b) ≡ true → IsStored (node n d (scalar k cs)) (tree.boolean b) → IsChoice raw root (path_text p) (node n d (scalar k cs)) (tree.boolean b)
+  reach_boolean : (k : ScalarKind) (b : Bool) → node_at root (place_of p) ≡ Some (node n d (scalar k cs)) → accepts_scalar k (tree.boolean b) ≡ true → IsStored (node n d (scalar k cs)) (tree.boolean b) → IsChoice k raw root (path_text p) (node n d (scalar k cs)) (tree.boolean b)
   reach_boolean Integer b there accepted stored = absurd (cc)
   reach_boolean String b there accepted stored = absurd (cc)
   reach_boolean Number b there accepted stored = absurd (cc)
   reach_boolean IntOrString b there accepted stored = absurd (cc)
   reach_boolean Boolean b there accepted stored = elim (option_cases (list_at (path_text p) (Pool raw root))) [
-    | inl none ↦ record { value = tree.boolean b; alike = refl; tree = tt; stored = stored; listed = pool_choice raw root (path_text p) (tree.boolean b) none (boolean_listed (Pool raw root) b) }
+    | inl none ↦ record { value = tree.boolean b; alike = refl; tree = tt; stored = stored; listed = pool_choice Boolean raw root (path_text p) (tree.boolean b) none (boolean_listed (Pool raw root) b) }
     | inr f ↦ let h = list_found one_text raw root ordered p (node n d (scalar Boolean cs)) there f.0 f.1 in absurd (h.some h.is)
   ]
 
   listed_integer : (k : ScalarKind) (z v : ℤ) → node_at root (place_of p) ≡ Some (node n d (scalar k cs)) → accepts_scalar k (tree.integer z) ≡ true → holds cs (tree.integer z) ≡ true → Among (suggested_integers root) (tree.integer z)
-      → (ds : List Data) → list_at (path_text p) (Pool raw root) ≡ Some ds → IsChoice raw root (path_text p) (node n d (scalar k cs)) (tree.integer v)
+      → (ds : List Data) → list_at (path_text p) (Pool raw root) ≡ Some ds → IsChoice k raw root (path_text p) (node n d (scalar k cs)) (tree.integer v)
   listed_integer Boolean z v there accepted asked among ds found = absurd (cc)
   listed_integer String z v there accepted asked among ds found = absurd (cc)
   listed_integer Integer z v there accepted asked among ds found =
@@ -678,16 +691,16 @@ module _ (law : StoredLaw) (one_text : OneText) (raw : Data) (root : Node) (orde
       integer_choice law raw root (path_text p) n d IntOrString cs ds z v found (list_found one_text raw root ordered p (node n d (scalar IntOrString cs)) there ds found) no_choices refl among (and_from _ _ accepted asked)
 
   listed_text : (k : ScalarKind) (s v : List ℕ) → node_at root (place_of p) ≡ Some (node n d (scalar k cs)) → accepts_scalar k (tree.text s) ≡ true → holds cs (tree.text s) ≡ true → Among (suggested_strings root) (tree.text s)
-      → (ds : List Data) → list_at (path_text p) (Pool raw root) ≡ Some ds → IsChoice raw root (path_text p) (node n d (scalar k cs)) (tree.text v)
+      → (ds : List Data) → list_at (path_text p) (Pool raw root) ≡ Some ds → IsChoice k raw root (path_text p) (node n d (scalar k cs)) (tree.text v)
   listed_text Boolean s v there accepted asked among ds found = absurd (cc)
   listed_text Integer s v there accepted asked among ds found = absurd (cc)
   listed_text Number s v there accepted asked among ds found = absurd (cc)
   listed_text String s v there accepted asked among ds found =
       string_choice law raw root (path_text p) n d cs ds v found (list_found one_text raw root ordered p (node n d (scalar String cs)) there ds found)
   listed_text IntOrString s v there accepted asked among ds found =
-      text_choice law raw root (path_text p) n d IntOrString cs ds s v found (list_found one_text raw root ordered p (node n d (scalar IntOrString cs)) there ds found) no_choices refl among (and_from _ _ accepted asked)
+      text_choice law raw root (path_text p) n d cs ds s v found (list_found one_text raw root ordered p (node n d (scalar IntOrString cs)) there ds found) no_choices refl among (and_from _ _ accepted asked)
 
-  reach_value : (k : ScalarKind) (v : Data) → node_at root (place_of p) ≡ Some (node n d (scalar k cs)) → IsTree v → IsStored (node n d (scalar k cs)) v → IsWithinReach root v → IsChoice raw root (path_text p) (node n d (scalar k cs)) v
+  reach_value : (k : ScalarKind) (v : Data) → node_at root (place_of p) ≡ Some (node n d (scalar k cs)) → IsTree v → IsStored (node n d (scalar k cs)) v → IsWithinReach root v → IsChoice k raw root (path_text p) (node n d (scalar k cs)) v
   reach_value k tree.null there sound stored within = absurd within
   reach_value k (tree.number s) there sound stored within = absurd within
   reach_value k (tree.list ds) there sound stored within = absurd within
@@ -709,7 +722,7 @@ module _ (law : StoredLaw) (one_text : OneText) (raw : Data) (root : Node) (orde
           alike = refl;
           tree = r.fits;
           stored = (law N (tree.integer r.value)).1 ((accepted, asked), tt);
-          listed = pool_choice raw root (path_text p) (tree.integer r.value) none (integer_listed (Pool raw root) r.value among);
+          listed = pool_choice k raw root (path_text p) (tree.integer r.value) none (integer_listed (Pool raw root) r.value among);
         }
         | inr f ↦ listed_integer k r.value z there accepted asked (among_map (λ z. tree.integer z) (take standard.entries (all_integers root)) r.value taken) f.0 f.1
       ]
@@ -731,7 +744,7 @@ module _ (law : StoredLaw) (one_text : OneText) (raw : Data) (root : Node) (orde
           alike = refl;
           tree = tt;
           stored = (law N (tree.text w)).1 ((accepted, asked), tt);
-          listed = pool_choice raw root (path_text p) (tree.text w) none (text_listed (Pool raw root) w among);
+          listed = pool_choice k raw root (path_text p) (tree.text w) none (text_listed (Pool raw root) w among);
         }
         | inr f ↦ listed_text k w s there accepted asked (among_map (λ n. tree.text (letters n)) (take standard.entries (all_lengths root)) r.0 taken) f.0 f.1
       ]

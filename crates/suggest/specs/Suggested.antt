@@ -5,6 +5,7 @@ pub mod Values
 pub mod Formats
 pub mod Chosen
 pub mod ValuesBelow
+pub mod Halves
 pub mod LeafValues
 pub mod Lists
 pub mod Varied

@@ -263,7 +263,20 @@ fn push_general(
         return push_few(alloc, node, &general.any, values);
     }
     push_few(alloc, node, &general.integers, values)?;
-    push_few(alloc, node, &general.strings, values)
+    push_few(alloc, node, others_of(general, node), values)
+}
+
+/// The values besides the integers: the numbers for a scalar of numbers, else the strings.
+fn others_of<'a>(general: &'a General, node: &Node) -> &'a [Tree]
+    ensures { trees_of result.now ≡ LeafValues.others_of (general_of general.now) (node_of node.now) }
+{
+    match &node.sort {
+        Sort::Scalar(scalar) => match scalar.kind {
+            ScalarKind::Number => general.numbers.as_slice(),
+            _ => general.strings.as_slice(),
+        },
+        _ => general.strings.as_slice(),
+    }
 }
 
 /// Adds the first of those of a pool that are stored there.

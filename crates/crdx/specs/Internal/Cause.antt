@@ -32,6 +32,7 @@ use Rattle.crdx.specs.Program.Requested.{numbers_of, IsRequestedStandard}
 use Rattle.schema.specs.Document.Forms as form
 use Rattle.crdx.specs.Internal.LineProgress.{IsLinesCause}
 use Rattle.crdx.specs.Program.LineAnswers.{AreAnswered}
+use Rattle.schema.specs.declared.profile.Profile.{Profile as Rules}
 use Rattle.plan.specs.Pools.Pools.{Pools as PoolsData}
 use Rattle.plan.specs.declared.pool_limits.PoolLimits.{PoolLimits}
 use Rattle.plan.specs.Pools.PlanFault.{IsFirstBadPath}
@@ -91,13 +92,13 @@ IsSchemaCause has before now arguments cause =
     IsReadCause has before now arguments cause ⊎ ((raw : Raw) × IsRequestedSchema has arguments raw × IsBrokenCause raw cause)
 
 -- why there are no pools
-abbrev pub IsPoolsCause : ReadDocuments → ℕ → ℕ → PoolLimits → Option InputName → Cause → Type 0
-IsPoolsCause has before now limits pools (Read i) = (i ≡ input.Pools) × HasFailed before now
-IsPoolsCause has before now limits pools (Document i fault) = (i ≡ input.Pools) × IsOfBytes fault × IsSomeAnd pools (λ name. has (file_name name) (Err fault))
-IsPoolsCause has before now limits pools (Pools fault) = HasPoolsFault has limits pools fault
-IsPoolsCause has before now limits pools (Place input.Pools code.Form p) = HasPoolsFault has limits pools (Form p)
-IsPoolsCause has before now limits pools NoMemory = Unit {0}
-IsPoolsCause has before now limits pools _ = ⊥
+abbrev pub IsPoolsCause : ReadDocuments → ℕ → ℕ → Rules → PoolLimits → Option InputName → Cause → Type 0
+IsPoolsCause has before now rules limits pools (Read i) = (i ≡ input.Pools) × HasFailed before now
+IsPoolsCause has before now rules limits pools (Document i fault) = (i ≡ input.Pools) × IsOfBytes fault × IsSomeAnd pools (λ name. has (file_name name) (Err fault))
+IsPoolsCause has before now rules limits pools (Pools fault) = HasPoolsFault has rules limits pools fault
+IsPoolsCause has before now rules limits pools (Place input.Pools code.Form p) = HasPoolsFault has rules limits pools (Form p)
+IsPoolsCause has before now rules limits pools NoMemory = Unit {0}
+IsPoolsCause has before now rules limits pools _ = ⊥
 
 -- why there is no plan: a path of the pools is bad
 abbrev pub IsPlanCause : Node → PoolsData → Cause → Type 0

@@ -21,20 +21,21 @@ use Rattle.schema.specs.Nodes.Node.{Node}
 use Rattle.schema.specs.Nodes.ByPlace.{AreNodesOf}
 use Rattle.schema.specs.declared.fault.SFault.{SFault}
 use Rattle.schema.specs.declared.fault.SFault.TheVariants as s
+use Rattle.schema.specs.declared.profile.Profile.{Profile as Rules}
 use Rattle.schema.specs.declared.profile.Profile.TheVariants as judged
 use Rattle.stored.specs.Schemas.Accepted.{IsBroken}
 use Rattle.plan.specs.Pools.Pools.{Pools, AreSmall}
 use Rattle.plan.specs.Pools.Pools as pools
 use Rattle.plan.specs.declared.pool_limits.PoolLimits.{PoolLimits}
-use Rattle.plan.specs.Pools.Document.{HasForm, pools_of}
-use Rattle.plan.specs.Pools.PoolsFault.{IsPoolsFault}
+use Rattle.plan.specs.Pools.Document.{HasFormBy, pools_of}
+use Rattle.plan.specs.Pools.PoolsFault.{IsPoolsFaultBy}
 use Rattle.plan.specs.Pools.PlanFault.{HasGoodPaths}
 use Rattle.plan.specs.Samples.Question.{Question}
 use Rattle.plan.specs.declared.fault.PFault.{PFault}
 use Rattle.plan.specs.declared.fault.PFault.TheVariants as p
 use Rattle.crdx.specs.declared.inputs.InputName.{InputName}
 use Rattle.crdx.specs.Program.Documents.{Read, Documents, file_name}
-use Rattle.crdx.specs.Program.Profiles.{numbers_by}
+use Rattle.crdx.specs.Program.Profiles.{numbers_by, rules_by}
 use Rattle.crdx.specs.Program.Envelope.{body_of}
 use Rattle.crdx.specs.Program.InputFault.{IsOfBytes}
 use Rattle.crdx.specs.Program.Standard.{Standard, by_node, as_written, asks_as_written}
@@ -48,6 +49,10 @@ use Rattle.crdx.specs.declared.walk.line.Envelope.{Envelope}
 -- the numbers that documents may have, by the profile that the arguments name
 abbrev pub numbers_of : CommonArguments → Numbers
 numbers_of arguments = numbers_by arguments.profile
+
+-- the rules by which pools are read, by the same profile
+abbrev pub rules_of : CommonArguments → Rules
+rules_of arguments = rules_by arguments.profile
 
 -- the limits of a definition and of pools that the arguments ask for
 abbrev pub limits_of : CommonArguments → Limits
@@ -104,22 +109,22 @@ abbrev pub IsCrdRefused : Documents → CommonArguments → Type 0
 IsCrdRefused = IsRefusedAs form.object
 
 -- the pools of the document that is named, within the limits, and empty ones where none is
-abbrev pub ArePools : Read → PoolLimits → Option InputName → Pools → Type 0
-ArePools has limits None P = P ≡ record { integers = []; strings = []; names = []; any = []; paths = no_members; fixed = no_members; present = [] }
-ArePools has limits (Some name) P = (document : Data) × has (file_name name) (Ok document) × HasForm document × (P ≡ pools_of document) × AreSmall limits P
+abbrev pub ArePools : Read → Rules → PoolLimits → Option InputName → Pools → Type 0
+ArePools has rules limits None P = P ≡ record { integers = []; numbers = []; strings = []; names = []; any = []; paths = no_members; fixed = no_members; present = [] }
+ArePools has rules limits (Some name) P = (document : Data) × has (file_name name) (Ok document) × HasFormBy rules document × (P ≡ pools_of document) × AreSmall limits P
 
 -- a fault of the document that is named as pools, read within the limits
-abbrev pub HasPoolsFault : Read → PoolLimits → Option InputName → PFault → Type 0
-HasPoolsFault has limits pools fault = IsSomeAnd pools (λ name. (document : Data) × has (file_name name) (Ok document) × (fault ≢ p.NoMemory) × IsPoolsFault limits document fault)
+abbrev pub HasPoolsFault : Read → Rules → PoolLimits → Option InputName → PFault → Type 0
+HasPoolsFault has rules limits pools fault = IsSomeAnd pools (λ name. (document : Data) × has (file_name name) (Ok document) × (fault ≢ p.NoMemory) × IsPoolsFaultBy rules limits document fault)
 
 -- there is no document where one is named, or it has a fault as pools
-abbrev pub ArePoolsRefused : Read → PoolLimits → Option InputName → Type 0
-ArePoolsRefused has limits pools = ((fault : JFault) × IsOfBytes fault × IsSomeAnd pools (λ name. has (file_name name) (Err fault))) ⊎ ((fault : PFault) × HasPoolsFault has limits pools fault)
+abbrev pub ArePoolsRefused : Read → Rules → PoolLimits → Option InputName → Type 0
+ArePoolsRefused has rules limits pools = ((fault : JFault) × IsOfBytes fault × IsSomeAnd pools (λ name. has (file_name name) (Err fault))) ⊎ ((fault : PFault) × HasPoolsFault has rules limits pools fault)
 
 -- the root of the schema that a plan is asked of, and the pools whose paths are judged by it
 pub record AreRootAndPools (has : Documents) (arguments : PlanArguments) (N : Node) (P : Pools) : Type 0 where
   pub root : IsRequestedRoot has arguments.common N
-  pub pools : ArePools (has (numbers_of arguments.common)) (pool_limits_of arguments.common) arguments.pools P
+  pub pools : ArePools (has (numbers_of arguments.common)) (rules_of arguments.common) (pool_limits_of arguments.common) arguments.pools P
 
 -- how many samples the arguments ask for at most: the greatest number that is counted where they ask for all
 abbrev pub total_of : SampleArguments → ℕ
@@ -147,7 +152,7 @@ pub record IsRequested (has : Documents) (arguments : PlanArguments) (q : Questi
   pub asked : IsRequestedCrd has arguments.common group kind raw
   pub unbroken : IsUnbroken (IsBroken raw)
   pub root : AreNodesOf true q.root raw
-  pub pools : ArePools (has (numbers_of arguments.common)) (pool_limits_of arguments.common) arguments.pools q.pools
+  pub pools : ArePools (has (numbers_of arguments.common)) (rules_of arguments.common) (pool_limits_of arguments.common) arguments.pools q.pools
   pub paths : HasGoodPaths q.root q.pools
   pub limit : q.limit ≡ arguments.limit
   pub envelope : e ≡ envelope_for group arguments.common.version.now kind arguments.name

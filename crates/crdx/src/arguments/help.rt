@@ -164,13 +164,14 @@ Codes of an input that is refused:
          values in an enum                 64, with --large  1024
   P1   The pools have the wrong form. They are an object with any of
          integers                a list of integers of 64 bits
+         numbers                 with --profile cluster: a list of numbers
          strings, names          lists of strings
          any                     a list of any values
          paths, fixed            objects of lists of any values
          present                 a list of strings
   P2   The pools are too large: more than 32 names, or more than 64 (with
        --large 1024)
-         integers, strings or values of any
+         integers, numbers, strings or values of any
          paths in paths, fixed or present
          values at a path
        Or `crdx pools` would print such pools, or more than 1 MiB.
@@ -369,6 +370,7 @@ pub(super) const POOLS: CommandHelp = CommandHelp {
 It has at most 64 values in each of these lists:
 
     integers   0, 1, and each minimum and maximum with its two neighbours
+    numbers    the halves after these, where the schema has numbers
     strings    strings of one letter, and of as many letters as each minLength
                and maxLength up to 64 says
     names      two names
@@ -544,6 +546,7 @@ pub(super) const POOLS_OPTION_LONG: &str =
 input. Without it there are none but booleans and those of enums. It
 is an object with any of these members:
   integers  the integers
+  numbers   with --profile cluster: more values of places of numbers
   strings   the strings
   names     the names of members of maps, at most 32
   any       the values of places that the schema leaves open

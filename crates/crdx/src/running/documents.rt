@@ -9,7 +9,7 @@ ghost use Rattle.schema.specs.Nodes.ByPlace.{AreNodesOf};
 ghost use Rattle.schema.specs.Rules.Breaks.{IsUnbroken};
 ghost use Rattle.stored.specs.Schemas.Accepted.{IsBroken};
 ghost use Rattle.crdx.specs.Internal.Cause.{IsReadFailure, IsReadCause, IsReadCauseAs, IsSchemaCause, IsWrittenCause, IsPoolsCause, IsAfterCause, IsTextCause};
-ghost use Rattle.crdx.specs.Program.Requested.{numbers_of, limits_of, pool_limits_of, ArePools, IsAfter};
+ghost use Rattle.crdx.specs.Program.Requested.{numbers_of, rules_of, limits_of, pool_limits_of, ArePools, IsAfter};
 ghost use Rattle.crdx.specs.Program.Requested.{IsRequestedCrd, IsRequestedFrom, IsRequestedWritten, HasPatterns};
 ghost use Rattle.crdx.specs.Program.Documents.{AreAmong, AreLinesAmong, file_name};
 ghost use Rattle.crdx.specs.Program.Envelope.{body_of as body};
@@ -193,8 +193,8 @@ pub(crate) fn pools_of<'a, I: Inputs>(
     arguments: &PlanArguments<'a>,
     inputs: &mut I,
 ) -> Result<PoolsRead, Refusal<'a>>
-    ensures ok { IfOk result (λ read. ArePools (I.has inputs.old (numbers_of arguments.now.common)) (pool_limits_of arguments.now.common) arguments.now.pools read.pools) }
-    ensures cause { IfErr result (λ r. IsPoolsCause (I.has inputs.old (numbers_of arguments.now.common)) (I.failures inputs.old) (I.failures inputs.new) (pool_limits_of arguments.now.common) arguments.now.pools r.cause) }
+    ensures ok { IfOk result (λ read. ArePools (I.has inputs.old (numbers_of arguments.now.common)) (rules_of arguments.now.common) (pool_limits_of arguments.now.common) arguments.now.pools read.pools) }
+    ensures cause { IfErr result (λ r. IsPoolsCause (I.has inputs.old (numbers_of arguments.now.common)) (I.failures inputs.old) (I.failures inputs.new) (rules_of arguments.now.common) (pool_limits_of arguments.now.common) arguments.now.pools r.cause) }
 {
     let Some(name) = arguments.pools else {
         return Ok(PoolsRead {
@@ -203,8 +203,9 @@ pub(crate) fn pools_of<'a, I: Inputs>(
         });
     };
     let document = read_document(inputs, arguments.common.profile, Input::Pools, name)?;
+    let rules = arguments.common.profile.rules();
     let limits = pool_limits_of(&arguments.common);
-    match Pools::read_within(alloc, &document, limits) {
+    match Pools::read_by(alloc, &document, rules, limits) {
         Ok(pools) => Ok(PoolsRead {
             document: Some(document),
             pools,

@@ -94,9 +94,7 @@ fn subject_text(
         Subject::Written(document) => {
             written_text(alloc, document, arguments.version, limits_of(arguments))
         }
-        Subject::Pools(document) => {
-            pools_text(alloc, document, cause, pool_limits_of(arguments))
-        }
+        Subject::Pools(document) => pools_text(alloc, document, cause, arguments),
         Subject::Paths { definition, pools } => {
             path_text(alloc, definition, pools.as_ref(), cause, arguments)
         }

@@ -9,7 +9,7 @@ use crate::support::rows::{Kind, Row, try_tables};
 use enumerate::page;
 use explain::Listing;
 use jtree::{Numbers, Tree};
-use plan::{Plan, Pools};
+use plan::{Plan, PoolLimits, Pools};
 use schema::{
     Crd, Explained, Finding, Limits, Node, Profile, RawSchema, Reading, Refused, SFault, Violation,
     breaks, read_crd_by,
@@ -18,6 +18,7 @@ use std::alloc::{AllocError, Global};
 use std::fmt::Write;
 use std::test::Fail;
 use stored::{Schema, accept, is_stored, valid};
+use suggest::{Wanted, suggested_pools};
 
 /// What is read by a profile of the definition of an object with one field, `x`, of this schema.
 fn crd_by(alloc: Global, profile: Profile, field: &str) -> Result<Result<Crd, SFault>, Fail> {
@@ -219,10 +220,12 @@ impl Kind for ValueRow {
     }
 }
 
-// The fields of a listing: a path and a type a line.
+// The fields of a listing: a path, a type and a default a line.
 static FIELDS: &str = r#"
-3 rows: name | field | out
+5 rows: name | field | out
 a number | {"type":"number"} | /x number
+a default as it is written | {"type":"number","default":0.50} | /x number default 0.50
+a default that is a whole number | {"type":"number","default":1.0} | /x number default 1
 a list of numbers | {"type":"array","items":{"type":"number"}} | /x []number
     > /x/[] number
 a map of objects with a number | {"type":"object","additionalProperties":{"type":"object","properties":{"n":{"type":"number"}}}} | /x map[string]Object
@@ -234,7 +237,12 @@ fn fields(alloc: Global, schema: &Schema) -> Result<String, Fail> {
     let mut lines = String::new(alloc);
     for field in Listing::new(alloc, schema)?.fields() {
         let (path, type_text) = (field.path.as_str(), field.type_text.as_str());
-        writeln!(lines, "{path} {type_text}")?;
+        write!(lines, "{path} {type_text}")?;
+        if let Some(default) = &field.default {
+            let default = default.to_text(alloc)?;
+            write!(lines, " default {default}")?;
+        }
+        lines.push_str("\n")?;
     }
     Ok(lines)
 }
@@ -251,7 +259,23 @@ impl Kind for FieldsRow {
 
 // All samples, one a line.
 static SAMPLES: &str = r#"
-9 rows: name | field | pools | limit | out
+15 rows: name | field | pools | limit | out
+numbers of the pools beside its integers | {"type":"number"} | {"integers":[3],"numbers":[0.5,2,-0.5,2,3]} | 2 | {}
+    > {"x":2}
+    > {"x":3}
+    > {"x":-0.5}
+    > {"x":0.5}
+the same for integers | {"type":"integer"} | {"integers":[3],"numbers":[0.5,2]} | 2 | {}
+    > {"x":3}
+the same for integers and texts | {"x-kubernetes-int-or-string":true} | {"strings":["a"],"numbers":[0.5,2]} | 2 | {}
+    > {"x":"a"}
+numbers within bounds | {"type":"number","minimum":1} | {"integers":[0,2],"numbers":[0.5,1.5]} | 2 | {}
+    > {"x":2}
+    > {"x":1.5}
+numbers beside an enum | {"type":"number","enum":[0.25]} | {"numbers":[0.5,0.25,1]} | 2 | {}
+    > {"x":0.25}
+numbers beside a list for the path | {"type":"number"} | {"numbers":[0.5],"paths":{"/x":[0.25]}} | 2 | {}
+    > {"x":0.25}
 integers of the pools | {"type":"number"} | {"integers":[1,0,1],"strings":["x"],"any":[0.5]} | 2 | {}
     > {"x":0}
     > {"x":1}
@@ -294,7 +318,8 @@ a map list
 /// The pools of a document with any number.
 fn pools_of(alloc: Global, pools: &str) -> Result<Pools, Fail> {
     let document = Tree::from_bytes_with(alloc, pools.as_bytes(), Numbers::All)?;
-    Ok(Pools::read(alloc, &document)?)
+    let (profile, limits) = (Profile::Cluster, PoolLimits::STANDARD);
+    Ok(Pools::read_by(alloc, &document, profile, limits)?)
 }
 
 fn paged(alloc: Global, row: &Row) -> Result<String, Fail> {
@@ -322,6 +347,48 @@ impl Kind for SamplesRow {
         let plain = plainly(alloc, row);
         is_said(report, "the samples by the definitions", plain, row.out())
     }
+}
+
+// The document of pools that is suggested.
+static SUGGESTED: &str = r#"
+6 rows: name | field | document
+a number | {"type":"number"} | {"any":["a",{}],"integers":[0,1],"names":["a","b"],"numbers":[0.5,1.5],"strings":["a"]}
+bounds | {"type":"number","minimum":-1,"maximum":2}
+    | {"any":["a",{}],"integers":[-2,-1,0,1,2,3],"names":["a","b"],"numbers":[-2.5,-1.5,0.5,1.5,2.5,3.5],"strings":["a"]}
+a bound that is a fraction | {"type":"number","minimum":0.25}
+    | {"any":["a",{}],"integers":[0,1],"names":["a","b"],"numbers":[0.5,1.5],"paths":{"/x":[0.25,0,1,0.5,1.5]},"strings":["a"]}
+a default | {"type":"number","default":0.50}
+    | {"any":["a",{}],"integers":[0,1],"names":["a","b"],"numbers":[0.5,1.5],"paths":{"/x":[0.50,0,1,0.5,1.5]},"strings":["a"]}
+below a map and a list | {"type":"object","additionalProperties":{"type":"array","items":{"type":"number","maximum":1}}}
+    | {"any":["a",{}],"integers":[0,1,2],"names":["a","b"],"numbers":[0.5,1.5,2.5],"strings":["a"]}
+no place of numbers | {"type":"integer","maximum":1} | {"any":["a",{}],"integers":[0,1,2],"names":["a","b"],"strings":["a"]}
+"#;
+
+fn suggested(alloc: Global, field: &str) -> Result<String, Fail> {
+    let raw = crd_by(alloc, Profile::Cluster, field)??.raw;
+    let wanted = Wanted {
+        objects: &[],
+        varied: &[],
+        without: &[],
+    };
+    let schema = accepted(alloc, field)?;
+    let document = suggested_pools(alloc, raw.tree(), &schema, &wanted, PoolLimits::STANDARD)?;
+    Ok(document.to_text(alloc)?)
+}
+
+/// The schema of a field, and the pools that are suggested.
+struct SuggestedRow;
+
+impl Kind for SuggestedRow {
+    fn attempt(&self, report: &mut Report, alloc: Global, row: &Row) -> Result<(), Fail> {
+        let found = suggested(alloc, row.text("field"));
+        is_said(report, "the pools", found, row.text("document"))
+    }
+}
+
+#[test]
+fn number_suggestions(rt: HostRuntime) -> Result<(), Fail> {
+    try_tables(&rt, rt.alloc(), &SuggestedRow, &[SUGGESTED])
 }
 
 #[test]

@@ -385,6 +385,9 @@ fn scalars_of(alloc: Global, kind: ScalarKind, pools: &Pools) -> Result<Vec<Tree
     ) {
         push_integers(&mut values, pools)?;
     }
+    if kind == ScalarKind::Number {
+        push_numbers(alloc, &mut values, pools)?;
+    }
     if kind == ScalarKind::String || kind == ScalarKind::IntOrString {
         push_strings(alloc, &mut values, pools)?;
     }
@@ -394,6 +397,13 @@ fn scalars_of(alloc: Global, kind: ScalarKind, pools: &Pools) -> Result<Vec<Tree
 fn push_integers(values: &mut Vec<Tree>, pools: &Pools) -> Result<(), AllocError> {
     for integer in pools.integers() {
         values.push(Tree::Int(*integer))?;
+    }
+    Ok(())
+}
+
+fn push_numbers(alloc: Global, values: &mut Vec<Tree>, pools: &Pools) -> Result<(), AllocError> {
+    for number in pools.numbers() {
+        values.push(copied(alloc, number)?)?;
     }
     Ok(())
 }

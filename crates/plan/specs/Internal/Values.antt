@@ -1,5 +1,5 @@
 -- The values of the pools, and the candidates of a leaf, as a plan keeps them.
-use Rattle.std.specs.Prelude.{◌≡◌, ◌≤◌, ◌↔◌, ℕ, List, [], ◌∷◌, false, Option, Some, None, map, get_or, Contains, AllPairs}
+use Rattle.std.specs.Prelude.{◌≡◌, ◌≤◌, ◌↔◌, ℕ, List, [], ◌∷◌, ◌++◌, false, Option, Some, None, map, get_or, Contains, AllPairs}
 use Rattle.std.specs.declared.cmp.Ordering.{Ordering}
 use Rattle.std.specs.declared.cmp.Ordering.TheVariants.{Less}
 use Rattle.jtree.specs.Data.{Data, null, IsTree}
@@ -63,18 +63,24 @@ places_of k String = k.strings.items
 places_of k Number = k.numbers.items
 places_of k IntOrString = k.integers_and_strings.items
 
--- where the values of each kind are among the trees: each is one node
-abbrev pub AreKinds : List Tree → Kinds → Type 0
-AreKinds ts k = (kind : ScalarKind) (past : Tree) → AreStored 1 (of_kind kind) (trees_of ts) (at_places past ts (places_of k kind))
+-- among which trees the values of a kind are: the first list, or the second for numbers
+abbrev pub by_kind : List Tree → List Tree → ScalarKind → List Tree
+by_kind ts ns Number = ns
+by_kind ts ns _ = ts
+
+-- where the values of each kind are among these trees: each is one node
+abbrev pub AreKinds : List Tree → List Tree → Kinds → Type 0
+AreKinds ts ns k = (kind : ScalarKind) (past : Tree) → AreStored 1 (of_kind kind) (trees_of (by_kind ts ns kind)) (at_places past (by_kind ts ns kind) (places_of k kind))
 
 pub record AreValues (P : Pools) (v : Values) : Type 0 where
   pub scalars : IsBase (null ∷ scalars_of P) v.scalars.items
-  pub kinds : AreKinds v.scalars.items v.kinds
+  pub numbers : IsBase (null ∷ P.numbers ++ scalars_of P) v.numbers.items
+  pub kinds : AreKinds v.scalars.items v.numbers.items v.kinds
   pub any : IsBase (null ∷ P.any) v.any.items
   pub names : v.names.items ≡ in_order P.names
 
 abbrev pub base_of : Values → Base → List Tree
-base_of v Scalars = v.scalars.items
+base_of v (Scalars kind) = by_kind v.scalars.items v.numbers.items kind
 base_of v Any = v.any.items
 base_of v (Own ts) = ts.items
 

@@ -9,6 +9,8 @@ use Rattle.schema.specs.Document.Texts.{is_among}
 use Rattle.schema.specs.Nodes.Node.{Node, node, scalar, object, list, open_, Fields, no_fields}
 use Rattle.schema.specs.Nodes.Node as nodes
 use Rattle.schema.specs.Nodes.ByPlace.{field_at, node_below}
+use Rattle.schema.specs.declared.node.ScalarKind.{ScalarKind}
+use Rattle.schema.specs.declared.node.ScalarKind.TheVariants.{Number}
 use Rattle.stored.specs.Objects.Tests.{is_same}
 use Rattle.stored.specs.Objects.Fault.{is_null, constraints_of, items_count, members_count}
 use Rattle.explain.specs.Paths.FieldPath.{FieldStep, field, item, value, FieldPath, place_step}
@@ -21,14 +23,19 @@ use Rattle.plan.specs.Samples.Site.{below, fixed_below}
 abbrev pub scalars_of : Pools → List Data
 scalars_of P = tree.boolean false ∷ tree.boolean true ∷ map (λ z. tree.integer z) P.integers ++ map (λ t. tree.text t) P.strings
 
+-- for a scalar of numbers the numbers besides
+abbrev pub scalars_for : ScalarKind → Pools → List Data
+scalars_for Number P = P.numbers ++ scalars_of P
+scalars_for _ P = scalars_of P
+
 -- the values of `enum` where it is there, else those of the pools
-abbrev pub choices_or : Option Items → Pools → List Data
-choices_or None P = scalars_of P
-choices_or (Some ds) P = items_list ds
+abbrev pub choices_or : Option Items → List Data → List Data
+choices_or None ds = ds
+choices_or (Some choices) ds = items_list choices
 
 -- what is listed for every scalar or open node that is like this one
 abbrev pub listed_for : Pools → Node → List Data
-listed_for P (node nullable description (scalar kind cs)) = choices_or (constraints_of cs).choices P
+listed_for P (node nullable description (scalar kind cs)) = choices_or (constraints_of cs).choices (scalars_for kind P)
 listed_for P (node nullable description open_) = P.any
 listed_for P _ = []
 

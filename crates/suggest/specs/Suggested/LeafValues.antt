@@ -18,6 +18,7 @@ use Rattle.suggest.specs.Suggested.Formats.{texts_of_format}
 -- suggestions come besides what stands there
 pub record General : Type 0 where
   pub integers : List Data
+  pub numbers : List Data
   pub strings : List Data
   pub any : List Data
   pub limits : PoolLimits
@@ -62,13 +63,18 @@ abbrev pub format_values : Node → Option Data → List Data
 format_values N schema =
     if takes_texts_alone N then filter (takes N) (map (λ t. text t) (texts_of_format (unwrap_or (option_and_then (λ s. text_under s (codes "format")) schema) []))) else []
 
+-- the values besides the integers: the numbers for a scalar of numbers, else the strings
+abbrev pub others_of : General → Node → List Data
+others_of G (node nullable description (scalar Number cs)) = G.numbers
+others_of G _ = G.strings
+
 -- some of the pools
 abbrev pub few : ℕ
 few = 30
 
 abbrev pub general_values : General → Node → List Data
 general_values G (node nullable description open_) = take few (filter (takes (node nullable description open_)) G.any)
-general_values G N = take few (filter (takes N) G.integers) ++ take few (filter (takes N) G.strings)
+general_values G N = take few (filter (takes N) G.integers) ++ take few (filter (takes N) (others_of G N))
 
 -- where it has none of its own, and no text of its format is stored there, the pools serve
 abbrev pub hinted_from : List Data → List Data → List Data → List Data
