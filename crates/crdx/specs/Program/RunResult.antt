@@ -23,7 +23,7 @@ use Rattle.suggest.specs.Suggested.Fault.{IsSuggestFault}
 use Rattle.suggest.specs.Suggested.Wanted.{Wanted as PoolsWanted}
 use Rattle.suggest.specs.declared.fault.SuggestFault.{SuggestFault}
 use Rattle.suggest.specs.declared.fault.SuggestFault.TheVariants as suggest
-use Rattle.crdx.specs.Program.Requested.{numbers_of, pool_limits_of, total_of, IsRequestedFrom, IsRequestedSchema, IsAcceptedSchema, HasAcceptedSchema, IsCrdRefused, IsRefusedAs, AreRootAndPools, IsAfterRefused, IsRequested, IsRequestedWalk, ArePoolsRefused, IsRequestedRoot, IsRequestedStandard, form_asked, HasRefusedPattern, IsRequestedObject, IsObjectRefused}
+use Rattle.crdx.specs.Program.Requested.{numbers_of, pool_limits_of, total_of, IsRequestedFrom, IsRequestedSchema, IsAcceptedSchema, HasAcceptedSchema, IsCrdRefused, AreRootAndPools, IsAfterRefused, IsRequested, IsRequestedWalk, ArePoolsRefused, IsRequestedRoot, IsRequestedStandard, HasRefusedPattern, IsRequestedObject, IsObjectRefused}
 use Rattle.plan.specs.Pools.Pools.{Pools}
 use Rattle.plan.specs.Pools.PlanFault.{HasGoodPaths, IsFirstBadPath}
 use Rattle.plan.specs.Samples.Question.{Question}
@@ -89,9 +89,9 @@ IsSamplingRefused has arguments = IsPlanRefused has arguments.plan
 abbrev pub IsInputRefused : Documents → Request → Type 0
 IsInputRefused has (Check arguments) = IsCrdRefused has arguments
 IsInputRefused has (Explain arguments) = IsCrdRefused has arguments.common
-IsInputRefused has (Object arguments) = IsRefusedAs (form_asked arguments) has arguments.common
+IsInputRefused has (Object arguments) = IsCrdRefused has arguments.common
     ⊎ (((S : Standard) × IsRequestedStandard has arguments S) × IsObjectRefused has arguments)
-IsInputRefused has (ObjectLines arguments) = IsRefusedAs (form_asked arguments) has arguments.common
+IsInputRefused has (ObjectLines arguments) = IsCrdRefused has arguments.common
 IsInputRefused has (SuggestPools arguments) = IsCrdRefused has arguments.common
 IsInputRefused has (Sample arguments) = IsSamplingRefused has arguments
 IsInputRefused has (Cover arguments) = IsPlanRefused has arguments.plan
