@@ -22,6 +22,7 @@ use crate::profile::named;
 use clap::error::ErrorKind;
 use clap::parser::ValueSource;
 use clap::{ArgMatches, Error};
+use schema::Profile;
 use std::alloc::{AllocError, Global};
 
 /// What the arguments ask for; the first of them is the program's name, which is passed over.
