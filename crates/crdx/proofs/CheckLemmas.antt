@@ -17,7 +17,7 @@ use Rattle.crdx.specs.Program.DefinitionLines.{fault_lines, code_of as rule_code
 use Rattle.crdx.specs.Program.PatternLines.{code_of, pattern_lines}
 use Rattle.crdx.specs.Program.RefusedPatterns.{Refused}
 use Rattle.crdx.specs.Program.ViolationLines.{violation_line, violation_lines}
-use Rattle.crdx.specs.declared.profile.Profile.{Profile}
+use Rattle.schema.specs.declared.profile.Profile.{Profile}
 use Rattle.crdx.specs.declared.running.answer.Answer.{Answer}
 use Rattle.crdx.proofs.RunLemmas.{some_break, none_broken}
 

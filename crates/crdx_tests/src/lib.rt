@@ -56,6 +56,7 @@
 //! | `program/presence_cases`, `presence_sample_cases` | junctors that ask which fields an object has: judged and validated, and listed |
 //! | `program/explain_cases`, `leaf_cases` | what `explain` and `leaves` print, and what they refuse |
 //! | `program/explanation_cases`, `large_cases` | what `--why` says below a refusal, and what `--large` lets through |
+//! | `program/fraction_cases` | schemas with numbers and fractions by each profile, for every command |
 //! | `program/profile_cases` | `--profile`: other numbers than integers of 64 bits, schemas as they are written, and their patterns |
 //! | `program/refusal_cases`, `sample_refusal_cases` | inputs that are refused, and which is judged first |
 //! | `program/input_cases` | documents in files, reads that fail after each byte, and which inputs a run reads |

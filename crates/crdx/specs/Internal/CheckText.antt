@@ -13,7 +13,7 @@ use Rattle.definition.specs.declared.finding.Fault.{Fault}
 use Rattle.crdx.specs.Program.CheckAnswer.{Besides, IsBesides, besides_lines, has_status}
 use Rattle.crdx.specs.Program.DefinitionLines.{fault_lines}
 use Rattle.crdx.specs.Program.ViolationLines.{violation_line, explained_lines}
-use Rattle.crdx.specs.declared.profile.Profile.{Profile}
+use Rattle.schema.specs.declared.profile.Profile.{Profile}
 
 -- with the reasons where they are asked for
 abbrev pub IsViolationText : Raw → Bool → List ℕ → Type 0

@@ -16,8 +16,8 @@ use Rattle.crdx.specs.Program.DefinitionLines.{fault_lines}
 use Rattle.crdx.specs.Program.PatternLines.{pattern_lines}
 use Rattle.crdx.specs.Program.RefusedPatterns.{Refused, AreRefusedPatterns}
 use Rattle.crdx.specs.Program.ViolationLines.{violation_lines, explained_lines}
-use Rattle.crdx.specs.declared.profile.Profile.{Profile}
-use Rattle.crdx.specs.declared.profile.Profile.TheVariants.{Core, Cluster}
+use Rattle.schema.specs.declared.profile.Profile.{Profile}
+use Rattle.schema.specs.declared.profile.Profile.TheVariants.{Core, Cluster}
 
 -- ---- the subresource `status` of a version
 

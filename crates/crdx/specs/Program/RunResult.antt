@@ -23,7 +23,7 @@ use Rattle.suggest.specs.Suggested.Fault.{IsSuggestFault}
 use Rattle.suggest.specs.Suggested.Wanted.{Wanted as PoolsWanted}
 use Rattle.suggest.specs.declared.fault.SuggestFault.{SuggestFault}
 use Rattle.suggest.specs.declared.fault.SuggestFault.TheVariants as suggest
-use Rattle.crdx.specs.Program.Requested.{numbers_of, rules_of, pool_limits_of, total_of, IsRequestedFrom, IsRequestedSchema, IsAcceptedSchema, HasAcceptedSchema, IsCrdRefused, IsRefusedAs, AreRootAndPools, IsAfterRefused, IsRequested, IsRequestedWalk, ArePoolsRefused, IsRequestedRoot, IsRequestedStandard, form_asked, HasRefusedPattern, IsRequestedObject, IsObjectRefused}
+use Rattle.crdx.specs.Program.Requested.{numbers_of, pool_limits_of, total_of, IsRequestedFrom, IsRequestedSchema, IsAcceptedSchema, HasAcceptedSchema, IsCrdRefused, AreRootAndPools, IsAfterRefused, IsRequested, IsRequestedWalk, ArePoolsRefused, IsRequestedRoot, IsRequestedStandard, HasRefusedPattern, IsRequestedObject, IsObjectRefused}
 use Rattle.plan.specs.Pools.Pools.{Pools}
 use Rattle.plan.specs.Pools.PlanFault.{HasGoodPaths, IsFirstBadPath}
 use Rattle.plan.specs.Samples.Question.{Question}
@@ -79,7 +79,7 @@ pub data IsAnswer (has : Documents) : Request → ℕ → List ℕ → Type 0 wh
 -- document is, and the tree to go on from only where all paths are
 abbrev pub IsPlanRefused : Documents → PlanArguments → Type 0
 IsPlanRefused has arguments = IsCrdRefused has arguments.common
-    ⊎ ((HasAcceptedSchema has arguments.common × ArePoolsRefused (has (numbers_of arguments.common)) (rules_of arguments.common) (pool_limits_of arguments.common) arguments.pools)
+    ⊎ ((HasAcceptedSchema has arguments.common × ArePoolsRefused (has (numbers_of arguments.common)) arguments.common.profile (pool_limits_of arguments.common) arguments.pools)
     ⊎ ((N : Node) × (P : Pools) × AreRootAndPools has arguments N P × (text : List ℕ) × IsFirstBadPath N P text))
 
 abbrev pub IsSamplingRefused : Documents → SampleArguments → Type 0
@@ -89,9 +89,9 @@ IsSamplingRefused has arguments = IsPlanRefused has arguments.plan
 abbrev pub IsInputRefused : Documents → Request → Type 0
 IsInputRefused has (Check arguments) = IsCrdRefused has arguments
 IsInputRefused has (Explain arguments) = IsCrdRefused has arguments.common
-IsInputRefused has (Object arguments) = IsRefusedAs (form_asked arguments) has arguments.common
+IsInputRefused has (Object arguments) = IsCrdRefused has arguments.common
     ⊎ (((S : Standard) × IsRequestedStandard has arguments S) × IsObjectRefused has arguments)
-IsInputRefused has (ObjectLines arguments) = IsRefusedAs (form_asked arguments) has arguments.common
+IsInputRefused has (ObjectLines arguments) = IsCrdRefused has arguments.common
 IsInputRefused has (SuggestPools arguments) = IsCrdRefused has arguments.common
 IsInputRefused has (Sample arguments) = IsSamplingRefused has arguments
 IsInputRefused has (Cover arguments) = IsPlanRefused has arguments.plan

@@ -503,16 +503,18 @@ pub(super) const WHY_LONG: &str = "Prints below the line of a rule each reason: 
 wrong with it, and what can be done. Below the line of any other
 refusal: what was found, and what is allowed.";
 
-pub(super) const PROFILE: &str = "How documents are read: core or cluster";
+pub(super) const PROFILE: &str = "How documents and schemas are read: core or cluster";
 
 pub(super) const PROFILE_LONG: &str =
     "core, which is usual, reads integers of 64 bits alone, and refuses a
 document that has another number (J1). cluster reads each number of
 JSON within the range of floats, as a cluster does: 1.0 and 1e2 are
 the integers 1 and 100, and 0.5 stays as it is written. With cluster
-`validate` judges an object by the schema as it is written, as the API
-server does, and `check` compiles the patterns of the schema.
-Elsewhere schemas are judged alike under both.";
+`type: number` and bounds that are fractions are accepted, keywords
+have the forms that a cluster reads, `validate` judges an object by
+the schema as it is written, as the API server does, and `check`
+compiles the patterns of the schema. All else is judged alike under
+both.";
 
 pub(super) const FROM: &str = "A JSON file of objects whose values are listed";
 

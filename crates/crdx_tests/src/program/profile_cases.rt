@@ -56,8 +56,8 @@ on lines | crdx validate crd.json v1 object.json --lines --profile cluster | @PL
 completed on lines | crdx default crd.json v1 object.json --lines --profile cluster | @PLACES | {"o":0.50}␊{"o":-0}␊ | 0
     > {"o":0.50}
     > {"o":0}
-a bound that is no integer | crdx check crd.json v1 --profile cluster | {"type":"object","properties":{"a":{"type":"integer","minimum":0.5}}} | {} | 3
-    ! crdx: crd: S3 "/properties/a/minimum"
+a bound that is no integer | crdx check crd.json v1 --profile cluster | {"type":"object","properties":{"a":{"type":"integer","minimum":0.5}}} | {} | 0
+    > structural
 a whole bound | crdx check crd.json v1 --profile cluster | {"type":"object","properties":{"a":{"type":"integer","minimum":1.0}}} | {} | 0
     > structural
 samples over fractions | crdx sample crd.json v1 --pools pools.json --limit 2 --profile cluster
@@ -247,8 +247,8 @@ in branches of junctors | crdx check crd.json v1 --profile cluster
 beside no type | crdx check crd.json v1 --profile cluster | {"type":"object","properties":{"a":{"pattern":"("},"b":{"type":"string","default":1}}} | - | 1
     > V01 "/properties/a"
     > C01 "/properties/a"
-what is no text | crdx check crd.json v1 --profile cluster | {"type":"object","properties":{"a":{"type":"string","pattern":1}}} | - | 1
-    > V17 "/properties/a"
+what is no text | crdx check crd.json v1 --profile cluster | {"type":"object","properties":{"a":{"type":"string","pattern":1}}} | - | 3
+    ! crdx: crd: S3 "/properties/a/pattern"
 good ones alone | crdx check crd.json v1 --profile cluster | @PATTERN | - | 1
     > V17 "/properties/a"
 none | crdx check crd.json v1 --profile cluster | {"type":"object","properties":{"a":{},"pattern":{"type":"string"}}} | - | 1

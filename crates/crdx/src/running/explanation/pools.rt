@@ -195,7 +195,7 @@ pub(crate) fn path_text(
     };
     let crd = crd_again(alloc, definition, arguments)?;
     let schema = accept(alloc, crd.raw).map_err(|_| AllocError)?;
-    let (rules, limits) = (arguments.profile.rules(), pool_limits_of(arguments));
+    let (rules, limits) = (arguments.profile, pool_limits_of(arguments));
     let pools = Pools::read_by(alloc, document, rules, limits).map_err(|_| AllocError)?;
     Ok(Some(String::from_str(alloc, refused_path_text(&schema, &pools, path.as_str()))?))
 }

@@ -1,13 +1,13 @@
 use Rattle.std.proofs.Common.{subst}
 use Rattle.jtree.specs.View.{data_of}
 use Rattle.plan.specs.Pools.PoolsFault.{IsPoolsFaultBy}
-use Rattle.crdx.specs.Program.Requested.{numbers_of, rules_of, pool_limits_of}
+use Rattle.crdx.specs.Program.Requested.{numbers_of, pool_limits_of}
 use Rattle.crdx.proofs.RunLemmas.{cause_of_pools_fault}
 use Rattle.crdx.proofs.running.documents.pools_of.Goals as goal
 
 pub returns-in-Err-clause-cause : goal.returns-in-Err-clause-cause
 returns-in-Err-clause-cause g c =
-    let rules = rules_of c.args.arguments.now.common in
+    let rules = c.args.arguments.now.common.profile in
     let limits = pool_limits_of c.args.arguments.now.common in
     let document = data_of c.in_ok-document.document in
     let ruled = subst (λ r. IsPoolsFaultBy r c.pool_limits_of-limits.result document c.in-Err.fault) c.rules-rules.ensures c.in-Err.ensures.err in
