@@ -64,11 +64,7 @@ impl Values {
 }
 
 /// Null, these trees, both booleans, the integers and the strings, in order, each once.
-fn scalars_beside(
-    alloc: Global,
-    pools: &Pools,
-    beside: &[Tree],
-) -> Result<Vec<Tree>, AllocError>
+fn scalars_beside(alloc: Global, pools: &Pools, beside: &[Tree]) -> Result<Vec<Tree>, AllocError>
     ensures { IfOk result (λ v. IsBase (null ∷ trees_of beside.now ++ scalars_of pools.now) v.items) }
 {
     let mut trees = vec![in alloc; Tree::Null]?;

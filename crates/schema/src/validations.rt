@@ -123,11 +123,7 @@ fn read_junctor(
 
 /// A branch for each schema of a list.
 #[cycle(validations)]
-fn read_branches(
-    alloc: Global,
-    profile: Profile,
-    items: &Items,
-) -> Result<Branches, AllocError>
+fn read_branches(alloc: Global, profile: Profile, items: &Items) -> Result<Branches, AllocError>
     ensures { IfOk result (λ b. AreBranchesOf profile b items.now) }
 {
     let mut branches = Vec::with_capacity(alloc, items.items.len())?;
@@ -139,11 +135,7 @@ fn read_branches(
 
 /// The branch of `not`, where it is there.
 #[cycle(validations)]
-fn read_negated(
-    alloc: Global,
-    profile: Profile,
-    schema: &Tree,
-) -> Result<Branches, AllocError>
+fn read_negated(alloc: Global, profile: Profile, schema: &Tree) -> Result<Branches, AllocError>
     ensures { IfOk result (λ b. AreBranchesOf profile b (one_item (under (data_of schema.now) (codes "not")))) }
 {
     let mut branches = Vec::new(alloc);

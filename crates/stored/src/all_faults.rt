@@ -15,8 +15,8 @@ ghost use Rattle.stored.specs.Internal.FailuresByLevel.{progress, noted, added, 
 ghost use Rattle.stored.specs.Internal.FailuresByLevel.{field_parts, dropped, members_before, first_at, FailsWithin};
 
 use crate::constraints::{
-    accepts_scalar, is_above, fails_maximum, is_below, fails_minimum, fails_enum,
-    fails_most_length, fails_least_length, meets_junctors,
+    accepts_scalar, fails_enum, fails_least_length, fails_maximum, fails_minimum,
+    fails_most_length, is_above, is_below, meets_junctors,
 };
 use crate::fault::Fault;
 use crate::repetition::repeats;

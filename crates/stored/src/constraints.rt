@@ -143,7 +143,8 @@ fn meets_constraints(constraints: &Constraints, tree: &Tree) -> bool
     !fails_enum(constraints, tree)
         && (!fails_minimum(constraints, tree)
             && (!fails_maximum(constraints, tree)
-                && (!fails_least_length(constraints, tree) && !fails_most_length(constraints, tree))))
+                && (!fails_least_length(constraints, tree)
+                    && !fails_most_length(constraints, tree))))
 }
 
 /// Whether there are members of all these names.

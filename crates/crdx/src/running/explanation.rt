@@ -131,7 +131,5 @@ fn crd_again(
     document: &Tree,
     arguments: &CommonArguments<'_>,
 ) -> Result<Crd, AllocError> {
-    read_crd_by(alloc, document, arguments.version, reading_of(arguments)).map_err(
-        |_| AllocError,
-    )
+    read_crd_by(alloc, document, arguments.version, reading_of(arguments)).map_err(|_| AllocError)
 }
