@@ -193,21 +193,23 @@ fn write_value(said: &mut String, value: &Value) -> Result<(), Fail> {
 
 #[cycle(write_value)]
 fn write_values(said: &mut String, values: &Values) -> Result<(), Fail> {
-    let mut before = "[";
+    said.push_str("[")?;
+    let mut is_first = true;
     for value in &values.values {
-        said.push_str(before)?;
+        said.push_str(if is_first { "" } else { ", " })?;
         write_value(said, value)?;
-        before = ", ";
+        is_first = false;
     }
-    said.push_str(if values.values.is_empty() { "[]" } else { "]" })?;
+    said.push_str("]")?;
     Ok(())
 }
 
 #[cycle(write_value)]
 fn write_entries(said: &mut String, entries: &Entries) -> Result<(), Fail> {
-    let mut before = "{";
+    said.push_str("{")?;
+    let mut is_first = true;
     for entry in &entries.entries {
-        said.push_str(before)?;
+        said.push_str(if is_first { "" } else { ", " })?;
         match &entry.key {
             Key::Bool(b) => write!(said, "{b}")?,
             Key::Int(n) => write!(said, "{n}")?,
@@ -215,13 +217,9 @@ fn write_entries(said: &mut String, entries: &Entries) -> Result<(), Fail> {
         }
         said.push_str(": ")?;
         write_value(said, &entry.value)?;
-        before = ", ";
+        is_first = false;
     }
-    said.push_str(if entries.entries.is_empty() {
-        "{}"
-    } else {
-        "}"
-    })?;
+    said.push_str("}")?;
     Ok(())
 }
 
