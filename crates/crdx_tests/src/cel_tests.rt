@@ -1,3 +1,4 @@
-//! Tests of `cel_read` and `cel_parse`.
+//! Tests of `cel_read`, `cel_parse` and `cel_eval`.
+mod eval_cases;
 mod token_cases;
 mod tree_cases;

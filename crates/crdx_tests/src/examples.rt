@@ -98,6 +98,24 @@ fn tree_of_an_expression(rt: HostRuntime) -> Result<(), Fail> {
 }
 
 #[test]
+fn values_of_expressions(rt: HostRuntime) -> Result<(), Fail> {
+    let one = cel_value::Value::Int(1);
+    assert!(rt; one.is_same(&cel_value::Value::Int(1)));
+    assert!(rt; !one.is_same(&cel_value::Value::Null));
+    Ok(())
+}
+
+#[test]
+fn value_of_an_expression(rt: HostRuntime) -> Result<(), Fail> {
+    let alloc = rt.alloc();
+    let tokens = cel_read::tokens(alloc, "[1, 2].exists(x, x == 2) || 1 / 0 > 1")?;
+    let expr = cel_parse::parse(alloc, tokens.as_slice(), cel_parse::MOST_NESTED)?;
+    let answer = cel_eval::eval(alloc, &expr, &cel_eval::Env::Empty)?;
+    assert!(rt; matches!(answer, cel_eval::Answer::Made(cel_value::Value::Bool(true))));
+    Ok(())
+}
+
+#[test]
 fn judge(rt: HostRuntime) -> Result<(), Fail> {
     let alloc = rt.alloc();
     let mut tests = OneFormat::new(alloc)?;

@@ -1,0 +1,3 @@
+-- What only contracts of private functions and proofs need.
+pub mod Numbers
+pub mod Views

@@ -1,0 +1,3 @@
+-- Lemmas.
+mod TextLemmas
+mod SameLemmas
