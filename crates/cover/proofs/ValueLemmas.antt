@@ -5,6 +5,7 @@ use Rattle.jtree.specs.Data.{Data}
 use Rattle.jtree.specs.View.{data_of}
 use Rattle.jtree.specs.declared.value.Tree.{Tree}
 use Rattle.schema.specs.Document.Places.{Place}
+use Rattle.schema.specs.Document.Raw.{Raw}
 use Rattle.schema.specs.Nodes.Items.{HasKeys, HasSoundItems}
 use Rattle.schema.specs.Nodes.Node.{Node, Validations, node, scalar, object, list, open_}
 use Rattle.schema.specs.Nodes.Node as nodes
@@ -31,7 +32,7 @@ use Rattle.cover.proofs.NarrowLemmas.{node_after}
 use Rattle.cover.proofs.PathLemmas.{OneText}
 
 abbrev pub ItemsLaw : Type 0
-ItemsLaw = (raw : Data) (root : Node) → shape.IsRootOf root raw → (p : Place) (M : Node) → node_at root p ≡ Some M → HasSoundItems M
+ItemsLaw = (raw : Raw) (root : Node) → shape.IsRootOf root raw → (p : Place) (M : Node) → node_at root p ≡ Some M → HasSoundItems M
 
 sound_items : ItemsLaw → (root : Node) → IsSchema root → (p : Place) (M : Node) → node_at root p ≡ Some M → HasSoundItems M
 sound_items law root h p M at = law h.0 root (record { forms = h.1.forms; unbroken = λ p r b. h.1.unbroken p r (inl b); nodes = h.1.nodes }) p M at

@@ -5,6 +5,7 @@ use Rattle.cover.specs.Cover.{objects_of}
 use Rattle.std.specs.Io.KnownBytes.{Appends, Keeps}
 use Rattle.jtree.specs.Data.{Data}
 use Rattle.jtree.specs.Internal.Rising.{contained}
+use Rattle.schema.specs.Document.Raw.{Raw}
 use Rattle.schema.specs.Nodes.Node.{Node}
 use Rattle.schema.specs.Nodes.ByPlace.{AreNodesOf}
 use Rattle.schema.specs.Rules.Breaks.{Break, Breaking, AreViolations, IsUnbroken, reported, reported_of}
@@ -88,7 +89,7 @@ module _ (has : Documents) (unread read : ℕ) (arguments : CommonArguments) whe
   input_of_reading f request _ refuse why = absurd why
 
   -- the breaks that violations report
-  pub broken : (raw : Data) (vs : List Violation) → IsRequestedSchema has arguments raw → AreViolations (IsBroken raw) vs → vs ≢ []
+  pub broken : (raw : Raw) (vs : List Violation) → IsRequestedSchema has arguments raw → AreViolations (IsBroken raw) vs → vs ≢ []
       → (breaks : List Break) × (map reported vs ≡ map reported_of breaks) × HasBreaks has arguments breaks
   broken raw vs asked are some = (are.0, are.2, (raw, asked, are.1, some_break vs are.0 are.2 some))
 
@@ -97,12 +98,12 @@ pub none_broken : (rules : Breaking) → AreViolations rules [] → IsUnbroken r
 none_broken rules ([], are, same) p r is = absurd (contained [] _ (are.all p r is))
 none_broken rules (b ∷ breaks, are, same) p r is = cc
 
-pub refused_schema : (raw : Data) (r : Refused) → IsRefusal raw r → IsBrokenCause raw (cause_of_refusal r)
+pub refused_schema : (raw : Raw) (r : Refused) → IsRefusal raw r → IsBrokenCause raw (cause_of_refusal r)
 refused_schema raw (refusal.Violations vs) is = is
 refused_schema raw refusal.NoMemory is = tt
 
 module _ (has : Documents) (unread read : ℕ) (arguments : CommonArguments) (request : Request) (no : (breaks : List Break) → HasBreaks has arguments breaks → IsAnswer has request 1 []) where
-  input_of_broken : (raw : Data) (cause : Cause) → IsRequestedSchema has arguments raw → IsBrokenCause raw cause → IsInputCause has unread read request cause
+  input_of_broken : (raw : Raw) (cause : Cause) → IsRequestedSchema has arguments raw → IsBrokenCause raw cause → IsInputCause has unread read request cause
   input_of_broken raw (Violations vs) asked why = let found = broken has unread read arguments raw vs.items asked why.0 why.1 in no found.0 found.2
   input_of_broken raw NoMemory asked why = tt
   input_of_broken raw _ asked why = absurd why
@@ -113,7 +114,7 @@ module _ (has : Documents) (unread read : ℕ) (arguments : CommonArguments) (re
   input_of_schema cause refuse (inr why) = input_of_broken why.0 cause why.1 why.2
 
 -- the root of the schema that was read
-pub requested_root : (has : Documents) (arguments : CommonArguments) (group kind : List ℕ) (N : Node) → ((raw : Data) × IsRequestedCrd has arguments group kind raw × IsUnbroken (IsBroken raw) × AreNodesOf true N raw)
+pub requested_root : (has : Documents) (arguments : CommonArguments) (group kind : List ℕ) (N : Node) → ((raw : Raw) × IsRequestedCrd has arguments group kind raw × IsUnbroken (IsBroken raw) × AreNodesOf true N raw)
     → IsRequestedRoot has arguments N
 requested_root has arguments group kind N (raw, asked, unbroken, nodes) = (raw, record { asked = (group, (kind, asked)); unbroken = unbroken }, nodes)
 

@@ -41,6 +41,7 @@
 //! | `enumerate_tests/reference_cases` | the plain reference, and walks, against lists made by hand |
 //! | `enumerate_tests/small_plan_cases` | 2,124 small plans against the plain reference: their nodes, their pages and what is stored |
 //! | `enumerate_tests/stored_cases` | what is stored, by the plain reference and by `stored`, against values that were judged by hand |
+//! | `enumerate_tests/number_cases` | schemas by the profile of a cluster, whose scalars may be numbers: what is broken, nodes, values, fields and samples |
 //! | `enumerate_tests/wide_cases` | plans over words of 128 bits |
 //! | `program/argument_cases` | what the arguments ask for |
 //! | `program/help_cases` | mistakes in the arguments, and help |

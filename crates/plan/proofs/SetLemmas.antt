@@ -10,7 +10,7 @@ use Rattle.schema.specs.Nodes.Node.{Node, node, scalar, object, list, open_}
 use Rattle.schema.specs.Nodes.Node as nodes
 use Rattle.schema.specs.Nodes.Items.{IsPlainScalar}
 use Rattle.schema.specs.declared.node.ScalarKind.{ScalarKind}
-use Rattle.schema.specs.declared.node.ScalarKind.TheVariants.{Boolean, Integer, String, IntOrString}
+use Rattle.schema.specs.declared.node.ScalarKind.TheVariants.{Boolean, Integer, Number, String, IntOrString}
 use Rattle.stored.specs.Objects.Tests.{accepts_scalar, is_same}
 use Rattle.stored.specs.Objects.StoredByParts.{IsValidHere}
 use Rattle.plan.specs.Pools.Pools.{Pools}
@@ -33,6 +33,8 @@ plain_leaf (node n t open_) plain = absurd plain
 one_node : (kind : ScalarKind) (v : Data) → accepts_scalar kind v ≡ true → node_count v ≡ 1
 one_node Boolean (tree.boolean b) e = refl
 one_node Integer (tree.integer z) e = refl
+one_node Number (tree.integer z) e = refl
+one_node Number (tree.number s) e = refl
 one_node String (tree.text s) e = refl
 one_node IntOrString (tree.integer z) e = refl
 one_node IntOrString (tree.text s) e = refl

@@ -21,6 +21,8 @@ use std::alloc::{AllocError, Global};
 pub(crate) struct Kinds {
     pub booleans: Vec<usize>,
     pub integers: Vec<usize>,
+    /// Integers and other numbers.
+    pub numbers: Vec<usize>,
     pub strings: Vec<usize>,
     pub integers_and_strings: Vec<usize>,
 }
@@ -33,6 +35,7 @@ impl Kinds {
         Ok(Kinds {
             booleans: places_of_kind(alloc, ScalarKind::Boolean, trees)?,
             integers: places_of_kind(alloc, ScalarKind::Integer, trees)?,
+            numbers: places_of_kind(alloc, ScalarKind::Number, trees)?,
             strings: places_of_kind(alloc, ScalarKind::String, trees)?,
             integers_and_strings: places_of_kind(alloc, ScalarKind::IntOrString, trees)?,
         })
@@ -45,6 +48,7 @@ impl Kinds {
         match kind {
             ScalarKind::Boolean => &self.booleans,
             ScalarKind::Integer => &self.integers,
+            ScalarKind::Number => &self.numbers,
             ScalarKind::String => &self.strings,
             ScalarKind::IntOrString => &self.integers_and_strings,
         }
@@ -131,6 +135,7 @@ fn has_no_constraints(constraints: &Constraints) -> bool
                 least: None,
                 most: None,
             },
+            written: None,
             required,
         } => required.names.is_empty(),
         _ => false,

@@ -1,6 +1,6 @@
 //! The nodes of a schema.
 use crate::names::Names;
-use jtree::{Items, Text, Tree};
+use jtree::{Items, Members, Text, Tree};
 use std::marker::Model;
 
 /// The kinds of value that a scalar node accepts: booleans, integers, strings, or both integers and strings.
@@ -8,6 +8,8 @@ use std::marker::Model;
 pub enum ScalarKind {
     Boolean,
     Integer,
+    /// Integers and other numbers.
+    Number,
     String,
     IntOrString,
 }
@@ -45,6 +47,8 @@ pub struct Constraints {
     pub exclusive_minimum: bool,
     pub exclusive_maximum: bool,
     pub lengths: Bounds,
+    /// The schema as it is written, where a cluster asks by it: then what stands above is not asked.
+    pub written: Option<Members>,
     /// The names of the members that must be there (`required`).
     pub required: Names,
 }

@@ -25,7 +25,7 @@ use Rattle.schema.specs.Nodes.Node.{Validations, validations, Branches, Node, no
 use Rattle.schema.specs.Nodes.ByPlace.{field_at, node_below, node_at}
 use Rattle.schema.specs.declared.node.Constraints.{Constraints}
 use Rattle.schema.specs.declared.node.ScalarKind.{ScalarKind}
-use Rattle.schema.specs.declared.node.ScalarKind.TheVariants.{Boolean, Integer, String, IntOrString}
+use Rattle.schema.specs.declared.node.ScalarKind.TheVariants.{Boolean, Integer, Number, String, IntOrString}
 use Rattle.stored.specs.Objects.Becomes.{IsStored}
 use Rattle.stored.specs.Objects.Tests.{accepts_scalar, is_same, is_below, is_above, is_below_minimum, is_above_maximum, meets_constraints, meets_branch, holds}
 use Rattle.explain.specs.Paths.FieldPath.{FieldPath, place_step, place_of}
@@ -42,7 +42,7 @@ use Rattle.suggest.specs.Suggested.Document.{letters, suggested_integers, sugges
 use Rattle.suggest.specs.Suggested.Reached.{HasBoundsAlone, IsBounded, IsWithinReach, suggested_alone, HasCandidateLike}
 use Rattle.suggest.specs.Suggested.Chosen.{with_value, chosen_values}
 use Rattle.suggest.specs.Suggested.Formats.{texts_of_format}
-use Rattle.suggest.specs.Suggested.LeafValues.{General, takes, lists_itself, takes_texts_alone, own_values, format_values, few, general_values, hinted_from, hinted_values, leaf_values}
+use Rattle.suggest.specs.Suggested.LeafValues.{General, takes, lists_itself, takes_texts_alone, takes_numbers, other_number, other_bounds, own_values, format_values, few, general_values, hinted_from, hinted_values, leaf_values}
 use Rattle.suggest.specs.Suggested.Lists.{Entry, lists_at}
 use Rattle.suggest.specs.Suggested.Varied.{Suggestions}
 use Rattle.suggest.proofs.AscendingLemmas.{ascending_has}
@@ -308,9 +308,9 @@ two_fail true b e = absurd (cc)
 bounds_alone : (t : Constraints) (all any one negated : Branches) (v : Data) → HasBoundsAlone (validations t all any one negated) → holds (validations t all any one negated) v ≡ meets_branch v t
 bounds_alone t all any one negated v h = rw (h.1, h.2, h.3, h.4) (and_true (meets_branch v t))
 
-integer_test : (t : Constraints) (z : ℤ) → t.choices ≡ None
+integer_test : (t : Constraints) (z : ℤ) → t.choices ≡ None → t.written ≡ None
     → meets_constraints t (tree.integer z) ≡ (not (is_below_minimum t.minimum t.exclusive_minimum (tree.integer z)) && not (is_above_maximum t.maximum t.exclusive_maximum (tree.integer z)))
-integer_test t z none = rw (none, and_true) refl
+integer_test t z none unwritten = rw (unwritten, none, and_true) refl
 
 low_text : (min : Option ℤ) (e : Bool) (s : List ℕ) → is_below_minimum min e (tree.text s) ≡ false
 low_text None e s = refl
@@ -320,19 +320,21 @@ high_text : (max : Option ℤ) (e : Bool) (s : List ℕ) → is_above_maximum ma
 high_text None e s = refl
 high_text (Some m) e s = refl
 
-text_test : (t : Constraints) (s : List ℕ) → t.choices ≡ None → meets_constraints t (tree.text s) ≡ (not (is_below t.lengths.least (length (chars s))) && not (is_above t.lengths.most (length (chars s))))
-text_test t s none = rw (none, low_text t.minimum t.exclusive_minimum s, high_text t.maximum t.exclusive_maximum s) refl
+text_test : (t : Constraints) (s : List ℕ) → t.choices ≡ None → t.written ≡ None → meets_constraints t (tree.text s) ≡ (not (is_below t.lengths.least (length (chars s))) && not (is_above t.lengths.most (length (chars s))))
+text_test t s none unwritten = rw (unwritten, none, low_text t.minimum t.exclusive_minimum s, high_text t.maximum t.exclusive_maximum s) refl
 
 same_integer : (k : ScalarKind) (z w : ℤ) → accepts_scalar k (tree.integer z) ≡ accepts_scalar k (tree.integer w)
 same_integer Boolean z w = refl
 same_integer Integer z w = refl
 same_integer String z w = refl
+same_integer Number z w = refl
 same_integer IntOrString z w = refl
 
 same_text : (k : ScalarKind) (s t : List ℕ) → accepts_scalar k (tree.text s) ≡ accepts_scalar k (tree.text t)
 same_text Boolean s t = refl
 same_text Integer s t = refl
 same_text String s t = refl
+same_text Number s t = refl
 same_text IntOrString s t = refl
 
 -- ---- values that a scalar takes
@@ -450,10 +452,20 @@ option_length : (o : Option Data) → length (option_to_list o) ≤ 1
 option_length None = omega arith
 option_length (Some v) = omega arith
 
-own_length : (N : Node) (default schema : Option Data) → length (own_values N default schema) ≤ 2
+bounds_length : (N : Node) (schema : Option Data) → length (other_bounds N schema) ≤ 2
+bounds_length N schema =
+    let least = other_number (option_and_then (λ s. under s (codes "minimum")) schema) in
+    let most = other_number (option_and_then (λ s. under s (codes "maximum")) schema) in
+    elim (bool_cases (takes_numbers N)) [
+      | inl t ↦ rw t (omega (arith, length-append (option_to_list least) (option_to_list most), option_length least, option_length most))
+      | inr f ↦ rw f (omega arith)
+    ]
+
+own_length : (N : Node) (default schema : Option Data) → length (own_values N default schema) ≤ 4
 own_length N default schema =
     let example = option_and_then (λ s. under s (codes "example")) schema in
-    omega (arith, kept_length (takes N) (option_to_list default ++ option_to_list example), length-append (option_to_list default) (option_to_list example), option_length default, option_length example)
+    let rest = option_to_list example ++ other_bounds N schema in
+    omega (arith, kept_length (takes N) (option_to_list default ++ rest), length-append (option_to_list default) rest, length-append (option_to_list example) (other_bounds N schema), option_length default, option_length example, bounds_length N schema)
 
 few_length : (T : Data → Bool) (pool : List Data) → length (take few (filter T pool)) ≤ 30
 few_length T pool = omega (arith, length-take few (filter T pool))
@@ -526,7 +538,7 @@ hinted_taken G n d k cs default schema y a =
     elim (bool_cases (lists_itself N)) [
       | inl t ↦ absurd (rw t at a)
       | inr f ↦ elim (hinted_only (own_values N default schema) (format_values N schema) (general_values G N) y (rw f at a)) [
-        | inl b ↦ (among_kept (takes N) (option_to_list default ++ option_to_list (option_and_then (λ s. under s (codes "example")) schema)) y b).1
+        | inl b ↦ (among_kept (takes N) (option_to_list default ++ (option_to_list (option_and_then (λ s. under s (codes "example")) schema) ++ other_bounds N schema)) y b).1
         | inr (inl b) ↦ elim (bool_cases (takes_texts_alone N)) [
           | inl t ↦ (among_kept (takes N) (map (λ s. tree.text s) (texts_of_format (unwrap_or (option_and_then (λ s. text_under s (codes "format")) schema) []))) y (rw t at b)).1
           | inr g ↦ absurd (rw g at b)
@@ -647,6 +659,7 @@ module _ (law : StoredLaw) (one_text : OneText) (raw : Data) (root : Node) (orde
   reach_boolean : (k : ScalarKind) (b : Bool) → node_at root (place_of p) ≡ Some (node n d (scalar k cs)) → accepts_scalar k (tree.boolean b) ≡ true → IsStored (node n d (scalar k cs)) (tree.boolean b) → IsChoice raw root (path_text p) (node n d (scalar k cs)) (tree.boolean b)
   reach_boolean Integer b there accepted stored = absurd (cc)
   reach_boolean String b there accepted stored = absurd (cc)
+  reach_boolean Number b there accepted stored = absurd (cc)
   reach_boolean IntOrString b there accepted stored = absurd (cc)
   reach_boolean Boolean b there accepted stored = elim (option_cases (list_at (path_text p) (Pool raw root))) [
     | inl none ↦ record { value = tree.boolean b; alike = refl; tree = tt; stored = stored; listed = pool_choice raw root (path_text p) (tree.boolean b) none (boolean_listed (Pool raw root) b) }
@@ -659,6 +672,8 @@ module _ (law : StoredLaw) (one_text : OneText) (raw : Data) (root : Node) (orde
   listed_integer String z v there accepted asked among ds found = absurd (cc)
   listed_integer Integer z v there accepted asked among ds found =
       integer_choice law raw root (path_text p) n d Integer cs ds z v found (list_found one_text raw root ordered p (node n d (scalar Integer cs)) there ds found) no_choices refl among (and_from _ _ accepted asked)
+  listed_integer Number z v there accepted asked among ds found =
+      integer_choice law raw root (path_text p) n d Number cs ds z v found (list_found one_text raw root ordered p (node n d (scalar Number cs)) there ds found) no_choices refl among (and_from _ _ accepted asked)
   listed_integer IntOrString z v there accepted asked among ds found =
       integer_choice law raw root (path_text p) n d IntOrString cs ds z v found (list_found one_text raw root ordered p (node n d (scalar IntOrString cs)) there ds found) no_choices refl among (and_from _ _ accepted asked)
 
@@ -666,6 +681,7 @@ module _ (law : StoredLaw) (one_text : OneText) (raw : Data) (root : Node) (orde
       → (ds : List Data) → list_at (path_text p) (Pool raw root) ≡ Some ds → IsChoice raw root (path_text p) (node n d (scalar k cs)) (tree.text v)
   listed_text Boolean s v there accepted asked among ds found = absurd (cc)
   listed_text Integer s v there accepted asked among ds found = absurd (cc)
+  listed_text Number s v there accepted asked among ds found = absurd (cc)
   listed_text String s v there accepted asked among ds found =
       string_choice law raw root (path_text p) n d cs ds v found (list_found one_text raw root ordered p (node n d (scalar String cs)) there ds found)
   listed_text IntOrString s v there accepted asked among ds found =
@@ -680,9 +696,9 @@ module _ (law : StoredLaw) (one_text : OneText) (raw : Data) (root : Node) (orde
   reach_value k (tree.integer z) there sound stored within =
       let N = node n d (scalar k cs) in
       let here = ((law N (tree.integer z)).0 stored).0 in
-      let both = two_fail _ _ (sym (bounds_alone t all any one negated (tree.integer z) bounded ∙ integer_test t z bounded.0) ∙ here.1) in
+      let both = two_fail _ _ (sym (bounds_alone t all any one negated (tree.integer z) bounded ∙ integer_test t z bounded.0 bounded.5) ∙ here.1) in
       let r = integer_found t (in_scalars bounds_with_neighbours root) (λ w a. found bounds_with_neighbours root (place_of p) N w there (own_found bounds_with_neighbours t all any one negated w a)) z sound (record { low = both.0; high = both.1 }) in
-      let asked : holds cs (tree.integer r.value) ≡ true = bounds_alone t all any one negated (tree.integer r.value) bounded ∙ (integer_test t r.value bounded.0 ∙ rw (r.allowed.low, r.allowed.high) refl) in
+      let asked : holds cs (tree.integer r.value) ≡ true = bounds_alone t all any one negated (tree.integer r.value) bounded ∙ (integer_test t r.value bounded.0 bounded.5 ∙ rw (r.allowed.low, r.allowed.high) refl) in
       let accepted : accepts_scalar k (tree.integer r.value) ≡ true = same_integer k r.value z ∙ here.0 in
       let taken : Among (take standard.entries (all_integers root)) r.value =
       subst (λ zs. Among zs r.value) (sym (take_all standard.entries (all_integers root) within)) (ascending_has int_cmp exact_signed (pos 0 ∷ pos 1 ∷ in_scalars bounds_with_neighbours root) r.value r.among) in
@@ -700,10 +716,10 @@ module _ (law : StoredLaw) (one_text : OneText) (raw : Data) (root : Node) (orde
   reach_value k (tree.text s) there sound stored within =
       let N = node n d (scalar k cs) in
       let here = ((law N (tree.text s)).0 stored).0 in
-      let both = two_fail _ _ (sym (bounds_alone t all any one negated (tree.text s) bounded ∙ text_test t s bounded.0) ∙ here.1) in
+      let both = two_fail _ _ (sym (bounds_alone t all any one negated (tree.text s) bounded ∙ text_test t s bounded.0 bounded.5) ∙ here.1) in
       let r = least_found t.lengths.least t.lengths.most (length (chars s)) within.0 both.0 both.1 in
       let w = letters r.0 in
-      let asked : holds cs (tree.text w) ≡ true = bounds_alone t all any one negated (tree.text w) bounded ∙ (text_test t w bounded.0 ∙ rw (letters_count r.0, r.2, r.3) refl) in
+      let asked : holds cs (tree.text w) ≡ true = bounds_alone t all any one negated (tree.text w) bounded ∙ (text_test t w bounded.0 bounded.5 ∙ rw (letters_count r.0, r.2, r.3) refl) in
       let accepted : accepts_scalar k (tree.text w) ≡ true = same_text k w s ∙ here.0 in
       let near = wider r.0 (short_lengths t) (in_scalars short_lengths root) (λ m a. found short_lengths root (place_of p) N m there (own_found short_lengths t all any one negated m a)) r.1 in
       let taken : Among (take standard.entries (all_lengths root)) r.0 =

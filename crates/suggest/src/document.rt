@@ -44,7 +44,8 @@ use stored::Schema;
 /// and `b`, as many as the limits allow.
 ///
 /// `paths` lists what stands at each scalar or open node in the objects. Where nothing stands there that is stored, it lists the
-/// default, the example and two texts of the format, as far as they are stored there; without such a text some of the pools besides.
+/// default, the example, the bounds of a number that are no integers, and two texts of the format, as far as they are stored there;
+/// without such a text some of the pools besides.
 /// Nothing of that kind is listed for a boolean or an `enum`. The first paths are listed, as many as the limits allow.
 ///
 /// Where paths are varied, all else is as it is in the one object, by `fixed` and `present`, and values are listed at the varied paths

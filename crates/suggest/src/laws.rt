@@ -12,7 +12,8 @@ ghost use Rattle.suggest.specs.Suggested.VariedSamples.{SamplesAreTheObjectOutsi
 
 /// Where a scalar without `enum` and junctors accepts some boolean, some integer, or some string of at most 64 characters, a
 /// value of that kind is a candidate for its node over the suggested pools. For integers and texts this holds where the suggested
-/// document was not cut after 64 of them.
+/// document was not cut after 64 of them. Nothing is said of a scalar that is asked by its schema as it is written, as each is where the
+/// schema is read by `Profile::Cluster`.
 pub fn suggested_values_reach_scalars()
     ensures { (raw : Data) (root : Node) (p : FieldPath) (N : Node) (v : Data) → IsNode root → node_at root (place_of p) ≡ Some N → IsBounded N → IsTree v → IsStored N v → IsWithinReach root v → HasCandidateLike raw root p N v }
 {
@@ -30,7 +31,8 @@ pub fn samples_are_the_object_outside()
 }
 
 /// An object that is stored and within the limit is itself a sample over the pools around it, where these cut nothing and where, on
-/// the way to varied paths, at these and below, objects have members of declared names alone.
+/// the way to varied paths, at these and below, objects have members of declared names alone. Where the schema is read by
+/// `Profile::Cluster`, scalars with `enum` have to be there as that lists them.
 pub fn the_object_is_a_sample()
     ensures { TheObjectIsASample }
 {

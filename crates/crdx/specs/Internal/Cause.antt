@@ -3,6 +3,7 @@ use Rattle.std.specs.Prelude.{◌≡◌, ◌≢◌, ◌⊎◌, ℕ, List, [], ta
 use Rattle.std.specs.Borrow.{Bor}
 use Rattle.std.specs.Io.KnownBytes.{Appends, Keeps}
 use Rattle.jtree.specs.Data.{Data}
+use Rattle.schema.specs.Document.Raw.{Raw}
 use Rattle.schema.specs.Nodes.Node.{Node}
 use Rattle.schema.specs.Nodes.ByPlace.{AreNodesOf}
 use Rattle.schema.specs.Rules.Breaks.{AreViolations}
@@ -66,7 +67,7 @@ IsReadFailure has before now input name NoMemory = Unit {0}
 IsReadFailure has before now input name _ = ⊥
 
 -- why a schema that was read is refused: it breaks rules
-abbrev pub IsBrokenCause : Data → Cause → Type 0
+abbrev pub IsBrokenCause : Raw → Cause → Type 0
 IsBrokenCause raw (Violations vs) = AreViolations (IsBroken raw) vs.items × (vs.items ≢ [])
 IsBrokenCause raw NoMemory = Unit {0}
 IsBrokenCause raw _ = ⊥
@@ -87,7 +88,7 @@ IsReadCause = IsReadCauseAs form.object
 -- why there is no schema that is taken
 abbrev pub IsSchemaCause : Documents → ℕ → ℕ → CommonArguments → Cause → Type 0
 IsSchemaCause has before now arguments cause =
-    IsReadCause has before now arguments cause ⊎ ((raw : Data) × IsRequestedSchema has arguments raw × IsBrokenCause raw cause)
+    IsReadCause has before now arguments cause ⊎ ((raw : Raw) × IsRequestedSchema has arguments raw × IsBrokenCause raw cause)
 
 -- why there are no pools
 abbrev pub IsPoolsCause : ReadDocuments → ℕ → ℕ → PoolLimits → Option InputName → Cause → Type 0
@@ -255,4 +256,4 @@ IsSuggestionCause at_hand before now arguments raw N cause = IsObjectInputCause 
 -- why `pools` prints no document
 abbrev pub IsPoolsRequestCause : Documents → Lines → ℕ → ℕ → PoolsArguments → Cause → Type 0
 IsPoolsRequestCause has at_hand before now arguments cause = IsInputCause has before now (SuggestPools arguments) cause
-    ⊎ ((raw : Data) × (N : Node) × IsAcceptedSchema has arguments.common raw × AreNodesOf true N raw × IsSuggestionCause at_hand before now arguments raw N cause)
+    ⊎ ((raw : Raw) × (N : Node) × IsAcceptedSchema has arguments.common raw × AreNodesOf true N raw × IsSuggestionCause at_hand before now arguments raw.tree N cause)

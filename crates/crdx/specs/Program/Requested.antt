@@ -13,6 +13,7 @@ use Rattle.patterns.specs.Meaning.{is_pattern}
 use Rattle.schema.specs.Document.Forms.{Form, HasFormsOf}
 use Rattle.schema.specs.Document.Forms as form
 use Rattle.schema.specs.Document.Limits.{standard, large, IsWithinLimits}
+use Rattle.schema.specs.Document.Raw.{Raw}
 use Rattle.schema.specs.Document.ReadFault.{IsReadFaultOf}
 use Rattle.schema.specs.declared.limits.Limits.{Limits}
 use Rattle.schema.specs.Rules.Breaks.{IsUnbroken}
@@ -20,6 +21,7 @@ use Rattle.schema.specs.Nodes.Node.{Node}
 use Rattle.schema.specs.Nodes.ByPlace.{AreNodesOf}
 use Rattle.schema.specs.declared.fault.SFault.{SFault}
 use Rattle.schema.specs.declared.fault.SFault.TheVariants as s
+use Rattle.schema.specs.declared.profile.Profile.TheVariants as judged
 use Rattle.stored.specs.Schemas.Accepted.{IsBroken}
 use Rattle.plan.specs.Pools.Pools.{Pools, AreSmall}
 use Rattle.plan.specs.Pools.Pools as pools
@@ -62,27 +64,28 @@ pub record IsRequestedAs (form : Form) (has : Documents) (arguments : CommonArgu
   pub forms : HasFormsOf form raw
   pub within : IsWithinLimits (limits_of arguments) raw
 
-abbrev pub IsRequestedCrd : Documents → CommonArguments → List ℕ → List ℕ → Data → Type 0
-IsRequestedCrd = IsRequestedAs form.object
+-- and it is judged by the rules of this project
+abbrev pub IsRequestedCrd : Documents → CommonArguments → List ℕ → List ℕ → Raw → Type 0
+IsRequestedCrd has arguments group kind raw = IsRequestedAs form.object has arguments group kind raw.tree × (raw.profile ≡ judged.Core)
 
 -- of this document
-abbrev pub IsRequestedFrom : Data → Documents → CommonArguments → List ℕ → List ℕ → Data → Type 0
-IsRequestedFrom document has arguments group kind raw = (asked : IsRequestedCrd has arguments group kind raw) × (asked.document ≡ document)
+abbrev pub IsRequestedFrom : Data → Documents → CommonArguments → List ℕ → List ℕ → Raw → Type 0
+IsRequestedFrom document has arguments group kind raw = (asked : IsRequestedCrd has arguments group kind raw) × (asked.0.document ≡ document)
 
-abbrev pub IsRequestedSchema : Documents → CommonArguments → Data → Type 0
+abbrev pub IsRequestedSchema : Documents → CommonArguments → Raw → Type 0
 IsRequestedSchema has arguments raw = (group : List ℕ) × ((kind : List ℕ) × IsRequestedCrd has arguments group kind raw)
 
 -- it is structural: no rule is broken
-pub record IsAcceptedSchema (has : Documents) (arguments : CommonArguments) (raw : Data) : Type 0 where
+pub record IsAcceptedSchema (has : Documents) (arguments : CommonArguments) (raw : Raw) : Type 0 where
   pub asked : IsRequestedSchema has arguments raw
   pub unbroken : IsUnbroken (IsBroken raw)
 
 abbrev pub HasAcceptedSchema : Documents → CommonArguments → Type 0
-HasAcceptedSchema has arguments = (raw : Data) × IsAcceptedSchema has arguments raw
+HasAcceptedSchema has arguments = (raw : Raw) × IsAcceptedSchema has arguments raw
 
 -- its root
 abbrev pub IsRequestedRoot : Documents → CommonArguments → Node → Type 0
-IsRequestedRoot has arguments N = (raw : Data) × IsAcceptedSchema has arguments raw × AreNodesOf true N raw
+IsRequestedRoot has arguments N = (raw : Raw) × IsAcceptedSchema has arguments raw × AreNodesOf true N raw
 
 -- the schema that is named, as a cluster reads it
 abbrev pub IsRequestedWritten : Documents → CommonArguments → Data → Type 0
@@ -140,7 +143,7 @@ envelope_for group version kind (Some name) = Some (record { api_version = group
 pub record IsRequested (has : Documents) (arguments : PlanArguments) (q : Question) (e : Option Envelope) : Type 0 where
   pub group : List ℕ
   pub kind : List ℕ
-  pub raw : Data
+  pub raw : Raw
   pub asked : IsRequestedCrd has arguments.common group kind raw
   pub unbroken : IsUnbroken (IsBroken raw)
   pub root : AreNodesOf true q.root raw

@@ -4,6 +4,7 @@ ghost use Rattle.jtree.specs.Data.{Data};
 ghost use Rattle.jtree.specs.ReadsWith.{ReadsWith};
 ghost use Rattle.jtree.specs.View.{data_of};
 ghost use Rattle.schema.specs.Document.Forms as form;
+ghost use Rattle.schema.specs.Document.Raw.{Raw};
 ghost use Rattle.schema.specs.Nodes.ByPlace.{AreNodesOf};
 ghost use Rattle.schema.specs.Rules.Breaks.{IsUnbroken};
 ghost use Rattle.stored.specs.Schemas.Accepted.{IsBroken};
@@ -65,7 +66,7 @@ pub(crate) fn accepted_schema<'a, I: Inputs>(
     arguments: &CommonArguments<'a>,
     inputs: &mut I,
 ) -> Result<Accepted, Refusal<'a>>
-    ensures accepted { IfOk result (λ a. (raw : Data) × IsRequestedCrd (I.has inputs.old) arguments.now a.group a.kind raw × IsUnbroken (IsBroken raw) × AreNodesOf true a.schema raw) }
+    ensures accepted { IfOk result (λ a. (raw : Raw) × IsRequestedCrd (I.has inputs.old) arguments.now a.group a.kind raw × IsUnbroken (IsBroken raw) × AreNodesOf true a.schema raw) }
     ensures cause { IfErr result (λ r. IsSchemaCause (I.has inputs.old) (I.failures inputs.old) (I.failures inputs.new) arguments.now r.cause) }
     ensures stays { AreAmong (I.has inputs.new) (I.has inputs.old) }
     ensures lines { AreLinesAmong (I.lines inputs.new) (I.lines inputs.old) }

@@ -27,6 +27,7 @@ fn sort_keyword(sort: &Sort) -> &str {
         Sort::Scalar(scalar) => match scalar.kind {
             ScalarKind::Boolean => "boolean",
             ScalarKind::Integer => "integer",
+            ScalarKind::Number => "number",
             ScalarKind::String => "string",
             ScalarKind::IntOrString => "int-or-string",
         },

@@ -379,7 +379,10 @@ fn scalars_of(alloc: Global, kind: ScalarKind, pools: &Pools) -> Result<Vec<Tree
         values.push(Tree::Bool(false))?;
         values.push(Tree::Bool(true))?;
     }
-    if kind == ScalarKind::Integer || kind == ScalarKind::IntOrString {
+    if matches!(
+        kind,
+        ScalarKind::Integer | ScalarKind::Number | ScalarKind::IntOrString
+    ) {
         push_integers(&mut values, pools)?;
     }
     if kind == ScalarKind::String || kind == ScalarKind::IntOrString {

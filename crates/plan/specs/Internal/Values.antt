@@ -10,7 +10,7 @@ use Rattle.jtree.specs.declared.value.Tree.{Tree}
 use Rattle.schema.specs.Nodes.Node.{Node, node, scalar, Validations, validations, no_branches}
 use Rattle.schema.specs.Nodes.Validations.{presence}
 use Rattle.schema.specs.declared.node.ScalarKind.{ScalarKind}
-use Rattle.schema.specs.declared.node.ScalarKind.TheVariants.{Boolean, Integer, String, IntOrString}
+use Rattle.schema.specs.declared.node.ScalarKind.TheVariants.{Boolean, Integer, Number, String, IntOrString}
 use Rattle.stored.specs.Objects.Becomes.{IsStored}
 use Rattle.plan.specs.Pools.Pools.{Pools}
 use Rattle.plan.specs.Samples.Over.{scalars_of, listed}
@@ -60,6 +60,7 @@ abbrev pub places_of : Kinds → ScalarKind → List ℕ
 places_of k Boolean = k.booleans.items
 places_of k Integer = k.integers.items
 places_of k String = k.strings.items
+places_of k Number = k.numbers.items
 places_of k IntOrString = k.integers_and_strings.items
 
 -- where the values of each kind are among the trees: each is one node

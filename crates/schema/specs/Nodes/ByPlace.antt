@@ -5,6 +5,7 @@ use Rattle.std.specs.Str.{bytes_eq}
 use Rattle.jtree.specs.Data.{Data}
 use Rattle.jtree.specs.Path.{under}
 use Rattle.schema.specs.Document.Texts.{is_among}
+use Rattle.schema.specs.Document.Raw.{Raw}
 use Rattle.schema.specs.Document.Places.{Step, Place, property, map_value, items, schema_by, schema_at, IsPlace, is_inside, IsEnvelope}
 use Rattle.schema.specs.Rules.Kinds as kinds
 use Rattle.schema.specs.Rules.Kinds.{Kind, IsOfKind}
@@ -16,6 +17,7 @@ use Rattle.schema.specs.declared.node.ListType.{ListType}
 use Rattle.schema.specs.declared.node.ListType.TheVariants as list_type
 use Rattle.schema.specs.declared.node.MapType.{MapType}
 use Rattle.schema.specs.declared.node.MapType.TheVariants as map_type
+use Rattle.schema.specs.declared.profile.Profile.{Profile}
 
 -- ---- a node and the schema of its place
 
@@ -42,22 +44,22 @@ abbrev pub AreBoundsOf : Bounds → Data → List ℕ → List ℕ → Type 0
 AreBoundsOf b s least most = (b.least ≡ count_under s least) × (b.most ≡ count_under s most)
 
 -- what is asked of the value itself is what the keywords of the schema say (JSONSchemaProps)
-abbrev pub HasKeywords : Sort → Data → Type 0
-HasKeywords (scalar kind cs) s = AreValidationsOf cs s
-HasKeywords (object fs preserves type bounds cs) s =
+abbrev pub HasKeywords : Profile → Sort → Data → Type 0
+HasKeywords profile (scalar kind cs) s = AreValidationsOf profile cs s
+HasKeywords profile (object fs preserves type bounds cs) s =
     (preserves ≡ flag s (codes "x-kubernetes-preserve-unknown-fields")) × (type ≡ map_type_named (text_under s (codes "x-kubernetes-map-type")))
     × AreBoundsOf bounds s (codes "minProperties") (codes "maxProperties") × AreObjectJunctorsOf cs s
-HasKeywords (map N type bounds) s =
+HasKeywords profile (map N type bounds) s =
     (type ≡ map_type_named (text_under s (codes "x-kubernetes-map-type"))) × AreBoundsOf bounds s (codes "minProperties") (codes "maxProperties")
-HasKeywords (list N type keys bounds) s =
+HasKeywords profile (list N type keys bounds) s =
     (type ≡ list_type_named (text_under s (codes "x-kubernetes-list-type"))) × (keys ≡ texts_under s (codes "x-kubernetes-list-map-keys"))
     × AreBoundsOf bounds s (codes "minItems") (codes "maxItems")
-HasKeywords open_ s = Unit {0}
+HasKeywords profile open_ s = Unit {0}
 
 -- the node, leaving aside the nodes below it, is of the schema's kind and has its keywords
-abbrev pub IsNodeHere : Node → Data → Type 0
-IsNodeHere (node nullable description sort) s =
-    (nullable ≡ flag s (codes "nullable")) × (description ≡ text_under s (codes "description")) × IsOfKind s (sort_kind sort) × HasKeywords sort s
+abbrev pub IsNodeHere : Profile → Node → Data → Type 0
+IsNodeHere profile (node nullable description sort) s =
+    (nullable ≡ flag s (codes "nullable")) × (description ≡ text_under s (codes "description")) × IsOfKind profile s (sort_kind sort) × HasKeywords profile sort s
 
 -- ---- the nodes below a node
 
@@ -102,10 +104,10 @@ abbrev pub IsNodePlace : Bool → Place → Type 0
 IsNodePlace root p = (is_inside p ≡ false) × (root ≡ true → IsEnvelope p → ⊥)
 
 -- N is the tree of the nodes of a schema
-pub record AreNodesOf (root : Bool) (N : Node) (s : Data) : Type 0 where
+pub record AreNodesOf (root : Bool) (N : Node) (raw : Raw) : Type 0 where
   -- fields are in the order of their names, each once
   pub ordered : IsNode N
   -- each place that is to have a node has one, as its schema says
-  pub each : (p : Place) (t : Data) → IsNodePlace root p → schema_at s p ≡ Some t → (M : Node) × (node_at N p ≡ Some M) × IsNodeHere M t × AreFieldsHere M t
+  pub each : (p : Place) (t : Data) → IsNodePlace root p → schema_at raw.tree p ≡ Some t → (M : Node) × (node_at N p ≡ Some M) × IsNodeHere raw.profile M t × AreFieldsHere M t
   -- no other place has one
-  pub only : (p : Place) (M : Node) → node_at N p ≡ Some M → IsNodePlace root p × IsPlace s p
+  pub only : (p : Place) (M : Node) → node_at N p ≡ Some M → IsNodePlace root p × IsPlace raw.tree p

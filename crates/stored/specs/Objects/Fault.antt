@@ -12,7 +12,7 @@ use Rattle.schema.specs.declared.node.Constraints.{Constraints}
 use Rattle.schema.specs.declared.node.ListType.{ListType}
 use Rattle.schema.specs.declared.node.ListType.TheVariants.{Set, Map}
 use Rattle.stored.specs.Objects.Parts.{Pair, fields, pair, at, part_by_path, leads}
-use Rattle.stored.specs.Objects.Tests.{accepts_scalar, is_same, is_below, is_above, is_other_value, is_below_minimum, is_above_maximum, is_too_short, is_too_long, meets_junctors}
+use Rattle.stored.specs.Objects.Tests.{accepts_scalar, is_same, is_below, is_above, fails_enum, fails_minimum, fails_maximum, fails_least_length, fails_most_length, meets_junctors}
 
 pub data Test : Type 0 where
   -- the kind, and null
@@ -97,11 +97,11 @@ are_many b n = is_above b.most n
 abbrev pub fails : Test → Node → Data → Bool
 fails F01 (node nullable description sort) v = not (is_null v) && not (accepts sort v)
 fails F02 (node nullable description sort) v = is_null v && not nullable
-fails F03 N v = fails_constraint (λ t w. is_other_value t.choices w) N v
-fails F04 N v = fails_constraint (λ t w. is_below_minimum t.minimum t.exclusive_minimum w) N v
-fails F05 N v = fails_constraint (λ t w. is_above_maximum t.maximum t.exclusive_maximum w) N v
-fails F06 N v = fails_constraint (λ t w. is_too_short t.lengths.least w) N v
-fails F07 N v = fails_constraint (λ t w. is_too_long t.lengths.most w) N v
+fails F03 N v = fails_constraint fails_enum N v
+fails F04 N v = fails_constraint fails_minimum N v
+fails F05 N v = fails_constraint fails_maximum N v
+fails F06 N v = fails_constraint fails_least_length N v
+fails F07 N v = fails_constraint fails_most_length N v
 fails F08 N v = fails_items are_few N v
 fails F09 N v = fails_items are_many N v
 fails F10 N v = fails_members are_few N v

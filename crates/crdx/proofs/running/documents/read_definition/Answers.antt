@@ -1,5 +1,6 @@
 use Rattle.std.proofs.Common.{refl, subst}
 use Rattle.jtree.specs.View.{data_of}
+use Rattle.schema.specs.Document.Forms.{HasFormsOf, form_by}
 use Rattle.schema.specs.Document.Limits.{IsWithinLimits}
 use Rattle.schema.specs.Document.Forms as form
 use Rattle.schema.specs.Document.ReadFault.{IsReadFaultOf}
@@ -16,12 +17,15 @@ returns-in-Err-clause-cause g c =
 pub returns-in-Ok-clause-ok : goal.returns-in-Ok-clause-ok
 returns-in-Ok-clause-ok g c =
     let read = c.in-Ok.ensures in (
-      record {
-        document = data_of c.in_ok-document.document;
-        at_hand = c.in_ok-document.ensures.ok;
-        read = read.ok;
-        forms = read.forms;
-        within = subst (λ limits. IsWithinLimits limits c.in-Ok.crd.raw) c.limits_of-limits.ensures read.within;
-      },
+      (
+        record {
+          document = data_of c.in_ok-document.document;
+          at_hand = c.in_ok-document.ensures.ok;
+          read = read.ok;
+          forms = subst (λ p. HasFormsOf (form_by p) c.in-Ok.crd.raw.tree) read.profile read.forms;
+          within = subst (λ limits. IsWithinLimits limits c.in-Ok.crd.raw.tree) c.limits_of-limits.ensures read.within;
+        },
+        read.profile,
+      ),
       refl,
     )
