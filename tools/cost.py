@@ -268,6 +268,17 @@ class Figures:
             stop(f"validate --lines of samples: {said.splitlines()[0]}")
         self.row(Row("the same with --profile cluster", 0.3, 8192, "validate issuer/crd.json v1 --lines issuers --profile cluster"))
 
+    def fractions_on_lines(self) -> None:
+        """500,000 fractions in two objects, since one document has room for half of them: judged, and written as they came."""
+        line = compact({"x": [0.5] * 250000}) + "\n"
+        (self.runs.folder / "fractions").write_text(line * 2, encoding="utf-8")
+        self.row(Row("validate --lines of 500,000 fractions", 0.5, 65536, "validate numbers v1 --lines fractions --profile cluster"))
+        if said := self.runs.text("output"):
+            stop(f"validate --lines of fractions: {said[:60]}")
+        self.row(Row("prune --lines of 500,000 fractions", 0.5, 65536, "prune preserving v1 --lines fractions --profile cluster"))
+        if self.runs.text("output") != line * 2:
+            stop("prune --lines of fractions: other lines than came")
+
     def past(self, it: Past) -> None:
         first = self.runs.lines(it.name, it.words(999999)).partition(b"\n")[0]
         if first.decode() != compact(it.value(1000000)):
@@ -349,6 +360,7 @@ def measure(runs: Runs) -> Figures:
     for row in LIMITED:
         figures.row(row)
     figures.objects_on_lines()
+    figures.fractions_on_lines()
     figures.beside_reading()
     for past in PAST:
         figures.past(past)

@@ -175,6 +175,7 @@ SCHEMAS_OF_OBJECTS: Documents = {
     "set": lambda: field_of(SET),
     "500-branches": lambda: branches(500),
     "list": lambda: field_of({"type": "array", "items": INTEGER}),
+    "numbers": lambda: field_of({"type": "array", "items": {"type": "number", "minimum": 0.25}}),
     "map-list": lambda: field_of(map_list([*"abcd"], {key: INTEGER for key in "abcd"})),
     "map": lambda: field_of({"type": "object", "additionalProperties": INTEGER}),
     "object": lambda: field_of({"type": "object"}),

@@ -128,6 +128,15 @@ V17 "/properties/a" outside the profile
 V17 "/properties/b" outside the profile
     "pattern": not a keyword of scalars for crdx; crdx-relax drops it
 LINES
+define '{"type":"object","properties":{"n":{"type":"number","minimum":0.5,"default":0.50}}}' >"$folder/fractions.json"
+echo '"/n" <number> default=0.50' >"$folder/number-field"
+echo '{"numbers":[0.75,0.25,0.50]}' >"$folder/fraction-pools.json"
+printf '%s\n' '{"n":0.50}' '{"n":0.75}' >"$folder/fraction-samples"
+define '{"type":"object","properties":{"n":{"type":"number","minimum":"0.5"}}}' >"$folder/text-bound.json"
+cat >"$folder/text-bound" <<'LINES'
+crdx: crd: S3 "/properties/n/minimum"
+    found "0.5"; allowed is a number
+LINES
 define '{"type":"object","properties":{"a":{"type":"object","default":{},"properties":{"f":{"type":"integer","maximum":6,"default":7}}}}}' >"$folder/bad-default.json"
 cat >"$folder/bad-default" <<'LINES'
 V14 "/properties/a" bad default
@@ -353,6 +362,11 @@ row 'validate as a cluster judges' nothing 1 "$folder/written-faults" /dev/null 
     validate "$folder/written.json" v1 "$folder/written-object.json" --profile cluster
 row 'validate of lines as a cluster judges' lines 1 "$folder/written-line-faults" /dev/null \
     validate "$folder/written.json" v1 "$folder/written-lines" --lines --profile cluster
+row 'explain of a number' nothing 0 "$folder/number-field" /dev/null explain "$folder/fractions.json" v1 --profile cluster
+row 'sample of fractions' lines 0 "$folder/fraction-samples" "$folder/end" \
+    sample "$folder/fractions.json" v1 --pools "$folder/fraction-pools.json" --limit 2 --profile cluster
+row 'explain beside a bound that is a text, explained' nothing 3 /dev/null "$folder/text-bound" \
+    explain "$folder/text-bound.json" v1 --profile cluster --why
 row 'validate beside patterns that are none, explained' nothing 1 /dev/null "$folder/bad-patterns" \
     validate "$folder/bad-patterns.json" v1 "$folder/written-object.json" --profile cluster --why
 

@@ -866,14 +866,19 @@ class Answers(Runs):
             "d": {"type": "array", "x-kubernetes-list-type": "set", "items": {"type": "object"}}, "e": {"type": "string", "pattern": "["},
             "f": {"type": "string", "readOnly": True},
         }}
-        self.file("crd.json", definition(before, PATTERN))
+        # items that are told apart by a number, whose default is a fraction: a cluster accepts them
+        keys = {"type": "object", "properties": {"m": {
+            "type": "array", "x-kubernetes-list-type": "map", "x-kubernetes-list-map-keys": ["k"],
+            "items": {"type": "object", "properties": {"k": {"type": "number", "default": 0.5}}},
+        }}}
+        self.file("crd.json", definition(before, PATTERN, keys))
         broken = [
             'V01 "/properties/a" missing type', 'V01 "/properties/b" missing type', 'V06 "/properties/c" uniqueItems is true',
             'V05 "/properties/f" keyword not supported', 'C01 "/properties/e" bad pattern',
         ]
         # (of the definition, whatever the version)
         unknown = 'C03 "/spec/versions/0/schema/openAPIV3Schema/properties/f/readOnly" unknown field'
-        rows: list[tuple[str, list[str]]] = [("v1", [*broken, unknown]), ("v2", [unknown])]
+        rows: list[tuple[str, list[str]]] = [("v1", [*broken, unknown]), ("v2", [unknown]), ("v3", [unknown])]
         for version, said in rows:
             with self.subTest(version):
                 status, out, err = self.run_plugin("check", "-f", "crd.json", version, CRDX=REAL_CRDX)

@@ -2,7 +2,6 @@
 from __future__ import annotations
 
 import collections
-import decimal
 import json
 import re
 import subprocess
@@ -46,21 +45,11 @@ def summary(schema: Relaxed) -> list[str]:
     return [f"{counted(len(lost), 'keyword')} at {where} {are} not judged: {numbers}; kubectl crdx relax shows them"]
 
 
-def without_fractions(tree: Json) -> Json:
-    """A tree with 0 for each number that crdx does not read, so that it can judge what else is there."""
-    if isinstance(tree, dict):
-        return {name: without_fractions(part) for name, part in tree.items()}
-    if isinstance(tree, list):
-        return [without_fractions(part) for part in tree]
-    return 0 if isinstance(tree, decimal.Decimal) else tree
-
-
 def hidden_rules(crdx: Crdx, definition: Document, version: str, relaxed_text: str) -> list[str]:
     """The lines on what the definition breaks as it was written, and no longer when relaxed, of the rules that a cluster has too: V01 to V11,
     V13, C01 and those of definitions. V14 is asked of the relaxed schema."""
-    document = without_fractions(parse(definition.text.encode("utf-8")))
     known = broken_rules(crdx, relaxed_text, version)
-    lines = [line for line in broken_rules(crdx, in_text(document), version) if line not in known]
+    lines = [line for line in broken_rules(crdx, in_text(json.loads(definition.text)), version) if line not in known]
     return [f"as written, and a cluster refuses it too: {line}" for line in lines]
 
 

@@ -9,6 +9,7 @@ use Rattle.jtree.specs.Path.{Path, Step, part_by, item_at, member_at}
 use Rattle.jtree.specs.Path as part
 use Rattle.jtree.specs.Internal.Lookups.{bool_cases, option_cases, same_name}
 use Rattle.schema.specs.declared.node.ScalarKind.{ScalarKind}
+use Rattle.schema.specs.declared.node.ScalarKind.TheVariants.{Boolean, Integer, Number, String, IntOrString}
 use Rattle.schema.specs.Nodes.Node.{Node, Validations, node, scalar, object, list, open_, Fields, no_fields}
 use Rattle.schema.specs.Nodes.Node as nodes
 use Rattle.schema.specs.Nodes.ByPlace.{Declared, field_at, node_below, node_at}
@@ -21,14 +22,16 @@ use Rattle.explain.specs.Paths.FieldPath.{FieldStep, field, item, value, FieldPa
 use Rattle.explain.specs.Paths.PathText.{path_text}
 use Rattle.plan.specs.Pools.Pools.{Pools, list_at, with_paths, fixed_at, is_present}
 use Rattle.plan.specs.Pools.FixedPaths.{is_map_list, IsMapItem}
+use Rattle.plan.specs.Samples.Leasts.{has_lesser, leasts}
 use Rattle.plan.specs.Samples.Part.{IsPart}
 use Rattle.plan.specs.Samples.Site.{below, fixed_below, plain}
 use Rattle.schema.specs.Document.Texts.{is_among}
-use Rattle.plan.specs.Samples.Over.{choices_or, listed, all_names, is_in, asks_field, has_present, has_enough, is_over_here, StepFollows, IsOverAlong, IsOver}
+use Rattle.plan.specs.Samples.Over.{choices_or, scalars_for, listed, all_names, is_in, asks_field, has_present, has_enough, is_over_here, StepFollows, IsOverAlong, IsOver}
+use Rattle.plan.specs.Internal.LeastLaws.{is_number, least_in, in_leasts, least_of_fewer, leasts_one, none_lesser}
 use Rattle.cover.specs.There.{has_value, is_there}
 use Rattle.cover.proofs.WayLemmas.{found_field}
 use Rattle.cover.proofs.PathLemmas.{IsLeft, text_below, append_one}
-use Rattle.cover.specs.Internal.Narrowed.{end_alone, kept_fixed}
+use Rattle.cover.specs.Internal.Narrowed.{kept_of, end_alone, kept_fixed}
 use Rattle.cover.proofs.ThereLemmas.{left_there, below_there, or_right, in_kept, in_all, kept_pass, enough_items, enough_values, tree_same_by, value_there, some_items, some_values}
 
 -- the narrowed pools, by what they ask for and fix: `left` is what is left of a path after a text
@@ -120,13 +123,16 @@ same_fields o P Q at left (nodes.field k N required default fs) n leads = rw (sa
 
 -- ---- a value at its node
 
-same_choices : (P : Pools) (F : Members) (ps : List (List ℕ)) (o : Option Items) → choices_or o P ≡ choices_or o (with_paths P F ps)
-same_choices P F ps None = refl
-same_choices P F ps (Some ds) = refl
+same_scalars : (P : Pools) (F : Members) (ps : List (List ℕ)) (kind : ScalarKind) → scalars_for kind P ≡ scalars_for kind (with_paths P F ps)
+same_scalars P F ps Number = refl
+same_scalars P F ps Boolean = refl
+same_scalars P F ps Integer = refl
+same_scalars P F ps String = refl
+same_scalars P F ps IntOrString = refl
 
 same_listed : (P : Pools) (F : Members) (ps : List (List ℕ)) (at : List ℕ) (nullable : Bool) (description : Option (List ℕ)) (kind : ScalarKind) (cs : Validations)
     → listed P at (node nullable description (scalar kind cs)) ≡ listed (with_paths P F ps) at (node nullable description (scalar kind cs))
-same_listed P F ps at nullable description kind cs = ap (λ xs. unwrap_or (list_at at P) xs) (same_choices P F ps (constraints_of cs).choices)
+same_listed P F ps at nullable description kind cs = ap (λ xs. leasts (unwrap_or (list_at at P) xs)) (ap (choices_or (constraints_of cs).choices) (same_scalars P F ps kind))
 
 here_narrow : (o : Option Data) (P : Pools) (F : Members) (ps : List (List ℕ)) (at : List ℕ) (left : List ℕ → Option FieldPath) (N : Node) (v : Data) → AreNarrowed o P (with_paths P F ps) left
     → Leads o (λ t. left (below at t)) v → is_over_here P at N v ≡ true → is_over_here (with_paths P F ps) at N v ≡ true
@@ -290,9 +296,9 @@ no_end o root N M p front left t is no_item reach down map_list = elim (end_case
 
 fixed_narrowed : (o : Option Data) (P Q : Pools) (at : List ℕ) (left : List ℕ → Option FieldPath) (N : Node) (t : FieldStep) → AreNarrowed o P Q left
     → (is_map_list N ≡ true → kept_fixed o (left (below at t)) None ≡ None) → fixed_below Q at N t ≡ kept_fixed o (left (below at t)) (fixed_below P at N t)
-fixed_narrowed o P Q at left (node nullable description (list N Map keys bounds)) t n ends = sym (ends refl)
+fixed_narrowed o P Q at left (node nullable description (list N (Map e) keys bounds)) t n ends = sym (ends refl)
 fixed_narrowed o P Q at left (node nullable description (list N Atomic keys bounds)) t n ends = n.fixed (below at t)
-fixed_narrowed o P Q at left (node nullable description (list N Set keys bounds)) t n ends = n.fixed (below at t)
+fixed_narrowed o P Q at left (node nullable description (list N (Set e) keys bounds)) t n ends = n.fixed (below at t)
 fixed_narrowed o P Q at left (node nullable description (scalar kind cs)) t n ends = n.fixed (below at t)
 fixed_narrowed o P Q at left (node nullable description open_) t n ends = n.fixed (below at t)
 fixed_narrowed o P Q at left (node nullable description (object fs preserves type bounds cs)) t n ends = n.fixed (below at t)
@@ -300,37 +306,68 @@ fixed_narrowed o P Q at left (node nullable description (nodes.map N type bounds
 
 -- what is fixed below another node is what is fixed at the path
 fixed_plain : (P : Pools) (at : List ℕ) (N : Node) (t : FieldStep) → is_map_list N ≡ false → fixed_below P at N t ≡ fixed_at (below at t) P
-fixed_plain P at (node nullable description (list N Map keys bounds)) t other = absurd (cc)
+fixed_plain P at (node nullable description (list N (Map e) keys bounds)) t other = absurd (cc)
 fixed_plain P at (node nullable description (list N Atomic keys bounds)) t other = refl
-fixed_plain P at (node nullable description (list N Set keys bounds)) t other = refl
+fixed_plain P at (node nullable description (list N (Set e) keys bounds)) t other = refl
 fixed_plain P at (node nullable description (scalar kind cs)) t other = refl
 fixed_plain P at (node nullable description open_) t other = refl
 fixed_plain P at (node nullable description (object fs preserves type bounds cs)) t other = refl
 fixed_plain P at (node nullable description (nodes.map N type bounds)) t other = refl
 
+-- no path leads on from a number
+no_number : (o : Option Data) (t : FieldStep) (x : FieldPath) (v : Data) → is_there o (t ∷ x) v ≡ true → is_number v ≡ false
+no_number o (field k) x (tree.number s) there = absurd (cc)
+no_number o item x (tree.number s) there = absurd (cc)
+no_number o value x (tree.number s) there = absurd (cc)
+no_number o t x tree.null there = refl
+no_number o t x (tree.boolean b) there = refl
+no_number o t x (tree.integer z) there = refl
+no_number o t x (tree.text s) there = refl
+no_number o t x (tree.list ds) there = refl
+no_number o t x (tree.object ms) there = refl
+
+-- a number that is the least of its value among those that are kept is so among all: at the end of the path all are kept, or the one that
+-- is wanted, and before it no number
+still_least : (o : Option Data) (v : Data) (ds : List Data) (x : FieldPath) → is_there o x v ≡ true → ((w : Data) → o ≡ Some w → x ≡ [] → has_lesser w ds ≡ false)
+    → has_lesser v (kept_of (is_there o x) ds) ≡ false → has_lesser v ds ≡ false
+still_least None v ds [] there ends least = least_of_fewer v ds (kept_of (is_there None []) ds) (λ d has. in_kept (is_there None []) d ds has refl) least
+still_least (Some w) v ds [] there ends least = subst (λ u. has_lesser u ds ≡ false) (sym (tree_same_by v w there)) (ends w refl refl)
+still_least o v ds (t ∷ x) there ends least = none_lesser v ds (no_number o t x v there)
+
 narrow_fixed : (o : Option Data) (P : Pools) (F : Members) (ps : List (List ℕ)) (at : List ℕ) (N : Node) (v : Data) (ds : List Data) (r : Option FieldPath) (path : Path) (q : FieldPath)
-    → left_there o r v ≡ true → is_in v ds ≡ true → IsOverAlong (with_paths P F ps) (kept_fixed o r (Some ds)) at N v path q
+    → left_there o r v ≡ true → is_in v (leasts ds) ≡ true → IsOverAlong (with_paths P F ps) (kept_fixed o r (Some ds)) at N v path q
 narrow_fixed o P F ps at N v ds None path q there is = is
-narrow_fixed o P F ps at N v ds (Some x) path q there is = in_kept (is_there o x) v ds is there
+narrow_fixed o P F ps at N v ds (Some x) path q there is =
+    let all = in_leasts v ds is in
+    least_in v (kept_of (is_there o x) ds) (in_kept (is_there o x) v ds all.0 there) (least_of_fewer v (kept_of (is_there o x) ds) ds (λ d has. in_all (is_there o x) d ds has) all.1)
 
 wide_fixed : (o : Option Data) (P : Pools) (F : Members) (ps : List (List ℕ)) (at : List ℕ) (N : Node) (v : Data) (ds : List Data) (r : Option FieldPath) (path : Path) (q : FieldPath)
-    → IsOverAlong (with_paths P F ps) (kept_fixed o r (Some ds)) at N v path q → is_in v ds ≡ true
-wide_fixed o P F ps at N v ds None path q is = is
-wide_fixed o P F ps at N v ds (Some x) path q is = in_all (is_there o x) v ds is
+    → ((w : Data) → o ≡ Some w → r ≡ Some [] → is_in w (leasts ds) ≡ true) → IsOverAlong (with_paths P F ps) (kept_fixed o r (Some ds)) at N v path q → is_in v (leasts ds) ≡ true
+wide_fixed o P F ps at N v ds None path q ends is = is
+wide_fixed o P F ps at N v ds (Some x) path q ends is =
+    let kept = in_leasts v (kept_of (is_there o x) ds) is in
+    least_in v ds (in_all (is_there o x) v ds kept.0)
+    (still_least o v ds x (kept_pass (is_there o x) v ds kept.0) (λ w wanted end. (in_leasts w ds (ends w wanted (ap Some end))).1) kept.1)
 
 -- the value that is wanted is the one that is fixed at the end
+alone_here : (v w : Data) → is_in v (leasts (w ∷ [])) ≡ true → is_same v w ≡ true
+alone_here v w is = elim (or_cases (is_same v w) false (subst (λ ds. is_in v ds ≡ true) (leasts_one w) is)) [
+  | inl same ↦ same
+  | inr never ↦ absurd (cc)
+]
+
 narrow_end : (o : Option Data) (Q : Pools) (at : List ℕ) (N : Node) (v : Data) (r : Option FieldPath) (path : Path) (q : FieldPath) (w : Data) → o ≡ Some w → r ≡ Some [] → left_there o r v ≡ true
     → IsOverAlong Q (kept_fixed o r None) at N v path q
-narrow_end o Q at N v r path q w is end there = rw (is, end) (let same : is_same v w ≡ true = rw (is, end) at there in rw same refl)
+narrow_end o Q at N v r path q w is end there =
+    let same : is_same v w ≡ true = rw (is, end) at there in
+    let here : is_in v (leasts (w ∷ [])) ≡ true = subst (λ ds. is_in v ds ≡ true) (sym (leasts_one w)) (rw same refl) in
+    rw (is, end) here
 
 wide_end : (o : Option Data) (Q : Pools) (at : List ℕ) (N : Node) (v : Data) (r : Option FieldPath) (path : Path) (q : FieldPath) (w : Data) → o ≡ Some w → r ≡ Some []
     → IsOverAlong Q (kept_fixed o r None) at N v path q → v ≡ w
 wide_end o Q at N v r path q w is end h =
-    let here : is_in v (w ∷ []) ≡ true = rw (is, end) at h in
-    tree_same_by v w (elim (or_cases (is_same v w) false here) [
-      | inl same ↦ same
-      | inr never ↦ absurd (cc)
-    ])
+    let here : is_in v (leasts (w ∷ [])) ≡ true = rw (is, end) at h in
+    tree_same_by v w (alone_here v w here)
 
 next_there : (o : Option Data) (p front : FieldPath) (left : List ℕ → Option FieldPath) (r : Option FieldPath) (v w : Data) (s : Step) (t : FieldStep) → IsLeft p left → IsLeftAt p front r
     → left_there o r v ≡ true → StepFollows s t → part_by v s ≡ Some w → left_there o (left (below (path_text front) t)) w ≡ true
@@ -404,11 +441,22 @@ part_end o root P Q p part path q front r N v reach at ends w wanted end h =
     subst (λ u. IsOverAlong P None (path_text front) N u path q) (sym is)
     (subst (λ x. IsOverAlong P x (path_text front) N w path q) (sym (ends w wanted end)) here)
 
+-- where values are fixed at the end, the one that is wanted is one of them, of numbers the least
+end_least : (o : Option Data) (root : Node) (P : Pools) (p : FieldPath) → ((w : Data) → o ≡ Some w → (N : Node) → node_at root (place_of p) ≡ Some N → IsPart P (plain P (path_text p) N) w)
+    → (front : FieldPath) (r : Option FieldPath) (ds : List Data) (N : Node) (w : Data) → node_at root (place_of front) ≡ Some N → IsLeftAt p front r → o ≡ Some w → r ≡ Some []
+    → Some ds ≡ fixed_at (path_text front) P → is_in w (leasts ds) ≡ true
+end_least o root P p part front r ds N w reach at wanted end fixed =
+    let same : front ≡ p = sym (append-nil front) ∙ (at []).0 end in
+    let over = (part w wanted N (subst (λ x. node_at root (place_of x) ≡ Some N) same reach)).over [] [] in
+    let here : IsOverAlong P (fixed_at (path_text front) P) (path_text front) N w [] [] = subst (λ x. IsOverAlong P (fixed_at (path_text x) P) (path_text x) N w [] []) (sym same) over in
+    subst (λ x. IsOverAlong P x (path_text front) N w [] []) (sym fixed) here
+
 pub wide_along : (o : Option Data) (root : Node) (P : Pools) (F : Members) (ps : List (List ℕ)) (p : FieldPath) (left : List ℕ → Option FieldPath) → Narrows o root P F ps p left
     → ((w : Data) → o ≡ Some w → (N : Node) → node_at root (place_of p) ≡ Some N → IsPart P (plain P (path_text p) N) w)
     → (path : Path) (q front : FieldPath) (r : Option FieldPath) (fixed : Option (List Data)) (N : Node) (v : Data) → node_at root (place_of front) ≡ Some N → IsLeftAt p front r
     → IsFixedEnd o r fixed (path_text front) P → IsOverAlong (with_paths P F ps) (kept_fixed o r fixed) (path_text front) N v path q → IsOverAlong P fixed (path_text front) N v path q
-wide_along o root P F ps p left n part path q front r (Some ds) N v reach at ends h = wide_fixed o P F ps (path_text front) N v ds r path q h
+wide_along o root P F ps p left n part path q front r (Some ds) N v reach at ends h =
+    wide_fixed o P F ps (path_text front) N v ds r path q (λ w wanted end. end_least o root P p part front r ds N w reach at wanted end (ends w wanted end)) h
 wide_along o root P F ps p left n part [] [] front r None N v reach at ends h = elim (end_cases o r) [
   | inl none ↦ here_wide o P F ps (path_text front) left N v n.narrowed (rw none at h)
   | inr e ↦ part_end o root P (with_paths P F ps) p part [] [] front r N v reach at ends e.0 e.1 e.2 h
@@ -500,13 +548,9 @@ next_over o root P F ps p front left t x N M v w n reach e down over s follows f
 pub there_over : StoredLaw → (o : Option Data) (root : Node) (P : Pools) (F : Members) (ps : List (List ℕ)) (p : FieldPath) (left : List ℕ → Option FieldPath) → Narrows o root P F ps p left
     → (x front : FieldPath) (fixed : Option (List Data)) (N M : Node) (v : Data) → node_at root (place_of front) ≡ Some N → node_at N (place_of x) ≡ Some M → front ++ x ≡ p → IsTree v → IsStored N v
     → IsOver (with_paths P F ps) (kept_fixed o (Some x) fixed) (path_text front) N v → is_there o x v ≡ true
-there_over law o root P F ps p left n x front (Some ds) N M v reach leads e whole stored over = kept_pass (is_there o x) v ds (over [] [])
+there_over law o root P F ps p left n x front (Some ds) N M v reach leads e whole stored over = kept_pass (is_there o x) v ds (in_leasts v (kept_of (is_there o x) ds) (over [] [])).0
 there_over law None root P F ps p left n [] front None N M v reach leads e whole stored over = refl
-there_over law (Some w) root P F ps p left n [] front None N M v reach leads e whole stored over =
-    elim (or_cases (is_same v w) false (over [] [])) [
-      | inl same ↦ same
-      | inr never ↦ absurd (cc)
-    ]
+there_over law (Some w) root P F ps p left n [] front None N M v reach leads e whole stored over = alone_here v w (over [] [])
 there_over law o root P F ps p left n (field k ∷ x) front None (node nullable description (object fs preserves type bounds cs)) M (tree.object ms) reach leads e whole stored over =
     let f = found_field fs k x M leads in
     let asked = asked_on_way o P (with_paths P F ps) p front left (field k) x n.narrowed n.is_left e in

@@ -5,6 +5,7 @@ use Rattle.jtree.specs.Data.{Data}
 use Rattle.jtree.specs.View.{data_of}
 use Rattle.jtree.specs.declared.value.Tree.{Tree}
 use Rattle.schema.specs.Document.Places.{Place}
+use Rattle.schema.specs.Document.Raw.{Raw}
 use Rattle.schema.specs.Nodes.Items.{HasKeys, HasSoundItems}
 use Rattle.schema.specs.Nodes.Node.{Node, Validations, node, scalar, object, list, open_}
 use Rattle.schema.specs.Nodes.Node as nodes
@@ -31,7 +32,7 @@ use Rattle.cover.proofs.NarrowLemmas.{node_after}
 use Rattle.cover.proofs.PathLemmas.{OneText}
 
 abbrev pub ItemsLaw : Type 0
-ItemsLaw = (raw : Data) (root : Node) → shape.IsRootOf root raw → (p : Place) (M : Node) → node_at root p ≡ Some M → HasSoundItems M
+ItemsLaw = (raw : Raw) (root : Node) → shape.IsRootOf root raw → (p : Place) (M : Node) → node_at root p ≡ Some M → HasSoundItems M
 
 sound_items : ItemsLaw → (root : Node) → IsSchema root → (p : Place) (M : Node) → node_at root p ≡ Some M → HasSoundItems M
 sound_items law root h p M at = law h.0 root (record { forms = h.1.forms; unbroken = λ p r b. h.1.unbroken p r (inl b); nodes = h.1.nodes }) p M at
@@ -41,12 +42,12 @@ scalar_keys nullable description kind cs M keys is h = subst (λ N. HasKeys N ke
 
 no_map_list : (root L : Node) (nullable : Bool) (description : Option (List ℕ)) (kind : ScalarKind) (cs : Validations) (q : FieldPath) → HasSoundItems L → node_at root (place_of q) ≡ Some L
     → node_at root (place_of (q ++ item ∷ [])) ≡ Some (node nullable description (scalar kind cs)) → is_map_list L ≡ true → ⊥
-no_map_list root (node m d (list M Map keys bounds)) nullable description kind cs q sound reach at is =
-    let there = node_after root (node m d (list M Map keys bounds)) M q item reach refl in
+no_map_list root (node m d (list M (Map e) keys bounds)) nullable description kind cs q sound reach at is =
+    let there = node_after root (node m d (list M (Map e) keys bounds)) M q item reach refl in
     let same : M ≡ node nullable description (scalar kind cs) = cc in
     scalar_keys nullable description kind cs M keys same sound
 no_map_list root (node m d (list M Atomic keys bounds)) nullable description kind cs q sound reach at is = absurd (cc)
-no_map_list root (node m d (list M Set keys bounds)) nullable description kind cs q sound reach at is = absurd (cc)
+no_map_list root (node m d (list M (Set e) keys bounds)) nullable description kind cs q sound reach at is = absurd (cc)
 no_map_list root (node m d (scalar k c)) nullable description kind cs q sound reach at is = absurd (cc)
 no_map_list root (node m d open_) nullable description kind cs q sound reach at is = absurd (cc)
 no_map_list root (node m d (object fs preserves type bounds c)) nullable description kind cs q sound reach at is = absurd (cc)

@@ -5,6 +5,7 @@ use Rattle.std.specs.declared.alloc.AllocError.{AllocError}
 use Rattle.std.proofs.lemmas.List.Folds.{flat_map-map}
 use Rattle.jtree.specs.Data.{Data}
 use Rattle.jtree.specs.Internal.Rising.{contained}
+use Rattle.schema.specs.Document.Raw.{Raw}
 use Rattle.schema.specs.Rules.Breaks.{Reported, AreViolations, reported, reported_of, rule_name, IsUnbroken}
 use Rattle.schema.specs.Rules.Explained.{AreExplained}
 use Rattle.schema.specs.declared.violation.Violation.{Violation}
@@ -16,7 +17,7 @@ use Rattle.crdx.specs.Program.DefinitionLines.{fault_lines, code_of as rule_code
 use Rattle.crdx.specs.Program.PatternLines.{code_of, pattern_lines}
 use Rattle.crdx.specs.Program.RefusedPatterns.{Refused}
 use Rattle.crdx.specs.Program.ViolationLines.{violation_line, violation_lines}
-use Rattle.crdx.specs.declared.profile.Profile.{Profile}
+use Rattle.schema.specs.declared.profile.Profile.{Profile}
 use Rattle.crdx.specs.declared.running.answer.Answer.{Answer}
 use Rattle.crdx.proofs.RunLemmas.{some_break, none_broken}
 
@@ -61,24 +62,24 @@ nothing_or (x ∷ xs) = inr (λ none. cc)
 
 -- ---- an answer with and without lines
 
-none_explained : (raw : Data) → AreExplained (IsBroken raw) raw [] → IsUnbroken (IsBroken raw)
+none_explained : (raw : Raw) → AreExplained (IsBroken raw) raw [] → IsUnbroken (IsBroken raw)
 none_explained raw ([], are, each) p r is = contained [] _ (are.all p r is)
 none_explained raw (b ∷ breaks, are, each) p r is = absurd each
 
 -- the lines of violations are those of the breaks that they report
-lines_of_breaks : (raw : Data) (vs : List Violation) (are : AreViolations (IsBroken raw) vs) (said : List ℕ) → said ≡ flat_map (λ v. violation_line (reported v)) vs → said ≡ violation_lines (map reported_of are.0)
+lines_of_breaks : (raw : Raw) (vs : List Violation) (are : AreViolations (IsBroken raw) vs) (said : List ℕ) → said ≡ flat_map (λ v. violation_line (reported v)) vs → said ≡ violation_lines (map reported_of are.0)
 lines_of_breaks raw vs are said same = same ∙ (sym (flat_map-map violation_line reported vs) ∙ ap violation_lines are.2)
 
-module _ (document : Data) (version : List ℕ) (raw : Data) (profile : Profile) (said shown : List ℕ) (a : Answer)
+module _ (document : Data) (version : List ℕ) (raw : Raw) (profile : Profile) (said shown : List ℕ) (a : Answer)
     (none : said ++ shown ≡ [] → (a.status ≡ 0) × (string_bytes a.out ≡ codes "structural\n"))
     (some : said ++ shown ≢ [] → (a.status ≡ 1) × (string_bytes a.out ≡ said ++ shown)) where
   abbrev Answers : Bool → Type 0
   Answers why = IsCheckAnswer document version raw profile why a.status (string_bytes a.out)
 
-  nothing_said : (why : Bool) (b : Besides) → said ≡ [] → shown ≡ [] → shown ≡ besides_lines why b → IsUnbroken (IsBroken raw) → IsBesides profile document version raw b → Answers why
+  nothing_said : (why : Bool) (b : Besides) → said ≡ [] → shown ≡ [] → shown ≡ besides_lines why b → IsUnbroken (IsBroken raw) → IsBesides profile document version raw.tree b → Answers why
   nothing_said why b no_line no_besides_line is unbroken under =
       let answer = none (ap (λ s. s ++ shown) no_line ∙ no_besides_line) in
-      rw (answer.0, answer.1) (structural why unbroken (subst (IsBesides profile document version raw) (no_besides why b (sym is ∙ no_besides_line)) under))
+      rw (answer.0, answer.1) (structural why unbroken (subst (IsBesides profile document version raw.tree) (no_besides why b (sym is ∙ no_besides_line)) under))
 
   -- some text, which is that of two lists of lines
   written : (A B : List ℕ) → said ≡ A → shown ≡ B → said ++ shown ≢ [] → (a.status ≡ 1) × (string_bytes a.out ≡ A ++ B)
@@ -88,7 +89,7 @@ module _ (document : Data) (version : List ℕ) (raw : Data) (profile : Profile)
   something : (why : Bool) (b : Besides) → shown ≢ [] → shown ≡ besides_lines why b → b ≢ nothing
   something why b some_shown is same = some_shown (is ∙ ap (besides_lines why) same)
 
-  check_answer : (why : Bool) → IsViolationText raw why said → IsBesidesText document version raw profile why shown → Answers why
+  check_answer : (why : Bool) → IsViolationText raw why said → IsBesidesText document version raw.tree profile why shown → Answers why
   check_answer true ([], are, same) (b, under, is) = elim (nothing_or shown) [
     | inl empty ↦ nothing_said true b same empty is (none_explained raw are) under
     | inr some_shown ↦
@@ -108,9 +109,9 @@ module _ (document : Data) (version : List ℕ) (raw : Data) (profile : Profile)
       let yes = written _ _ (lines_of_breaks raw (v ∷ vs) are said same) is (λ empty. some_line (reported v) (empty_left _ _ (sym same ∙ empty_left said shown empty))) in
       rw (yes.0, yes.1) (violations are.0 b are.1 under (inl (some_break (v ∷ vs) are.0 are.2 (λ no. cc))))
 
-pub check_result : (document : Data) (version : List ℕ) (raw : Data) (profile : Profile) (why : Bool) (said shown : List ℕ) (r : Result Answer AllocError)
+pub check_result : (document : Data) (version : List ℕ) (raw : Raw) (profile : Profile) (why : Bool) (said shown : List ℕ) (r : Result Answer AllocError)
     → (said ++ shown ≡ [] → IfOk r (λ a. (a.status ≡ 0) × (string_bytes a.out ≡ codes "structural\n")))
-    → (said ++ shown ≢ [] → IfOk r (λ a. (a.status ≡ 1) × (string_bytes a.out ≡ said ++ shown))) → IsViolationText raw why said → IsBesidesText document version raw profile why shown
+    → (said ++ shown ≢ [] → IfOk r (λ a. (a.status ≡ 1) × (string_bytes a.out ≡ said ++ shown))) → IsViolationText raw why said → IsBesidesText document version raw.tree profile why shown
     → IfOk r (λ a. IsCheckAnswer document version raw profile why a.status (string_bytes a.out))
 check_result document version raw profile why said shown (Ok a) none some is are = check_answer document version raw profile said shown a none some why is are
 check_result document version raw profile why said shown (Err e) none some is are = tt

@@ -3,6 +3,7 @@ use Rattle.std.proofs.Common.{◌≡◌, ◌⊎◌, ℕ, List, true, Bor, None, 
 use Rattle.std.specs.Prelude.{IfOk, IfErr, OnErr, Result}
 use Rattle.std.specs.Io.KnownBytes.{Appends, Keeps}
 use Rattle.jtree.specs.Data.{Data}
+use Rattle.schema.specs.Document.Raw.{Raw}
 use Rattle.schema.specs.Nodes.Node.{Node}
 use Rattle.schema.specs.Nodes.ByPlace.{AreNodesOf}
 use Rattle.suggest.specs.Suggested.Fault.{IsSuggestFault}
@@ -34,7 +35,7 @@ pub input_also : (at_hand : Lines) (words : List (List ℕ)) (Is Also : List (Li
 input_also at_hand words Is Also also (word, among, lines, at, is) = (word, among, lines, at, also lines is)
 
 module _ (run : Effects) (arguments : PoolsArguments) (nothing : WritesNothing run) where
-  module _ (raw : Data) (N : Node) (accepted : IsAcceptedSchema run.documents arguments.common raw) (nodes : AreNodesOf true N raw) where
+  module _ (raw : Raw) (N : Node) (accepted : IsAcceptedSchema run.documents arguments.common raw) (nodes : AreNodesOf true N raw) where
     -- an input that is named has no objects, or could not be read
     result_of_objects : (cause : Cause) (code : ℕ) → IsObjectInputCause (numbers_of arguments.common) (HasInput run.lines (map (λ s. s.now) arguments.from.items)) run.failed_reads_before run.failed_reads cause
         → code ≡ status cause → IsRunResult run (SuggestPools arguments) code
@@ -51,14 +52,14 @@ module _ (run : Effects) (arguments : PoolsArguments) (nothing : WritesNothing r
       asked = record { schema = accepted; root = nodes; wanted = wanted }
 
       -- no document is suggested
-      result_of_fault : (fault : SuggestFault) (code : ℕ) → IsSuggestFault (pool_limits_of arguments.common) raw N w fault → code ≡ status (cause_of_suggestion fault)
+      result_of_fault : (fault : SuggestFault) (code : ℕ) → IsSuggestFault (pool_limits_of arguments.common) raw.tree N w fault → code ≡ status (cause_of_suggestion fault)
           → IsRunResult run (SuggestPools arguments) code
       result_of_fault (suggest.BadPath text) code why e = rw e (on_objects arguments 3 refl (not_suggested raw N w (suggest.BadPath text) asked (λ p. cc) why nothing))
       result_of_fault (suggest.NotInObject text) code why e = rw e (on_objects arguments 3 refl (not_suggested raw N w (suggest.NotInObject text) asked (λ p. cc) why nothing))
       result_of_fault suggest.TooLarge code why e = rw e (on_objects arguments 3 refl (not_suggested raw N w suggest.TooLarge asked (λ p. cc) why nothing))
       result_of_fault suggest.NoMemory code why e = result_of_nothing run (SuggestPools arguments) code nothing e
 
-    result_of_suggestion : (cause : Cause) (code : ℕ) → IsSuggestionCause run.lines run.failed_reads_before run.failed_reads arguments raw N cause → code ≡ status cause
+    result_of_suggestion : (cause : Cause) (code : ℕ) → IsSuggestionCause run.lines run.failed_reads_before run.failed_reads arguments raw.tree N cause → code ≡ status cause
         → IsRunResult run (SuggestPools arguments) code
     result_of_suggestion cause code (inl why) e = result_of_objects cause code why e
     result_of_suggestion cause code (inr (w, fault, wanted, why, same)) e = result_of_fault w wanted fault code why (rw same at e)
@@ -71,8 +72,8 @@ module _ (run : Effects) (arguments : PoolsArguments) (nothing : WritesNothing r
 
 module _ (run : Effects) (arguments : PoolsArguments) where
   -- the document is out, or standard output failed after a beginning of it
-  result_of_written : (answer : Answer) (code : ℕ) (raw : Data) (N : Node) (w : Wanted) → answer.status ≡ 0 → IsPoolsRequest run.documents run.lines arguments raw N w
-      → string_bytes answer.out ≡ pools_line arguments raw N w → IsWritten answer run.output_before run.output run.failed_writes_before run.failed_writes code
+  result_of_written : (answer : Answer) (code : ℕ) (raw : Raw) (N : Node) (w : Wanted) → answer.status ≡ 0 → IsPoolsRequest run.documents run.lines arguments raw N w
+      → string_bytes answer.out ≡ pools_line arguments raw.tree N w → IsWritten answer run.output_before run.output run.failed_writes_before run.failed_writes code
       → IsRunResult run (SuggestPools arguments) code
   result_of_written answer code raw N w done asked is (inl (same, out, unfailed)) =
       rw (same, done) (on_objects arguments 0 refl (suggested raw N w asked (subst (Appends run.output_before run.output) is out) unfailed))
@@ -80,7 +81,7 @@ module _ (run : Effects) (arguments : PoolsArguments) where
       on_objects arguments code refl (unwritten raw N w code asked either failed n (subst (λ t. Appends run.output_before run.output (take n t)) is out))
 
   pub result_of_pools : (r : Result Answer Refusal) (code : ℕ) → IfOk r (λ a. a.status ≡ 0)
-      → IfOk r (λ a. (raw : Data) × (N : Node) × (w : Wanted) × IsPoolsRequest run.documents run.lines arguments raw N w × (string_bytes a.out ≡ pools_line arguments raw N w))
+      → IfOk r (λ a. (raw : Raw) × (N : Node) × (w : Wanted) × IsPoolsRequest run.documents run.lines arguments raw N w × (string_bytes a.out ≡ pools_line arguments raw.tree N w))
       → IfErr r (λ why. IsPoolsRequestCause run.documents run.lines run.failed_reads_before run.failed_reads arguments why.cause)
       → IfOk r (λ a. IsWritten a run.output_before run.output run.failed_writes_before run.failed_writes code)
       → IfErr r (λ why. (code ≡ status why.cause) ⊎ (code ≡ 5)) → OnErr r (Keeps run.output_before run.output) → OnErr r (run.failed_writes ≡ run.failed_writes_before)

@@ -5,14 +5,14 @@ use Rattle.cover.specs.Cover.{objects_of}
 use Rattle.std.specs.Io.KnownBytes.{Appends, Keeps}
 use Rattle.jtree.specs.Data.{Data}
 use Rattle.jtree.specs.Internal.Rising.{contained}
+use Rattle.schema.specs.Document.Raw.{Raw}
 use Rattle.schema.specs.Nodes.Node.{Node}
 use Rattle.schema.specs.Nodes.ByPlace.{AreNodesOf}
 use Rattle.schema.specs.Rules.Breaks.{Break, Breaking, AreViolations, IsUnbroken, reported, reported_of}
 use Rattle.schema.specs.declared.refused.Refused.{Refused}
 use Rattle.schema.specs.declared.refused.Refused.TheVariants as refusal
 use Rattle.stored.specs.Schemas.Accepted.{IsBroken, IsRefusal}
-use Rattle.schema.specs.Document.Forms.{Form}
-use Rattle.schema.specs.Document.Forms as form
+use Rattle.schema.specs.Document.Forms.{form_by}
 use Rattle.schema.specs.Document.ReadFault.{IsReadFaultOf}
 use Rattle.schema.specs.declared.fault.SFault.{SFault}
 use Rattle.schema.specs.declared.fault.SFault.TheVariants as s
@@ -21,14 +21,15 @@ use Rattle.crdx.specs.Program.RunResult.{Effects, WritesNothing, IsRunResult, an
 use Rattle.crdx.specs.Output.Line.{lines}
 use Rattle.crdx.specs.Output.PartialOutput.{IsPartialOutput}
 use Rattle.crdx.specs.Output.Walk.{WritesPage}
-use Rattle.crdx.specs.Program.Requested.{numbers_of, limits_of, pool_limits_of, total_of, IsRequested, IsRequestedWalk, IsRequestedCrd, IsRequestedSchema, IsRequestedRoot, IsRequestedWritten, IsRequestedStandard, form_asked, HasRefusedPattern, HasAcceptedSchema, IsCrdRefused, IsRefusedAs, ArePools, AreRootAndPools}
+use Rattle.crdx.specs.Program.Requested.{numbers_of, limits_of, pool_limits_of, total_of, IsRequested, IsRequestedWalk, IsRequestedCrd, IsRequestedSchema, IsRequestedRoot, IsRequestedWritten, IsRequestedStandard, HasRefusedPattern, HasAcceptedSchema, IsCrdRefused, ArePools, AreRootAndPools}
 use Rattle.crdx.specs.Program.Standard.{Standard, asks_as_written}
 use Rattle.crdx.specs.declared.inputs.InputName.{InputName}
 use Rattle.crdx.specs.Program.Documents.{Read as ReadDocuments, Documents, file_name, AreAmong}
 use Rattle.crdx.specs.Internal.ExitStatus.{status, cause_of_reading, cause_of_refusal, cause_of_pools, cause_of_walk, IsWritten}
-use Rattle.crdx.specs.Internal.Cause.{IsReadFailure, IsReadCauseAs, IsPatternsCause, IsWrittenCause, IsBrokenCause, IsSchemaCause, IsPoolsCause, IsPlanCause, IsTextCause, IsAfterCause, IsOfPlan, IsRequestedPlanCause, IsFieldCause, IsObjectCause, IsDocumentCause, IsInputCause, IsSampleCause, IsSampleResult, IsWalkCause, IsCoveringCause, IsCoverCause, IsCoverResult}
+use Rattle.crdx.specs.Internal.Cause.{IsReadFailure, IsReadCause, IsPatternsCause, IsWrittenCause, IsBrokenCause, IsSchemaCause, IsPoolsCause, IsPlanCause, IsTextCause, IsAfterCause, IsOfPlan, IsRequestedPlanCause, IsFieldCause, IsObjectCause, IsDocumentCause, IsInputCause, IsSampleCause, IsSampleResult, IsWalkCause, IsCoveringCause, IsCoverCause, IsCoverResult}
 use Rattle.plan.specs.Pools.Pools.{Pools}
-use Rattle.plan.specs.Pools.PoolsFault.{IsPoolsFault}
+use Rattle.schema.specs.declared.profile.Profile.{Profile}
+use Rattle.plan.specs.Pools.PoolsFault.{IsPoolsFaultBy}
 use Rattle.plan.specs.Pools.PlanFault.{IsPlanFault}
 use Rattle.plan.specs.declared.pool_limits.PoolLimits.{PoolLimits}
 use Rattle.plan.specs.Samples.Question.{Question}
@@ -68,27 +69,27 @@ some_break (v ∷ vs) [] same some none = cc
 some_break (v ∷ vs) (b ∷ breaks) same some none = cc
 
 module _ (has : Documents) (unread read : ℕ) (arguments : CommonArguments) where
-  pub cause_of_fault : (f : Form) (d : Data) (fault : SFault) → has (numbers_of arguments) (file_name arguments.crd) (Ok d) → IsReadFaultOf f (limits_of arguments) d arguments.version.now fault
-      → IsReadCauseAs f has unread read arguments (cause_of_reading fault)
-  cause_of_fault f d s.NotACrd at is = (d, at, λ e. cc, is)
-  cause_of_fault f d s.NoSuchVersion at is = (d, at, λ e. cc, is)
-  cause_of_fault f d (s.KeywordForm p) at is = (d, at, λ e. cc, is)
-  cause_of_fault f d (s.TooLarge p) at is = (d, at, λ e. cc, is)
-  cause_of_fault f d s.NoMemory at is = tt
+  pub cause_of_fault : (d : Data) (fault : SFault) → has (numbers_of arguments) (file_name arguments.crd) (Ok d) → IsReadFaultOf (form_by arguments.profile) (limits_of arguments) d arguments.version.now fault
+      → IsReadCause has unread read arguments (cause_of_reading fault)
+  cause_of_fault d s.NotACrd at is = (d, at, λ e. cc, is)
+  cause_of_fault d s.NoSuchVersion at is = (d, at, λ e. cc, is)
+  cause_of_fault d (s.KeywordForm p) at is = (d, at, λ e. cc, is)
+  cause_of_fault d (s.TooLarge p) at is = (d, at, λ e. cc, is)
+  cause_of_fault d s.NoMemory at is = tt
 
   -- why a request that names the schema has no answer
-  pub input_of_reading : (f : Form) (request : Request) (cause : Cause) → (IsRefusedAs f has arguments → IsInputRefused has request)
-      → IsReadCauseAs f has unread read arguments cause → IsInputCause has unread read request cause
-  input_of_reading f request (Read i) refuse why = why.1
-  input_of_reading f request (Document i fault) refuse why = refuse (inl (fault, why.1, why.2))
-  input_of_reading f request (Crd fault) refuse why = refuse (inr (fault, why))
-  input_of_reading f request (Place input.Crd code.KeywordForm p) refuse why = refuse (inr (s.KeywordForm p, why))
-  input_of_reading f request (Place input.Crd code.TooLarge p) refuse why = refuse (inr (s.TooLarge p, why))
-  input_of_reading f request NoMemory refuse why = tt
-  input_of_reading f request _ refuse why = absurd why
+  pub input_of_reading : (request : Request) (cause : Cause) → (IsCrdRefused has arguments → IsInputRefused has request)
+      → IsReadCause has unread read arguments cause → IsInputCause has unread read request cause
+  input_of_reading request (Read i) refuse why = why.1
+  input_of_reading request (Document i fault) refuse why = refuse (inl (fault, why.1, why.2))
+  input_of_reading request (Crd fault) refuse why = refuse (inr (fault, why))
+  input_of_reading request (Place input.Crd code.KeywordForm p) refuse why = refuse (inr (s.KeywordForm p, why))
+  input_of_reading request (Place input.Crd code.TooLarge p) refuse why = refuse (inr (s.TooLarge p, why))
+  input_of_reading request NoMemory refuse why = tt
+  input_of_reading request _ refuse why = absurd why
 
   -- the breaks that violations report
-  pub broken : (raw : Data) (vs : List Violation) → IsRequestedSchema has arguments raw → AreViolations (IsBroken raw) vs → vs ≢ []
+  pub broken : (raw : Raw) (vs : List Violation) → IsRequestedSchema has arguments raw → AreViolations (IsBroken raw) vs → vs ≢ []
       → (breaks : List Break) × (map reported vs ≡ map reported_of breaks) × HasBreaks has arguments breaks
   broken raw vs asked are some = (are.0, are.2, (raw, asked, are.1, some_break vs are.0 are.2 some))
 
@@ -97,23 +98,23 @@ pub none_broken : (rules : Breaking) → AreViolations rules [] → IsUnbroken r
 none_broken rules ([], are, same) p r is = absurd (contained [] _ (are.all p r is))
 none_broken rules (b ∷ breaks, are, same) p r is = cc
 
-pub refused_schema : (raw : Data) (r : Refused) → IsRefusal raw r → IsBrokenCause raw (cause_of_refusal r)
+pub refused_schema : (raw : Raw) (r : Refused) → IsRefusal raw r → IsBrokenCause raw (cause_of_refusal r)
 refused_schema raw (refusal.Violations vs) is = is
 refused_schema raw refusal.NoMemory is = tt
 
 module _ (has : Documents) (unread read : ℕ) (arguments : CommonArguments) (request : Request) (no : (breaks : List Break) → HasBreaks has arguments breaks → IsAnswer has request 1 []) where
-  input_of_broken : (raw : Data) (cause : Cause) → IsRequestedSchema has arguments raw → IsBrokenCause raw cause → IsInputCause has unread read request cause
+  input_of_broken : (raw : Raw) (cause : Cause) → IsRequestedSchema has arguments raw → IsBrokenCause raw cause → IsInputCause has unread read request cause
   input_of_broken raw (Violations vs) asked why = let found = broken has unread read arguments raw vs.items asked why.0 why.1 in no found.0 found.2
   input_of_broken raw NoMemory asked why = tt
   input_of_broken raw _ asked why = absurd why
 
   -- why a request that asks for a schema that breaks no rule has no answer
   pub input_of_schema : (cause : Cause) → (IsCrdRefused has arguments → IsInputRefused has request) → IsSchemaCause has unread read arguments cause → IsInputCause has unread read request cause
-  input_of_schema cause refuse (inl why) = input_of_reading has unread read arguments form.object request cause refuse why
+  input_of_schema cause refuse (inl why) = input_of_reading has unread read arguments request cause refuse why
   input_of_schema cause refuse (inr why) = input_of_broken why.0 cause why.1 why.2
 
 -- the root of the schema that was read
-pub requested_root : (has : Documents) (arguments : CommonArguments) (group kind : List ℕ) (N : Node) → ((raw : Data) × IsRequestedCrd has arguments group kind raw × IsUnbroken (IsBroken raw) × AreNodesOf true N raw)
+pub requested_root : (has : Documents) (arguments : CommonArguments) (group kind : List ℕ) (N : Node) → ((raw : Raw) × IsRequestedCrd has arguments group kind raw × IsUnbroken (IsBroken raw) × AreNodesOf true N raw)
     → IsRequestedRoot has arguments N
 requested_root has arguments group kind N (raw, asked, unbroken, nodes) = (raw, record { asked = (group, (kind, asked)); unbroken = unbroken }, nodes)
 
@@ -124,16 +125,6 @@ field_input has unread read arguments N (NoField fault) asked why = fields argum
 field_input has unread read arguments N NoMemory asked why = tt
 field_input has unread read arguments N _ asked why = absurd why
 
--- the form that the schema has to have, by whether objects are judged by it as it is written
-abbrev form_if : Bool → Form
-form_if as_written = if as_written then form.written_schema else form.object
-
-pub refused_by_rules : (has : Documents) (arguments : ObjectArguments) → asks_as_written arguments ≡ false → IsCrdRefused has arguments.common → IsRefusedAs (form_asked arguments) has arguments.common
-refused_by_rules has arguments asks why = subst (λ b. IsRefusedAs (form_if b) has arguments.common) (sym asks) why
-
-refused_as_written : (has : Documents) (arguments : ObjectArguments) → asks_as_written arguments ≡ true → IsRefusedAs form.written_schema has arguments.common → IsRefusedAs (form_asked arguments) has arguments.common
-refused_as_written has arguments asks why = subst (λ b. IsRefusedAs (form_if b) has arguments.common) (sym asks) why
-
 module _ (has : Documents) (unread read : ℕ) (arguments : ObjectArguments) (asks : asks_as_written arguments ≡ true) (request : Request) (no : HasRefusedPattern has arguments → IsAnswer has request 1 []) where
   input_of_patterns : (raw : Data) (cause : Cause) → IsRequestedWritten has arguments.common raw → IsPatternsCause raw cause → IsInputCause has unread read request cause
   input_of_patterns raw (Patterns found) asked why = no (asks, (raw, asked, some_refused raw found.items why.0 why.1))
@@ -141,9 +132,9 @@ module _ (has : Documents) (unread read : ℕ) (arguments : ObjectArguments) (as
   input_of_patterns raw _ asked why = absurd why
 
   -- why a request that asks for a schema as it is written has no answer
-  pub input_of_written : (cause : Cause) → (IsRefusedAs (form_asked arguments) has arguments.common → IsInputRefused has request) → IsWrittenCause has unread read arguments.common cause
+  pub input_of_written : (cause : Cause) → (IsCrdRefused has arguments.common → IsInputRefused has request) → IsWrittenCause has unread read arguments.common cause
       → IsInputCause has unread read request cause
-  input_of_written cause refuse (inl why) = input_of_reading has unread read arguments.common form.written_schema request cause (λ r. refuse (refused_as_written has arguments asks r)) why
+  input_of_written cause refuse (inl why) = input_of_reading has unread read arguments.common request cause refuse why
   input_of_written cause refuse (inr (raw, asked, why)) = input_of_patterns raw cause asked why
 
 module _ (has later : Documents) (unread read : ℕ) (arguments : ObjectArguments) (S : Standard) (among : AreAmong later has) (standard : IsRequestedStandard has arguments S) where
@@ -164,13 +155,13 @@ module _ (has later : Documents) (unread read : ℕ) (arguments : ObjectArgument
   object_input cause (inl why) = input_of_object cause why
   object_input cause (inr (document, at, why)) = input_of_document document cause at why
 
-pub cause_of_pools_fault : (has : ReadDocuments) (unread read : ℕ) (limits : PoolLimits) (name : InputName) (d : Data) (fault : PFault) → has (file_name name) (Ok d)
-    → IsPoolsFault limits d fault → IsPoolsCause has unread read limits (Some name) (cause_of_pools fault)
-cause_of_pools_fault has unread read limits name d (PoolsForm p) at is = (d, at, λ e. cc, is)
-cause_of_pools_fault has unread read limits name d p.TooLarge at is = (d, at, λ e. cc, is)
-cause_of_pools_fault has unread read limits name d p.NoMemory at is = tt
-cause_of_pools_fault has unread read limits name d p.BadLimit at is = absurd is
-cause_of_pools_fault has unread read limits name d (p.BadPath text) at is = absurd is
+pub cause_of_pools_fault : (has : ReadDocuments) (unread read : ℕ) (rules : Profile) (limits : PoolLimits) (name : InputName) (d : Data) (fault : PFault) → has (file_name name) (Ok d)
+    → IsPoolsFaultBy rules limits d fault → IsPoolsCause has unread read rules limits (Some name) (cause_of_pools fault)
+cause_of_pools_fault has unread read rules limits name d (PoolsForm p) at is = (d, at, λ e. cc, is)
+cause_of_pools_fault has unread read rules limits name d p.TooLarge at is = (d, at, λ e. cc, is)
+cause_of_pools_fault has unread read rules limits name d p.NoMemory at is = tt
+cause_of_pools_fault has unread read rules limits name d p.BadLimit at is = absurd is
+cause_of_pools_fault has unread read rules limits name d (p.BadPath text) at is = absurd is
 
 -- of a limit that a plan can have
 pub cause_of_plan_fault : (N : Node) (P : Pools) (limit bits : ℕ) (fault : PFault) → 1 ≤ limit → limit < bits → IsPlanFault N P limit bits fault → IsPlanCause N P (cause_of_pools fault)
@@ -201,7 +192,7 @@ no_plan has plan _ of breaks are = absurd of
 
 -- the pools are read of documents that were at hand before, where the schema is accepted
 pools_refused : (has later : Documents) (unread read : ℕ) (arguments : PlanArguments) (request : Request) (cause : Cause) → IsOfPlan arguments request → AreAmong later has → HasAcceptedSchema has arguments.common
-    → IsPoolsCause (later (numbers_of arguments.common)) unread read (pool_limits_of arguments.common) arguments.pools cause → IsInputCause has unread read request cause
+    → IsPoolsCause (later (numbers_of arguments.common)) unread read arguments.common.profile (pool_limits_of arguments.common) arguments.pools cause → IsInputCause has unread read request cause
 pools_refused has later unread read arguments request (Read i) of among accepted why = why.1
 pools_refused has later unread read arguments request (Document i fault) of among accepted why =
     plan_refused has arguments request of (inr (inl (accepted, inl (fault, why.1, among_some arguments.pools _ _ (λ n is. among (numbers_of arguments.common) (file_name n) (Err fault) is) why.2))))
@@ -213,14 +204,14 @@ pools_refused has later unread read arguments request NoMemory of among accepted
 pools_refused has later unread read arguments request _ of among accepted why = absurd why
 
 pub pools_input : (has later : Documents) (unread read : ℕ) (arguments : PlanArguments) (cause : Cause) → AreAmong later has → HasAcceptedSchema has arguments.common
-    → IsPoolsCause (later (numbers_of arguments.common)) unread read (pool_limits_of arguments.common) arguments.pools cause → IsRequestedPlanCause has unread read arguments cause
+    → IsPoolsCause (later (numbers_of arguments.common)) unread read arguments.common.profile (pool_limits_of arguments.common) arguments.pools cause → IsRequestedPlanCause has unread read arguments cause
 pools_input has later unread read arguments cause among accepted why request of = pools_refused has later unread read arguments request cause of among accepted why
 
 -- pools of documents that were at hand before
-pub pools_before : (has later : Documents) (numbers : Numbers) (limits : PoolLimits) (name : Option InputName) (P : Pools) → AreAmong later has → ArePools (later numbers) limits name P
-    → ArePools (has numbers) limits name P
-pools_before has later numbers limits None P among is = is
-pools_before has later numbers limits (Some n) P among is = (is.0, among numbers (file_name n) (Ok is.0) is.1, is.2, is.3, is.4)
+pub pools_before : (has later : Documents) (numbers : Numbers) (rules : Profile) (limits : PoolLimits) (name : Option InputName) (P : Pools) → AreAmong later has → ArePools (later numbers) rules limits name P
+    → ArePools (has numbers) rules limits name P
+pools_before has later numbers rules limits None P among is = is
+pools_before has later numbers rules limits (Some n) P among is = (is.0, among numbers (file_name n) (Ok is.0) is.1, is.2, is.3, is.4)
 
 module _ (has : Documents) (unread read : ℕ) (arguments : PlanArguments) (N : Node) (P : Pools) (are : AreRootAndPools has arguments N P) where
   path_refused : (request : Request) (cause : Cause) → IsOfPlan arguments request → IsPlanCause N P cause → IsInputCause has unread read request cause

@@ -23,5 +23,4 @@ pub mod sink;
 pub mod walk;
 
 pub use envelope::{Parts, join, split};
-pub use profile::Profile;
 pub use running::run;

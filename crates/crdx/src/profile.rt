@@ -1,36 +1,26 @@
-//! How documents are read.
+//! Profiles by their names, and how documents are read under each.
 ghost use Rattle.std.specs.Prelude.{◌≡◌};
 ghost use Rattle.crdx.specs.Program.Profiles as spec;
 
 use jtree::Numbers;
+use schema::Profile;
 
-/// How documents are read.
-#[derive(Clone, Copy, Debug, PartialEq, Eq, Drop)]
-pub enum Profile {
-    /// Each number is an integer of 64 bits.
-    Core,
-    /// As a cluster reads them: each number of JSON within the range of floats.
-    Cluster,
+/// The profile of this name: `Cluster` for `cluster`, and else `Core`.
+pub(crate) fn named(name: &str) -> Profile
+    ensures { result ≡ spec.named name.now }
+{
+    match name {
+        "cluster" => Profile::Cluster,
+        _ => Profile::Core,
+    }
 }
 
-impl Profile {
-    /// The profile of this name: `Cluster` for `cluster`, and else `Core`.
-    pub(crate) fn named(name: &str) -> Profile
-        ensures { result ≡ spec.named name.now }
-    {
-        match name {
-            "cluster" => Profile::Cluster,
-            _ => Profile::Core,
-        }
-    }
-
-    /// The numbers that documents may have.
-    pub(crate) fn numbers(self) -> Numbers
-        ensures { result ≡ spec.numbers_by self }
-    {
-        match self {
-            Profile::Core => Numbers::Integers,
-            Profile::Cluster => Numbers::All,
-        }
+/// The numbers that documents may have: integers of 64 bits, or, as a cluster reads them, each number of JSON within the range of floats.
+pub(crate) fn numbers_by(profile: Profile) -> Numbers
+    ensures { result ≡ spec.numbers_by profile }
+{
+    match profile {
+        Profile::Core => Numbers::Integers,
+        Profile::Cluster => Numbers::All,
     }
 }

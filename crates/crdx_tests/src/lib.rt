@@ -41,6 +41,7 @@
 //! | `enumerate_tests/reference_cases` | the plain reference, and walks, against lists made by hand |
 //! | `enumerate_tests/small_plan_cases` | 2,124 small plans against the plain reference: their nodes, their pages and what is stored |
 //! | `enumerate_tests/stored_cases` | what is stored, by the plain reference and by `stored`, against values that were judged by hand |
+//! | `enumerate_tests/number_cases` | schemas by the profile of a cluster, whose scalars may be numbers: what is broken, nodes, values, fields and samples |
 //! | `enumerate_tests/wide_cases` | plans over words of 128 bits |
 //! | `program/argument_cases` | what the arguments ask for |
 //! | `program/help_cases` | mistakes in the arguments, and help |
@@ -55,6 +56,7 @@
 //! | `program/presence_cases`, `presence_sample_cases` | junctors that ask which fields an object has: judged and validated, and listed |
 //! | `program/explain_cases`, `leaf_cases` | what `explain` and `leaves` print, and what they refuse |
 //! | `program/explanation_cases`, `large_cases` | what `--why` says below a refusal, and what `--large` lets through |
+//! | `program/fraction_cases` | schemas with numbers and fractions by each profile, for every command |
 //! | `program/profile_cases` | `--profile`: other numbers than integers of 64 bits, schemas as they are written, and their patterns |
 //! | `program/refusal_cases`, `sample_refusal_cases` | inputs that are refused, and which is judged first |
 //! | `program/input_cases` | documents in files, reads that fail after each byte, and which inputs a run reads |

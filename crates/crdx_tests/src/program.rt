@@ -10,6 +10,7 @@ mod envelope_cases;
 mod explain_cases;
 mod explanation_cases;
 mod fixed_path_cases;
+mod fraction_cases;
 mod help_cases;
 mod hostile_cases;
 mod input_cases;

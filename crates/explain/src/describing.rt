@@ -70,6 +70,7 @@ fn scalar_text(kind: ScalarKind) -> &'static str
         ScalarKind::Boolean => "boolean",
         ScalarKind::Integer => "integer",
         ScalarKind::String => "string",
+        ScalarKind::Number => "number",
         ScalarKind::IntOrString => "int-or-string",
     }
 }

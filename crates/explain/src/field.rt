@@ -8,7 +8,7 @@ pub struct Field {
     /// Each step of the path after a `/`: a name with `~`, `/`, `[` and `{` written `~0`, `~1`, `~2` and `~3`, `[]` for the
     /// items of a list and `{}` for the values of a map.
     pub path: Text,
-    /// The type as `kubectl explain` writes it: `string`, `integer`, `boolean`, `Object`, `[]` and the type of the items,
+    /// The type as `kubectl explain` writes it: `string`, `integer`, `number`, `boolean`, `Object`, `[]` and the type of the items,
     /// `map[string]` and the type of the values. `int-or-string` and `any` are this project's own.
     pub type_text: Text,
     /// Whether the object above requires it. Items and values are not required.

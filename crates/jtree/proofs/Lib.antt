@@ -17,6 +17,7 @@ pub mod PartText
 pub mod OrderSteps
 pub mod OrderWords
 pub mod SameValues
+pub mod EqualitySteps
 pub mod NumberText
 pub mod OtherNumber
 pub mod Reading

@@ -3,7 +3,9 @@ pub mod Lookups
 pub mod PathLaws
 pub mod MemberLaws
 pub mod Rising
+pub mod OrderByLaws
 pub mod OrderLaws
+pub mod EqualityLaws
 pub mod Code
 pub mod Entries
 pub mod Measures

@@ -8,7 +8,9 @@ pub mod OnlyIntegers
 pub mod Nodes
 pub mod NumberOrder
 pub mod Order
+pub mod OrderBy
 pub mod SameValue
+pub mod Equality
 pub mod PathOrder
 pub mod Before
 pub mod Text

@@ -5,6 +5,9 @@ ghost use Rattle.jtree.specs.Order.{tree_cmp};
 ghost use Rattle.jtree.specs.Before.{IsBefore};
 ghost use Rattle.std.specs.declared.cmp.Ordering.TheVariants.{Less, Equal};
 ghost use Rattle.std.specs.Cmp.{IsTotalOrder};
+ghost use Rattle.std.specs.Ordering.{is_eq};
+ghost use Rattle.jtree.specs.Equality.{equal_by, order_by};
+ghost use Rattle.jtree.specs.declared.equality.Equality.{Equality};
 ghost use Rattle.jtree.specs.OnlyIntegers.{HasOnlyIntegers};
 ghost use Rattle.jtree.specs.Reads.{Reads, IsNoDocument};
 ghost use Rattle.jtree.specs.ReadsAll.{ReadsAll, IsNoDocumentAll};
@@ -26,6 +29,12 @@ pub fn order_in_words()
 pub fn order_is_total()
     ensures total { IsTotalOrder tree_cmp }
     ensures same { (u v : Data) → (tree_cmp u v ≡ Equal) ↔ (u ≡ v) }
+{}
+
+/// By each equality `compare_by` is a total order of trees, and it answers `Equal` just for those that count as the same.
+pub fn orders_by_equality()
+    ensures total { (e : Equality) → IsTotalOrder (order_by e) }
+    ensures same { (e : Equality) (u v : Data) → is_eq (order_by e u v) ≡ equal_by e u v }
 {}
 
 /// Trees with the same compact text are the same tree, however long and deep it is.

@@ -15,6 +15,7 @@
 #![tactic(auto)]
 
 mod copy;
+mod equality;
 mod fault;
 mod integer_text;
 mod last;
@@ -36,6 +37,7 @@ pub mod source;
 mod value;
 mod write;
 
+pub use equality::{Equality, TreeKey};
 pub use fault::JFault;
 pub use members::search;
 pub use number::Number;

@@ -158,7 +158,7 @@ impl Ord for Tree {
 }
 
 /// The rank of a tree's kind: null, boolean, integer, other number, string, list, object.
-fn kind_of(tree: &Tree) -> u8
+pub(crate) fn kind_of(tree: &Tree) -> u8
     ensures { result ≡ kind (data_of tree.now) }
 {
     match tree {

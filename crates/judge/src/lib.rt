@@ -35,5 +35,8 @@ pub use asking::{KeywordTests, PlaceTests};
 pub use finding::{Fault, faults, faults_by};
 pub use listing::{SchemaPattern, patterns};
 pub use names::{Letters, is_kind_name, is_label, is_subdomain};
+pub use numbers::{passes_maximum, passes_minimum};
+pub use own::{is_long, is_short};
 pub use test::Test;
+pub use types::passes_enum;
 pub use validity::is_valid;

@@ -122,7 +122,9 @@ fn is_below(bound: Option<f64>, exclusive: bool, value: &Tree) -> bool
     }
 }
 
-pub(crate) fn passes_minimum(schema: &Members, value: &Tree) -> bool
+/// Whether a value is no number below the schema's `minimum`: an integer is compared with the bound cut to an integer, any other number with
+/// the nearest float of the bound.
+pub fn passes_minimum(schema: &Members, value: &Tree) -> bool
     ensures { result ≡ passes_minimum_of schema.now (data_of value.now) }
 {
     match float_under(schema, "minimum") {
@@ -135,7 +137,8 @@ pub(crate) fn passes_minimum(schema: &Members, value: &Tree) -> bool
     }
 }
 
-pub(crate) fn passes_maximum(schema: &Members, value: &Tree) -> bool
+/// Whether a value is no number above the schema's `maximum`, compared as in `passes_minimum`.
+pub fn passes_maximum(schema: &Members, value: &Tree) -> bool
     ensures { result ≡ passes_maximum_of schema.now (data_of value.now) }
 {
     match float_under(schema, "maximum") {

@@ -48,7 +48,8 @@ fn members_count(members: &Members) -> usize
     members.members.as_slice().len()
 }
 
-pub(crate) fn is_long(schema: &Members, value: &Tree) -> bool
+/// Whether a value is no string with fewer Unicode scalar values than the schema's `minLength`.
+pub fn is_long(schema: &Members, value: &Tree) -> bool
     ensures { result ≡ passes_length (is_at_least_of (member_at (codes "minLength") schema.now)) (data_of value.now) }
 {
     match value {
@@ -60,7 +61,8 @@ pub(crate) fn is_long(schema: &Members, value: &Tree) -> bool
     }
 }
 
-pub(crate) fn is_short(schema: &Members, value: &Tree) -> bool
+/// Whether a value is no string with more Unicode scalar values than the schema's `maxLength`.
+pub fn is_short(schema: &Members, value: &Tree) -> bool
     ensures { result ≡ passes_length (is_at_most_of (member_at (codes "maxLength") schema.now)) (data_of value.now) }
 {
     match value {

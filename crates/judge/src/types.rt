@@ -185,7 +185,9 @@ fn is_among(value: &Tree, choices: &[Tree]) -> bool
     false
 }
 
-pub(crate) fn passes_enum(choices: Option<&Tree>, value: &Tree) -> bool
+/// Whether a value is among the choices of an `enum`, where that is a list that is not empty: by the values of numbers, and a number turned into
+/// the kind of the listed one.
+pub fn passes_enum(choices: Option<&Tree>, value: &Tree) -> bool
     ensures { result ≡ passes_enum_of (option_map (λ t. data_of t.now) choices.entry) (data_of value.now) }
 {
     match choices {

@@ -3,6 +3,7 @@ use Rattle.std.specs.Prelude.{◌≡◌, ℕ, ◌-◌, ◌^◌, ◌≤◌, ◌<�
 use Rattle.std.proofs.Common.{refl, ap, sym, ◌∙◌, subst, arith}
 use Rattle.std.proofs.lemmas.Option.{same_Some}
 use Rattle.std.proofs.lemmas.Bool.{le-ltb, ltb-false}
+use Rattle.jtree.specs.declared.equality.Equality.{Equality}
 use Rattle.schema.specs.declared.node.ListType.{ListType}
 use Rattle.schema.specs.Nodes.Node.{Node, node, object, list, IsNode}
 use Rattle.schema.specs.Nodes.Items.{IsPlainScalar, HasKeys, HasSoundItems}
@@ -71,18 +72,18 @@ free_cut laws P limit s M n d K keys b is item = cut_by laws P limit s M (bounds
 pub item_is : (P : Pools) (s M : Site) (n : Bool) (d : Option (List ℕ)) (K : Node) (type : ListType) (keys : List (List ℕ)) (b : Bounds) → s.node ≡ node n d (list K type keys b) → item_site P s ≡ Some M → record { node = K; keys = item_keys type keys; path = below s.path step.item; fixed = fixed_item P type (below s.path step.item) } ≡ M
 item_is P s M n d K type keys b is item = same_Some _ M (sym (ap (item_site_at P s.path) is) ∙ (item_unfixed P s M item).1)
 
-pub set_cut : StoredLaw → PartLaws → (P : Pools) (limit : ℕ) (s M : Site) (n : Bool) (d : Option (List ℕ)) (K : Node) (keys : List (List ℕ)) (b : Bounds) (count : ℕ) → s.node ≡ node n d (list K Set keys b) → item_site P s ≡ Some M
+pub set_cut : StoredLaw → PartLaws → (P : Pools) (limit : ℕ) (s M : Site) (n : Bool) (d : Option (List ℕ)) (K : Node) (e : Equality) (keys : List (List ℕ)) (b : Bounds) (count : ℕ) → s.node ≡ node n d (list K (Set e) keys b) → item_site P s ≡ Some M
     → IsPlainScalar M.node → HasCount (IsPart P M) count → IsCutTo P limit s M (cut count (bounds_of P s))
-set_cut stored laws P limit s M n d K keys b count is item plain has =
-    let k = set_keyed stored P M count plain has in
+set_cut stored laws P limit s M n d K e keys b count is item plain has =
+    let k = set_keyed stored e P M count plain has in
     cut_by laws P limit s M (cut count (bounds_of P s)) item (rw (is, (item_unfixed P s M item).0, ← k.1) (λ t m. more_apart k.0 limit (raised (is_present (below s.path step.item) P) b) t m))
 
-pub map_cut : StoredLaw → PartLaws → (P : Pools) (limit : ℕ) (s M : Site) (n : Bool) (d : Option (List ℕ)) (K : Node) (keys : List (List ℕ)) (b : Bounds) (count : ℕ) → limit < 2 ^ 64 - 1 → s.node ≡ node n d (list K Map keys b) → item_site P s ≡ Some M
+pub map_cut : StoredLaw → PartLaws → (P : Pools) (limit : ℕ) (s M : Site) (n : Bool) (d : Option (List ℕ)) (K : Node) (e : Equality) (keys : List (List ℕ)) (b : Bounds) (count : ℕ) → limit < 2 ^ 64 - 1 → s.node ≡ node n d (list K (Map e) keys b) → item_site P s ≡ Some M
     → IsNode M.node → HasKeys M.node M.keys → HasTuples P (slots P M) count → IsCutTo P limit s M (cut count (bounds_of P s))
-map_cut stored laws P limit s M n d K keys b count room is item o h has =
-    let same : keys ≡ M.keys = ap (λ x. Site.keys x) (item_is P s M n d K Map keys b is item) in
-    let free : M.fixed ≡ None = ap (λ x. Site.fixed x) (sym (item_is P s M n d K Map keys b is item)) in
-    let k = map_keyed stored laws P M.fixed M.path M.node M.keys has.0 free o h has.1.0 in
+map_cut stored laws P limit s M n d K e keys b count room is item o h has =
+    let same : keys ≡ M.keys = ap (λ x. Site.keys x) (item_is P s M n d K (Map e) keys b is item) in
+    let free : M.fixed ≡ None = ap (λ x. Site.fixed x) (sym (item_is P s M n d K (Map e) keys b is item)) in
+    let k = map_keyed stored laws e P M.fixed M.path M.node M.keys has.0 free o h has.1.0 in
     let tuples = length k.0.keys in
     let capped : count ≡ min tuples (2 ^ 64 - 1) = has.1.1 ∙ ap (λ x. min x (2 ^ 64 - 1)) (sym k.1) in
     let c = raised (is_present (below s.path step.item) P) b in
@@ -91,16 +92,16 @@ map_cut stored laws P limit s M n d K keys b count room is item o h has =
     ((λ a. same_cut P limit M c tuples count t m (λ i l below. omega arith) (x.0 a)), λ f. x.1 (same_cut P limit M c count tuples t m (λ i l below. omega arith) f))))
 
 -- what the schema guarantees of the items
-pub set_items : (P : Pools) (s M : Site) (n : Bool) (d : Option (List ℕ)) (K : Node) (keys : List (List ℕ)) (b : Bounds) → s.node ≡ node n d (list K Set keys b) → item_site P s ≡ Some M → HasSoundItems s.node → IsPlainScalar M.node
-set_items P s M n d K keys b is item sound = subst IsPlainScalar (ap (λ x. Site.node x) (item_is P s M n d K Set keys b is item)) (subst HasSoundItems is sound)
+pub set_items : (P : Pools) (s M : Site) (n : Bool) (d : Option (List ℕ)) (K : Node) (e : Equality) (keys : List (List ℕ)) (b : Bounds) → s.node ≡ node n d (list K (Set e) keys b) → item_site P s ≡ Some M → HasSoundItems s.node → IsPlainScalar M.node
+set_items P s M n d K e keys b is item sound = subst IsPlainScalar (ap (λ x. Site.node x) (item_is P s M n d K (Set e) keys b is item)) (subst HasSoundItems is sound)
 
-pub map_items : StoredLaw → (P : Pools) (s M : Site) (n : Bool) (d : Option (List ℕ)) (K : Node) (keys : List (List ℕ)) (b : Bounds) → s.node ≡ node n d (list K Map keys b) → item_site P s ≡ Some M → IsNode s.node → HasSoundItems s.node
+pub map_items : StoredLaw → (P : Pools) (s M : Site) (n : Bool) (d : Option (List ℕ)) (K : Node) (e : Equality) (keys : List (List ℕ)) (b : Bounds) → s.node ≡ node n d (list K (Map e) keys b) → item_site P s ≡ Some M → IsNode s.node → HasSoundItems s.node
     → IsNode M.node × HasKeys M.node M.keys × (sort_of M ≡ Row) × AreKeySlots P (slots P M)
-map_items stored P s M n d K keys b is item o sound =
-    let e = item_is P s M n d K Map keys b is item in
+map_items stored P s M n d K e keys b is item o sound =
+    let same = item_is P s M n d K (Map e) keys b is item in
     let here : IsNode K = subst IsNode is o in
     let has : HasKeys K keys = subst HasSoundItems is sound in
-    (subst (λ x. IsNode (Site.node x)) e here, subst (λ x. HasKeys (Site.node x) (Site.keys x)) e has, subst (λ x. sort_of x ≡ Row) e (keys_row K keys has), subst (λ x. AreKeySlots P (slots P x)) e (own_keys stored P (below s.path step.item) K keys here has))
+    (subst (λ x. IsNode (Site.node x)) same here, subst (λ x. HasKeys (Site.node x) (Site.keys x)) same has, subst (λ x. sort_of x ≡ Row) same (keys_row K keys has), subst (λ x. AreKeySlots P (slots P x)) same (own_keys stored P (below s.path step.item) K keys here has))
 
 -- ---- the entry of a list
 

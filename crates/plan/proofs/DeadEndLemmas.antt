@@ -154,10 +154,10 @@ key_counts P limit s some row keys have =
 apart_or_keyed : StoredLaw → PartLaws → (P : Pools) (limit : ℕ) (path : List ℕ) (type : ListType) (keys : List (List ℕ)) (N : Node) → 1 ≤ limit → IsNode N → AreDistinct type keys N → HaveCandidates P limit (record { node = N; keys = item_keys type keys; path = path; fixed = fixed_item P type path })
     → ((v w : Data) → are_alike type keys v w ≡ false) ⊎ Keyed P (record { node = N; keys = item_keys type keys; path = path; fixed = fixed_item P type path }) (are_alike type keys)
 apart_or_keyed stored laws P limit path Atomic keys N some o h c = inl (λ v w. refl)
-apart_or_keyed stored laws P limit path Set keys N some o h c =
-    let n = parts_count P limit _ some (scalar_one stored P _ h) (c.own (leaf_any (fixed_item P Set path) _ (plain_leaf N h))) in
-    inr (set_keyed stored P _ n.0 h n.1).0
-apart_or_keyed stored laws P limit path Map keys N some o h c = let ns = key_counts P limit _ some (λ t a. keys_row N keys h) (own_keys stored P path N keys o h) c in inr (map_keyed stored laws P None path N keys ns.0 refl o h ns.1).0
+apart_or_keyed stored laws P limit path (Set e) keys N some o h c =
+    let n = parts_count P limit _ some (scalar_one stored P _ h) (c.own (leaf_any (fixed_item P (Set e) path) _ (plain_leaf N h))) in
+    inr (set_keyed stored e P _ n.0 h n.1).0
+apart_or_keyed stored laws P limit path (Map e) keys N some o h c = let ns = key_counts P limit _ some (λ t a. keys_row N keys h) (own_keys stored P path N keys o h) c in inr (map_keyed stored laws e P None path N keys ns.0 refl o h ns.1).0
 
 items_apart_or_keyed : StoredLaw → PartLaws → (P : Pools) (limit : ℕ) (fixed : Option (List Data)) (path : List ℕ) (N : Node) (keys : List (List ℕ)) (M : Site) → 1 ≤ limit → item_site P (record { node = N; keys = keys; path = path; fixed = fixed }) ≡ Some M → IsNode N → HasSoundItems N → HaveCandidates P limit M
     → ((v w : Data) → where_fixed fixed (λ v w. false) (alike_by N) v w ≡ false) ⊎ Keyed P M (where_fixed fixed (λ v w. false) (alike_by N))

@@ -12,6 +12,7 @@ use Rattle.jtree.specs.Pointer.{pointer}
 use Rattle.jtree.specs.Internal.PathLaws.{not_before_root, same_step, not_before_name, not_before_index}
 use Rattle.jtree.specs.Internal.Lookups.{bool_cases, same_name, member_first, member_later, member_tail, before_each}
 use Rattle.jtree.specs.Kind.{is_list}
+use Rattle.schema.specs.declared.profile.Profile.{Profile}
 use Rattle.plan.specs.Pools.Document.{PoolForm, entries, lists, unknown, pool_form, BreaksPool, other_name, no_list, other_entry, no_lists, no_list_at, BreaksForm, no_object, in_member}
 use Rattle.plan.specs.Internal.PoolBreak.{other_item, below_name, list_break, pool_break, member_break, or_else, members_break, first_break}
 
@@ -162,20 +163,20 @@ pool_found lists (object ms) o = lists_found ms o
 pool_found lists d o = root_found (BreaksPool lists d) (no_lists d refl)
 pool_found unknown d o = root_found (BreaksPool unknown d) (other_name d)
 
-abbrev IsBroken : List ℕ → Data → Path → Type 0
-IsBroken k d path = BreaksPool (pool_form k) d path
+abbrev IsBroken : Profile → List ℕ → Data → Path → Type 0
+IsBroken profile k d path = BreaksPool (pool_form profile k) d path
 
-form_broken : (ms : Members) (e : Path) → IsBelow IsBroken ms e → BreaksForm (object ms) e
-form_broken ms e b = subst (BreaksForm (object ms)) (sym b.is) (in_member ms b.key b.value b.rest b.at b.holds)
+form_broken : (profile : Profile) (ms : Members) (e : Path) → IsBelow (IsBroken profile) ms e → BreaksForm profile (object ms) e
+form_broken profile ms e b = subst (BreaksForm profile (object ms)) (sym b.is) (in_member ms b.key b.value b.rest b.at b.holds)
 
-form_below : (ms : Members) (e : Path) → BreaksForm (object ms) e → IsBelow IsBroken ms e
-form_below ms e (no_object _ h) = cc
-form_below ms e (in_member _ k v path at b) = record { key = k; value = v; rest = path; is = refl; at = at; holds = b }
+form_below : (profile : Profile) (ms : Members) (e : Path) → BreaksForm profile (object ms) e → IsBelow (IsBroken profile) ms e
+form_below profile ms e (no_object _ h) = cc
+form_below profile ms e (in_member _ k v path at b) = record { key = k; value = v; rest = path; is = refl; at = at; holds = b }
 
-first_found : (d : Data) → IsTree d → IsFound (BreaksForm d) (first_break d)
-first_found (object ms) o = found_by (IsBelow IsBroken ms) (BreaksForm (object ms)) (form_broken ms) (form_below ms) (members_break member_break ms)
-    (members_found IsBroken (λ k d. pool_break (pool_form k) d) (λ k d t. pool_found (pool_form k) d t) ms o)
-first_found d o = root_found (BreaksForm d) (no_object d refl)
+first_found : (profile : Profile) (d : Data) → IsTree d → IsFound (BreaksForm profile d) (first_break profile d)
+first_found profile (object ms) o = found_by (IsBelow (IsBroken profile) ms) (BreaksForm profile (object ms)) (form_broken profile ms) (form_below profile ms) (members_break (member_break profile) ms)
+    (members_found (IsBroken profile) (λ k d. pool_break (pool_form profile k) d) (λ k d t. pool_found (pool_form profile k) d t) ms o)
+first_found profile d o = root_found (BreaksForm profile d) (no_object d refl)
 
 -- ---- and its pointer
 
@@ -187,5 +188,5 @@ pointed : (Holds : Path → Type 0) (o : Option Path) → IsFound Holds o → Is
 pointed Holds None none = none
 pointed Holds (Some p) first = (p, refl, first)
 
-pub first_pointed : (d : Data) → IsTree d → IsPointed (BreaksForm d) (option_map pointer (first_break d))
-first_pointed d o = pointed (BreaksForm d) (first_break d) (first_found d o)
+pub first_pointed : (profile : Profile) (d : Data) → IsTree d → IsPointed (BreaksForm profile d) (option_map pointer (first_break profile d))
+first_pointed profile d o = pointed (BreaksForm profile d) (first_break profile d) (first_found profile d o)

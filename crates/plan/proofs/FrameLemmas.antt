@@ -1,13 +1,14 @@
 -- What is known of a site stays true where the pools differ elsewhere.
-use Rattle.std.proofs.Common.{◌≡◌, ◌↔◌, ◌+◌, ◌-◌, ℕ, zero, suc, List, [], ◌∷◌, Bool, false, Option, Some, None, refl, sym, ap, subst, ◌∙◌, inl, inr, append-nil, append_assoc, length, get_or, drop}
+use Rattle.std.proofs.Common.{◌≡◌, ◌↔◌, ◌+◌, ◌-◌, ℕ, zero, suc, List, [], ◌∷◌, ◌++◌, Bool, false, Option, Some, None, refl, sym, ap, subst, ◌∙◌, inl, inr, append-nil, append_assoc, length, get_or, drop}
 use Rattle.std.specs.Prelude.{◌&&◌, not, is_some, unwrap_or, option_and_then, map, filter}
 use Rattle.std.specs.declared.vec.Vec.{Vec}
 use Rattle.std.specs.declared.alloc.Global.{Global}
-use Rattle.jtree.specs.Data.{Data, Items, Members}
+use Rattle.jtree.specs.Data.{Data, Members}
 use Rattle.jtree.specs.Data as tree
 use Rattle.jtree.specs.Path.{Path, member_at}
 use Rattle.jtree.specs.Internal.Rising.{Among, contained}
 use Rattle.schema.specs.declared.node.ScalarKind.{ScalarKind}
+use Rattle.schema.specs.declared.node.ScalarKind.TheVariants.{Boolean, Integer, Number, String, IntOrString}
 use Rattle.schema.specs.declared.node.ListType.{ListType}
 use Rattle.schema.specs.declared.node.ListType.TheVariants.{Atomic, Set, Map}
 use Rattle.schema.specs.Document.Texts.{is_among}
@@ -20,7 +21,8 @@ use Rattle.explain.specs.Paths.FieldPath.{FieldStep, FieldPath}
 use Rattle.explain.specs.Paths.FieldPath as step
 use Rattle.explain.specs.Paths.PathText.{step_text, path_text}
 use Rattle.plan.specs.Pools.Pools.{Pools, entries_in, is_present}
-use Rattle.plan.specs.Samples.Over.{choices_or, listed, all_names, asks_field, asks_below, has_present, has_enough, is_over_here, IsOverAlong}
+use Rattle.plan.specs.Samples.Leasts.{leasts}
+use Rattle.plan.specs.Samples.Over.{choices_or, scalars_for, listed, all_names, asks_field, asks_below, has_present, has_enough, is_over_here, IsOverAlong}
 use Rattle.plan.specs.Samples.Part.{IsPart}
 use Rattle.plan.specs.Samples.Names.{in_order}
 use Rattle.plan.specs.Samples.Presence.{named}
@@ -33,7 +35,7 @@ use Rattle.plan.specs.Samples.NoDeadEnd.{is_key, AreCounts}
 use Rattle.plan.specs.Samples.Keys.{AreKeySlots, HasTuples}
 use Rattle.plan.specs.Internal.Tables.{AreTables}
 use Rattle.plan.specs.Internal.Arena.{AreSlots, AreLater, IsRight, HasContent}
-use Rattle.plan.specs.Internal.Values.{AreValues}
+use Rattle.plan.specs.Internal.Values.{IsBase, AreValues}
 use Rattle.plan.specs.Internal.Frame.{ListTheSame, IsSameAt, AreSameBelow}
 use Rattle.plan.specs.declared.values.Values.{Values}
 use Rattle.plan.specs.declared.arena.SlotEntry.{SlotEntry}
@@ -48,7 +50,7 @@ use Rattle.plan.proofs.TupleLemmas.{all_same}
 -- ---- the other way round
 
 pub lists_back : (P Q : Pools) → ListTheSame P Q → ListTheSame Q P
-lists_back P Q h = record { scalars = sym h.scalars; any = sym h.any; paths = sym h.paths; names = sym h.names }
+lists_back P Q h = record { scalars = sym h.scalars; numbers = sym h.numbers; any = sym h.any; paths = sym h.paths; names = sym h.names }
 
 below_back : (P Q : Pools) (text : List ℕ) → AreSameBelow P Q text → AreSameBelow Q P text
 below_back P Q text h t x = let s = h t x in (sym s.0, sym s.1)
@@ -63,8 +65,8 @@ under_same P Q text t h u x = subst (IsSameAt P Q) (sym (append_assoc (below tex
 
 item_same : (P Q : Pools) (type : ListType) (text : List ℕ) → IsSameAt P Q text → fixed_item Q type text ≡ fixed_item P type text
 item_same P Q Atomic text h = h.1
-item_same P Q Set text h = h.1
-item_same P Q Map text h = refl
+item_same P Q (Set e) text h = h.1
+item_same P Q (Map e) text h = refl
 
 fixed_same : (P Q : Pools) (at : List ℕ) (N : Node) (t : FieldStep) → AreSameBelow P Q at → fixed_below Q at N t ≡ fixed_below P at N t
 fixed_same P Q at (node n d (list N type keys b)) t h = item_same P Q type (below at t) (step_same P Q at t h)
@@ -75,18 +77,21 @@ fixed_same P Q at (node n d open_) t h = (step_same P Q at t h).1
 
 -- ---- a value at its node
 
-choices_same : (P Q : Pools) (o : Option Items) → ListTheSame P Q → choices_or o Q ≡ choices_or o P
-choices_same P Q None l = l.scalars
-choices_same P Q (Some ds) l = refl
+scalars_same : (P Q : Pools) (kind : ScalarKind) → ListTheSame P Q → scalars_for kind Q ≡ scalars_for kind P
+scalars_same P Q Number l = λ i. l.numbers i ++ l.scalars i
+scalars_same P Q Boolean l = l.scalars
+scalars_same P Q Integer l = l.scalars
+scalars_same P Q String l = l.scalars
+scalars_same P Q IntOrString l = l.scalars
 
 listed_same : (P Q : Pools) (at : List ℕ) (n : Bool) (d : Option (List ℕ)) (kind : ScalarKind) (cs : Validations) → ListTheSame P Q → listed Q at (node n d (scalar kind cs)) ≡ listed P at (node n d (scalar kind cs))
 listed_same P Q at n d kind cs l =
-    ap (λ ms. unwrap_or (option_and_then entries_in (member_at at ms)) (choices_or (constraints_of cs).choices Q)) l.paths
-    ∙ ap (λ xs. unwrap_or (option_and_then entries_in (member_at at P.paths)) xs) (choices_same P Q (constraints_of cs).choices l)
+    ap (λ ms. leasts (unwrap_or (option_and_then entries_in (member_at at ms)) (choices_or (constraints_of cs).choices (scalars_for kind Q)))) l.paths
+    ∙ ap (λ xs. leasts (unwrap_or (option_and_then entries_in (member_at at P.paths)) (choices_or (constraints_of cs).choices xs))) (scalars_same P Q kind l)
 
 open_same : (P Q : Pools) (at : List ℕ) (n : Bool) (d : Option (List ℕ)) → ListTheSame P Q → listed Q at (node n d open_) ≡ listed P at (node n d open_)
 open_same P Q at n d l =
-    ap (λ ms. unwrap_or (option_and_then entries_in (member_at at ms)) Q.any) l.paths ∙ ap (λ xs. unwrap_or (option_and_then entries_in (member_at at P.paths)) xs) l.any
+    ap (λ ms. leasts (unwrap_or (option_and_then entries_in (member_at at ms)) Q.any)) l.paths ∙ ap (λ xs. leasts (unwrap_or (option_and_then entries_in (member_at at P.paths)) xs)) l.any
 
 pub asks_same : (P Q : Pools) (at : List ℕ) (fs : Fields) → AreSameBelow P Q at → asks_field Q at fs ≡ asks_field P at fs
 asks_same P Q at no_fields h = refl
@@ -208,7 +213,7 @@ keys_over : (P Q : Pools) (ss : List Slot) → SlotsAreSame P Q ss → AreKeySlo
 keys_over P Q ss h keys s c key =
     let k = keys s c key in
     let same = h s (contained ss s c) in
-    record { must = k.must; leaf = k.leaf; one = λ v p. k.one v ((same v).1 p); no_null = λ p. k.no_null ((same tree.null).1 p) }
+    record { must = k.must; leaf = k.leaf; one = λ v p. k.one v ((same v).1 p); no_null = λ p. k.no_null ((same tree.null).1 p); one_value = λ e v w p q. k.one_value e v w ((same v).1 p) ((same w).1 q) }
 
 later_over : (P Q : Pools) (ss : List Slot) (ns : List ℕ) → SlotsAreSame P Q ss → AreLater P ss ns → AreLater Q ss ns
 later_over P Q ss ns h later k n l keys =
@@ -362,4 +367,10 @@ module _ {Z : Type 0} (holds : Z → ℕ → Type 0) (limit : ℕ) (P Q : Pools)
       }
 
 pub values_over : (P Q : Pools) (v : Values) → ListTheSame P Q → AreValues P v → AreValues Q v
-values_over P Q v l h = record { scalars = rw l.scalars h.scalars; kinds = h.kinds; any = rw l.any h.any; names = h.names ∙ sym (ap in_order l.names) }
+values_over P Q v l h = record {
+  scalars = subst (λ ds. IsBase (tree.null ∷ leasts ds) v.scalars.items) (sym l.scalars) h.scalars;
+  numbers = subst (λ ds. IsBase (tree.null ∷ leasts ds) v.numbers.items) (sym (λ i. l.numbers i ++ l.scalars i)) h.numbers;
+  kinds = h.kinds;
+  any = subst (λ ds. IsBase (tree.null ∷ leasts ds) v.any.items) (sym l.any) h.any;
+  names = h.names ∙ sym (ap in_order l.names);
+}

@@ -23,6 +23,7 @@ use Rattle.stored.specs.Objects.Fault.{is_null, F02}
 use Rattle.stored.specs.Objects.Becomes.{IsStored}
 use Rattle.plan.specs.Pools.Pools.{Pools}
 use Rattle.plan.specs.Samples.Sites.{Site}
+use Rattle.plan.specs.Samples.Leasts.{leasts}
 use Rattle.plan.specs.Samples.Over.{listed, is_in, is_over_here}
 use Rattle.plan.specs.Samples.Candidates.{sort_at, sort_of, AreCandidates}
 use Rattle.plan.specs.Samples.Sizes.{HasSize, IsUpTo}
@@ -152,11 +153,11 @@ candidates_listed laws P limit site ts vs free leaf b s = record {
 }
 
 -- where the values are fixed
-candidates_fixed : PartLaws → (P : Pools) (limit : ℕ) (site : Site) (ds : List Data) (ts : List Tree) (vs : List Data) → site.fixed ≡ Some ds → IsBase ds ts → AreStored limit site.node (trees_of ts) vs → AreCandidates P limit site vs
+candidates_fixed : PartLaws → (P : Pools) (limit : ℕ) (site : Site) (ds : List Data) (ts : List Tree) (vs : List Data) → site.fixed ≡ Some ds → IsBase (leasts ds) ts → AreStored limit site.node (trees_of ts) vs → AreCandidates P limit site vs
 candidates_fixed laws P limit site ds ts vs fixed b s = record {
   each = λ v. (
-    (λ c. let h = (s.each v).0 c in ((laws.fixed P site v ds fixed).1 (h.1.0, h.1.1, (is_in_decides v ds).1 ((b.each v).0 h.0)), h.1.2)),
-    λ p. let h = (laws.fixed P site v ds fixed).0 p.0 in (s.each v).1 ((b.each v).1 ((is_in_decides v ds).0 h.2), (h.0, h.1, p.1)),
+    (λ c. let h = (s.each v).0 c in ((laws.fixed P site v ds fixed).1 (h.1.0, h.1.1, (is_in_decides v (leasts ds)).1 ((b.each v).0 h.0)), h.1.2)),
+    λ p. let h = (laws.fixed P site v ds fixed).0 p.0 in (s.each v).1 ((b.each v).1 ((is_in_decides v (leasts ds)).0 h.2), (h.0, h.1, p.1)),
   );
   ascending = s.ascending b.ascending;
 }

@@ -44,6 +44,8 @@ pub mod PoolPathLemmas
 pub mod ItemPathLemmas
 pub mod ApartLemmas
 pub mod TupleLemmas
+pub mod LeastLemmas
+pub mod OneValue
 pub mod KeyedLemmas
 pub mod SetLemmas
 pub mod MapListLemmas

@@ -1,17 +1,17 @@
 -- The items of a map list: objects, of which the values under the keys are the key.
-use Rattle.std.specs.Prelude.{◌≡◌, ◌↔◌, ℕ, ◌+◌, List, Bool, true, false, Option, Some, None, All, filter, map, unwrap_or}
-use Rattle.std.specs.Bool.{Decides}
+use Rattle.std.specs.Prelude.{◌≡◌, ◌↔◌, ℕ, ◌+◌, List, Bool, true, false, Option, Some, None, filter, map, unwrap_or}
 use Rattle.std.proofs.Common.{refl, ap, sym, ◌∙◌, subst, inl, inr, arith, [], ◌∷◌, length}
-use Rattle.std.proofs.lemmas.Bool.{cases_Bool}
-use Rattle.std.proofs.lemmas.Bool.Decides.{Decides-by_and}
-use Rattle.std.proofs.lemmas.List.Elements.{All-contains}
+use Rattle.std.proofs.lemmas.Bool.{cases_Bool, and_parts, and_from}
 use Rattle.std.proofs.lemmas.Option.{same_Some}
 use Rattle.jtree.specs.Data.{Data, Members, member}
 use Rattle.jtree.specs.Data as tree
+use Rattle.jtree.specs.Equality.{equal_by}
 use Rattle.jtree.specs.Nodes.{node_count}
+use Rattle.jtree.specs.Internal.EqualityLaws.{equal_itself}
+use Rattle.jtree.specs.declared.equality.Equality.{Equality}
 use Rattle.jtree.specs.Path.{member_at}
-use Rattle.jtree.specs.Internal.Lookups.{option_cases, member_first, member_later, later_name}
-use Rattle.jtree.specs.Internal.Rising.{Among, contained, contains, each_of}
+use Rattle.jtree.specs.Internal.Lookups.{option_cases, not_itself, member_first, member_later, later_name}
+use Rattle.jtree.specs.Internal.Rising.{Among, contained, contains}
 use Rattle.schema.specs.Document.Texts.{is_among}
 use Rattle.schema.specs.Nodes.Node.{Node, node, object, list, Fields, no_fields, field, IsNode, AreOrdered}
 use Rattle.schema.specs.Nodes.ByPlace.{Declared}
@@ -33,7 +33,8 @@ use Rattle.plan.specs.Samples.Keys.{AreInOrder, IsKeySlot, AreKeySlots, under, k
 use Rattle.plan.specs.Internal.PartLaws.{IsObjectPart, PartLaws}
 use Rattle.plan.specs.Internal.Keyed.{Keyed}
 use Rattle.plan.proofs.ApartLemmas.{map_same, same_map, among_filter, filter_among}
-use Rattle.plan.proofs.TupleLemmas.{same_tree, all_tuples}
+use Rattle.plan.proofs.OneValue.{one_part}
+use Rattle.plan.proofs.TupleLemmas.{all_tuples}
 use Rattle.plan.proofs.KeyedLemmas.{at_most}
 use Rattle.plan.proofs.FillingLemmas.{in_slots, in_nodes}
 use Rattle.plan.specs.Internal.Laws.{StoredLaw}
@@ -78,7 +79,7 @@ key_slot P fs path keys names o h s a key =
 pub have_keys : StoredLaw → (P : Pools) (fs : Fields) (path : List ℕ) (keys names : List (List ℕ)) → AreOrdered fs → AreKeys fs keys → HaveKeys P keys (field_slots P path keys names fs)
 have_keys stored P fs path keys names o h = record {
   order = fields_in_order P path keys names fs o;
-  are = λ s c key. let q = key_slot P fs path keys names o h s (contained (field_slots P path keys names fs) s c) key in record { must = q.1; leaf = leaf_any s.site.fixed _ (plain_leaf s.site.node q.2); one = scalar_one stored P s.site q.2; no_null = scalar_no_null stored P s.site q.2 };
+  are = λ s c key. let q = key_slot P fs path keys names o h s (contained (field_slots P path keys names fs) s c) key in record { must = q.1; leaf = leaf_any s.site.fixed _ (plain_leaf s.site.node q.2); one = scalar_one stored P s.site q.2; no_null = scalar_no_null stored P s.site q.2; one_value = λ e. one_part stored e P s.site q.2 };
   named = λ s a key. (key_slot P fs path keys names o h s a key).0;
   each = λ k a.
       let f = key_field fs keys h k a in
@@ -151,38 +152,65 @@ refilled P (s ∷ ss) (Some v ∷ gs) k o q h t = elim (cases_Bool s.key) [
 
 -- ---- objects that agree on all keys
 
-same_at : (o p : Option Data) → Decides (agree_at o p) (o ≡ p)
-same_at None None = ((λ t. refl), λ e. refl)
-same_at (Some v) (Some w) = ((λ t. ap Some ((same_tree v w).0 t)), λ e. (same_tree v w).1 (same_Some v w e))
-same_at _ _ = ((λ t. absurd (cc)), λ e. absurd (cc))
+agrees_itself : (e : Equality) (o : Option Data) → agree_at e o o ≡ true
+agrees_itself e None = refl
+agrees_itself e (Some v) = equal_itself e v
 
-agree_decides : (ms ns : Members) (keys : List (List ℕ)) → Decides (agree keys ms ns) (All (λ k. member_at k ms ≡ member_at k ns) keys)
-agree_decides ms ns keys = Decides-by_and (λ k. agree_at (member_at k ms) (member_at k ns)) (λ k. member_at k ms ≡ member_at k ns) (λ ks. agree ks ms ns) (λ k. same_at (member_at k ms) (member_at k ns)) refl (λ k ks. refl) keys
+agree_each : (e : Equality) (ms ns : Members) (keys : List (List ℕ)) → agree e keys ms ns ≡ true → (k : List ℕ) → Among keys k → agree_at e (member_at k ms) (member_at k ns) ≡ true
+agree_each e ms ns [] h k a = absurd a
+agree_each e ms ns (l ∷ keys) h k (inl same) = subst (λ n. agree_at e (member_at n ms) (member_at n ns) ≡ true) same (and_parts _ _ h).0
+agree_each e ms ns (l ∷ keys) h k (inr a) = agree_each e ms ns keys (and_parts _ _ h).1 k a
 
-module _ {P : Pools} {keys : List (List ℕ)} {ss : List Slot} (h : HaveKeys P keys ss) where
-  agree_same_key : (ms ns : Members) → agree keys ms ns ≡ true → key_under ss (tree.object ms) ≡ key_under ss (tree.object ns)
-  agree_same_key ms ns e = map_same (under ms) (under ns) (filter is_key ss) (λ s a.
-      let f = among_filter is_key ss s a in
-      ap (λ w. unwrap_or w tree.null) (All-contains (λ k. member_at k ms ≡ member_at k ns) keys s.name ((agree_decides ms ns keys).0 e) (contains keys s.name (h.named s f.0 f.1))))
+each_agree : (e : Equality) (ms ns : Members) (keys : List (List ℕ)) → ((k : List ℕ) → Among keys k → agree_at e (member_at k ms) (member_at k ns) ≡ true) → agree e keys ms ns ≡ true
+each_agree e ms ns [] h = refl
+each_agree e ms ns (k ∷ keys) h = and_from _ _ (h k (inl refl)) (each_agree e ms ns keys (λ l a. h l (inr a)))
 
-  found : (gs : List (Option Data)) → AreFillings P ss gs → (s : Slot) → Among ss s → s.key ≡ true → (v : Data) × (member_at s.name (members_in ss gs) ≡ Some v)
-  found gs are s a key = elim (option_cases (member_at s.name (members_in ss gs))) [ inl none ↦ absurd ((in_slots P ss gs h.order are).present s a (h.are s (contains ss s a) key).must none) | inr v ↦ v ]
+one_slot : (ss : List Slot) → AreInOrder ss → (s t : Slot) → Among ss s → Among ss t → s.name ≡ t.name → s ≡ t
+one_slot [] o s t a b same = absurd a
+one_slot (u ∷ ss) o s t (inl e) (inl f) same = sym e ∙ f
+one_slot (u ∷ ss) o s t (inl e) (inr b) same = absurd (not_itself u.name t.name (ap (λ x. Slot.name x) e ∙ same) (o.0 t (contains ss t b)))
+one_slot (u ∷ ss) o s t (inr a) (inl f) same = absurd (not_itself u.name s.name (ap (λ x. Slot.name x) f ∙ sym same) (o.0 s (contains ss s a)))
+one_slot (u ∷ ss) o s t (inr a) (inr b) same = one_slot ss o.1 s t a b same
 
-  same_key_agree : (gs hs : List (Option Data)) → AreFillings P ss gs → AreFillings P ss hs → key_under ss (tree.object (members_in ss gs)) ≡ key_under ss (tree.object (members_in ss hs)) → agree keys (members_in ss gs) (members_in ss hs) ≡ true
-  same_key_agree gs hs g i e =
+module _ {P : Pools} {keys : List (List ℕ)} {ss : List Slot} (e : Equality) (h : HaveKeys P keys ss) where
+  -- the value of a key, which is a part of its site
+  found : (gs : List (Option Data)) → AreFillings P ss gs → (s : Slot) → Among ss s → s.key ≡ true → (v : Data) × (member_at s.name (members_in ss gs) ≡ Some v) × IsPart P s.site v
+  found gs are s a key = elim (option_cases (member_at s.name (members_in ss gs))) [
+    | inl none ↦ absurd ((in_slots P ss gs h.order are).present s a (h.are s (contains ss s a) key).must none)
+    | inr v ↦
+        let r = (in_slots P ss gs h.order are).named s.name v.0 v.1 in
+        (v.0, v.1, subst (λ t. IsPart P (Slot.site t) v.0) (one_slot ss h.order r.0 s r.1 a r.2) r.3)
+  ]
+
+  agree_same_key : (gs hs : List (Option Data)) → AreFillings P ss gs → AreFillings P ss hs → agree e keys (members_in ss gs) (members_in ss hs) ≡ true
+      → key_under ss (tree.object (members_in ss gs)) ≡ key_under ss (tree.object (members_in ss hs))
+  agree_same_key gs hs g i agrees =
       let ms = members_in ss gs in
       let ns = members_in ss hs in
-      (agree_decides ms ns keys).1 (each_of (λ k. member_at k ms ≡ member_at k ns) keys (λ k a.
+      map_same (under ms) (under ns) (filter is_key ss) (λ s a.
+      let f = among_filter is_key ss s a in
+      let v = found gs g s f.0 f.1 in
+      let w = found hs i s f.0 f.1 in
+      let equal : equal_by e v.0 w.0 ≡ true = rw (v.1, w.1) at (agree_each e ms ns keys agrees s.name (h.named s f.0 f.1)) in
+      let one : v.0 ≡ w.0 = (h.are s (contains ss s f.0) f.1).one_value e v.0 w.0 v.2 w.2 equal in
+      rw (v.1, w.1) one)
+
+  same_key_agree : (gs hs : List (Option Data)) → AreFillings P ss gs → AreFillings P ss hs → key_under ss (tree.object (members_in ss gs)) ≡ key_under ss (tree.object (members_in ss hs)) → agree e keys (members_in ss gs) (members_in ss hs) ≡ true
+  same_key_agree gs hs g i same =
+      let ms = members_in ss gs in
+      let ns = members_in ss hs in
+      each_agree e ms ns keys (λ k a.
       let s = h.each k a in
       let v = found gs g s.0 s.1.0 s.1.2 in
       let w = found hs i s.0 s.1.0 s.1.2 in
-      let same = same_map (under ms) (under ns) (filter is_key ss) e s.0 (filter_among is_key ss s.0 s.1.0 s.1.2) in
-      subst (λ l. member_at l ms ≡ member_at l ns) s.1.1 (v.1 ∙ ap Some (rw (v.1, w.1) at same) ∙ sym w.1)))
+      let one = same_map (under ms) (under ns) (filter is_key ss) same s.0 (filter_among is_key ss s.0 s.1.0 s.1.2) in
+      let alike : member_at s.0.name ms ≡ member_at s.0.name ns = v.1 ∙ ap Some (rw (v.1, w.1) at one) ∙ sym w.1 in
+      subst (λ l. agree_at e (member_at l ms) (member_at l ns) ≡ true) s.1.1 (subst (λ o. agree_at e (member_at s.0.name ms) o ≡ true) alike (agrees_itself e (member_at s.0.name ms))))
 
 -- ---- all of it
 
 -- where each part is an object
-module _ (P : Pools) (s : Site) (row : (v : Data) → IsPart P s v ↔ IsObjectPart P s v) (keys : List (List ℕ)) (h : HaveKeys P keys (slots P s)) where
+module _ (P : Pools) (s : Site) (row : (v : Data) → IsPart P s v ↔ IsObjectPart P s v) (e : Equality) (keys : List (List ℕ)) (h : HaveKeys P keys (slots P s)) where
   object_given : (gs : List (Option Data)) (k : List Data) → AreFillings P (slots P s) gs → MayEnd (ending_of P s) (state_after (slots P s) gs nothing) → IsTuple P (filter is_key (slots P s)) k
       → (w : Data) × (IsPart P s w × (key_under (slots P s) w ≡ k) × (node_count w ≡ node_count (tree.object (members_in (slots P s) gs))))
   object_given gs k are ends is =
@@ -191,15 +219,15 @@ module _ (P : Pools) (s : Site) (row : (v : Data) → IsPart P s v ↔ IsObjectP
       let part = (row w).1 (record { fillings = r.fillings; is = refl; are = r.are; ends = subst (MayEnd (ending_of P s)) (sym (r.state_is nothing)) ends }) in
       (w, (part, r.key_is, ap (λ m. 1 + m) (in_nodes P (slots P s) r.fillings r.are ∙ r.nodes_are ∙ sym (in_nodes P (slots P s) gs are))))
 
-  pub objects_alike : (v w : Data) → IsPart P s v → IsPart P s w → (are_alike Map keys v w ≡ true) ↔ (key_under (slots P s) v ≡ key_under (slots P s) w)
+  pub objects_alike : (v w : Data) → IsPart P s v → IsPart P s w → (are_alike (Map e) keys v w ≡ true) ↔ (key_under (slots P s) v ≡ key_under (slots P s) w)
   objects_alike v w p r =
       let x = (row v).0 p in
       let y = (row w).0 r in (
-        (λ e. rw (x.is, y.is) (agree_same_key h (members_in (slots P s) x.fillings) (members_in (slots P s) y.fillings) (rw (x.is, y.is) at e))),
-        λ e. rw (x.is, y.is) (same_key_agree h x.fillings y.fillings x.are y.are (rw (x.is, y.is) at e)),
+        (λ same. rw (x.is, y.is) (agree_same_key e h x.fillings y.fillings x.are y.are (rw (x.is, y.is) at same))),
+        λ same. rw (x.is, y.is) (same_key_agree e h x.fillings y.fillings x.are y.are (rw (x.is, y.is) at same)),
       )
 
-  objects_keyed : (counts : List ℕ) → AreCounts P (filter is_key (slots P s)) counts → (K : Keyed P s (are_alike Map keys)) × (length K.keys ≡ product counts)
+  objects_keyed : (counts : List ℕ) → AreCounts P (filter is_key (slots P s)) counts → (K : Keyed P s (are_alike (Map e) keys)) × (length K.keys ≡ product counts)
   objects_keyed counts count =
       let all = all_tuples P (filter is_key (slots P s)) counts count in (
         record {
@@ -223,24 +251,24 @@ own_keys stored P path (node n t (object fs preserves type b cs)) keys o h = (ha
 own_keys stored P path N keys o h = absurd h
 
 -- the items of a map list are alike exactly where they have the same under all keys
-pub map_alike : StoredLaw → PartLaws → (P : Pools) (path : List ℕ) (own : List (List ℕ)) (n : Bool) (t : Option (List ℕ)) (N : Node) (keys : List (List ℕ)) (b : Bounds) → IsNode N → HasKeys N keys
-    → AreMapItems P (record { node = node n t (list N Map keys b); keys = own; path = path; fixed = None }) (record { node = N; keys = keys; path = below path step.item; fixed = None })
-map_alike stored laws P path own n t (node m u (object fs preserves type c cs)) keys b o h =
+pub map_alike : StoredLaw → PartLaws → (e : Equality) (P : Pools) (path : List ℕ) (own : List (List ℕ)) (n : Bool) (t : Option (List ℕ)) (N : Node) (keys : List (List ℕ)) (b : Bounds) → IsNode N → HasKeys N keys
+    → AreMapItems P (record { node = node n t (list N (Map e) keys b); keys = own; path = path; fixed = None }) (record { node = N; keys = keys; path = below path step.item; fixed = None })
+map_alike stored laws e P path own n t (node m u (object fs preserves type c cs)) keys b o h =
     let s : Site = record { node = node m u (object fs preserves type c cs); keys = keys; path = below path step.item; fixed = None } in
     let law = only_objects laws P s o refl (rw h.0 refl) in
     let have = have_keys stored P fs (below path step.item) keys (named cs) o h.2 in
     record {
       row = refl;
       never_null = rw h.0 refl;
-      alike = objects_alike P s law keys have;
-      most = λ ds counts are apart count. let k = objects_keyed P s law keys have counts count in at_most k.0 (product counts) k.1 ds are apart;
+      alike = objects_alike P s law e keys have;
+      most = λ ds counts are apart count. let k = objects_keyed P s law e keys have counts count in at_most k.0 (product counts) k.1 ds are apart;
     }
-map_alike stored laws P path own n t N keys b o h = absurd h
+map_alike stored laws e P path own n t N keys b o h = absurd h
 
-pub map_keyed : StoredLaw → PartLaws → (P : Pools) (fixed : Option (List Data)) (path : List ℕ) (N : Node) (keys : List (List ℕ)) (counts : List ℕ) → fixed ≡ None → IsNode N → HasKeys N keys → AreCounts P (filter is_key (slots P (record { node = N; keys = keys; path = path; fixed = fixed }))) counts
-    → (K : Keyed P (record { node = N; keys = keys; path = path; fixed = fixed }) (are_alike Map keys)) × (length K.keys ≡ product counts)
-map_keyed stored laws P None path (node n t (object fs preserves type b cs)) keys counts free o h count =
+pub map_keyed : StoredLaw → PartLaws → (e : Equality) (P : Pools) (fixed : Option (List Data)) (path : List ℕ) (N : Node) (keys : List (List ℕ)) (counts : List ℕ) → fixed ≡ None → IsNode N → HasKeys N keys → AreCounts P (filter is_key (slots P (record { node = N; keys = keys; path = path; fixed = fixed }))) counts
+    → (K : Keyed P (record { node = N; keys = keys; path = path; fixed = fixed }) (are_alike (Map e) keys)) × (length K.keys ≡ product counts)
+map_keyed stored laws e P None path (node n t (object fs preserves type b cs)) keys counts free o h count =
     let s : Site = record { node = node n t (object fs preserves type b cs); keys = keys; path = path; fixed = None } in
-    objects_keyed P s (only_objects laws P s o refl (rw h.0 refl)) keys (have_keys stored P fs path keys (named cs) o h.2) counts count
-map_keyed stored laws P None path N keys counts free o h count = absurd h
-map_keyed stored laws P (Some ds) path N keys counts free o h count = absurd (cc)
+    objects_keyed P s (only_objects laws P s o refl (rw h.0 refl)) e keys (have_keys stored P fs path keys (named cs) o h.2) counts count
+map_keyed stored laws e P None path N keys counts free o h count = absurd h
+map_keyed stored laws e P (Some ds) path N keys counts free o h count = absurd (cc)

@@ -26,6 +26,7 @@ use Rattle.stored.specs.Objects.StoredByParts.{IsStoredField, are_apart, IsWithi
 use Rattle.plan.specs.Pools.Pools.{Pools, fixed_at, is_present}
 use Rattle.explain.specs.Paths.FieldPath.{FieldStep, place_step, place_of}
 use Rattle.explain.specs.Paths.FieldPath as step
+use Rattle.plan.specs.Samples.Leasts.{leasts}
 use Rattle.plan.specs.Samples.Over.{is_in, is_over_here, asks_field, has_present, has_enough, all_names, StepFollows, IsOver}
 use Rattle.plan.specs.Samples.Site.{fixed_below}
 use Rattle.plan.specs.Samples.Part.{IsPart}
@@ -515,7 +516,7 @@ leaf_law P (Some ds) N path keys v free leaf = absurd (cc)
 
 -- of a node whose values are fixed the parts are not asked
 fixed_law : (P : Pools) (fixed : Option (List Data)) (N : Node) (path : List ℕ) (keys : List (List ℕ)) (v : Data) (ds : List Data) → fixed ≡ Some ds
-    → IsPart P (record { node = N; keys = keys; path = path; fixed = fixed }) v ↔ (IsTree v × IsStored N v × (is_in v ds ≡ true))
+    → IsPart P (record { node = N; keys = keys; path = path; fixed = fixed }) v ↔ (IsTree v × IsStored N v × (is_in v (leasts ds) ≡ true))
 fixed_law P (Some es) N path keys v ds is = rw (← same_Some es ds is) ((λ h. (h.tree, h.stored, h.over [] [])), λ h. record { tree = h.0; stored = h.1; over = λ rest p. h.2 })
 fixed_law P None N path keys v ds is = absurd (cc)
 

@@ -81,8 +81,8 @@ module _ (one : OneText) (root : Node) (P : Pools) (good : HasGoodPaths root P) 
   pub item_plain : (c : FieldPath) (n : Bool) (d : Option (List ℕ)) (N : Node) (type : ListType) (keys : List (List ℕ)) (b : Bounds) → node_at root (place_of c) ≡ Some (node n d (list N type keys b))
       → fixed_item P type (below (path_text c) step.item) ≡ fixed_at (below (path_text c) step.item) P
   item_plain c n d N Atomic keys b found = refl
-  item_plain c n d N Set keys b found = refl
-  item_plain c n d N Map keys b found = sym (items_free c (node n d (list N Map keys b)) found refl)
+  item_plain c n d N (Set e) keys b found = refl
+  item_plain c n d N (Map e) keys b found = sym (items_free c (node n d (list N (Map e) keys b)) found refl)
 
 -- ---- where sites are
 

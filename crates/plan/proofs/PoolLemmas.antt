@@ -25,7 +25,7 @@ use Rattle.plan.specs.Pools.Oversized.{place_of, size_of, most_of, IsOversized}
 use Rattle.plan.specs.Internal.PathLists.{list_count, long_list, IsLongList}
 use Rattle.plan.specs.declared.pool_limits.PoolLimits.{PoolLimits}
 use Rattle.plan.specs.declared.pool_sizes.PoolName.{PoolName}
-use Rattle.plan.specs.declared.pool_sizes.PoolName.TheVariants.{Any, Fixed, FixedAt, Integers, Names, Paths, At, Present, Strings}
+use Rattle.plan.specs.declared.pool_sizes.PoolName.TheVariants.{Any, Fixed, FixedAt, Integers, Names, Numbers, Paths, At, Present, Strings}
 use Rattle.plan.specs.declared.pool_sizes.Oversized.{Oversized}
 
 pub trees_listed : (ts : List Tree) → map data_of ts ≡ items_list (items_of ts)
@@ -191,33 +191,42 @@ module _ (limits : PoolLimits) (P : Pools) where
   names_first a f g i Integers over = absurd (omega arith)
   names_first a f g i q over = λ less. cc
 
-  paths_first : Small Any → Small Fixed → AreShort P.fixed → Small Integers → Small Names → IsEarliest Paths
-  paths_first a f g i n Any over = absurd (omega arith)
-  paths_first a f g i n Fixed over = absurd (omega arith)
-  paths_first a f g i n (FixedAt text) over = let few = g text.now in absurd (omega arith)
-  paths_first a f g i n Integers over = absurd (omega arith)
-  paths_first a f g i n Names over = absurd (omega arith)
-  paths_first a f g i n q over = λ less. cc
+  numbers_first : Small Any → Small Fixed → AreShort P.fixed → Small Integers → Small Names → IsEarliest Numbers
+  numbers_first a f g i n Any over = absurd (omega arith)
+  numbers_first a f g i n Fixed over = absurd (omega arith)
+  numbers_first a f g i n (FixedAt text) over = let few = g text.now in absurd (omega arith)
+  numbers_first a f g i n Integers over = absurd (omega arith)
+  numbers_first a f g i n Names over = absurd (omega arith)
+  numbers_first a f g i n q over = λ less. cc
 
-  at_first : Small Any → Small Fixed → AreShort P.fixed → Small Integers → Small Names → Small Paths → (k : Bor (List ℕ)) → ((text : List ℕ) → limits.entries < count_at text P.paths → (text ≡ k.now) ⊎ (text_cmp k.now text ≡ Less)) → IsEarliest (At k)
-  at_first a f g i n p k first Present over = λ less. cc
-  at_first a f g i n p k first Strings over = λ less. cc
-  at_first a f g i n p k first (At text) over = list_first (codes "paths") k.now text.now (first text.now over)
-  at_first a f g i n p k first (FixedAt text) over = let few = g text.now in absurd (omega arith)
-  at_first a f g i n p k first q over = absurd (omega arith)
+  paths_first : Small Any → Small Fixed → AreShort P.fixed → Small Integers → Small Names → Small Numbers → IsEarliest Paths
+  paths_first a f g i n m Any over = absurd (omega arith)
+  paths_first a f g i n m Fixed over = absurd (omega arith)
+  paths_first a f g i n m (FixedAt text) over = let few = g text.now in absurd (omega arith)
+  paths_first a f g i n m Integers over = absurd (omega arith)
+  paths_first a f g i n m Names over = absurd (omega arith)
+  paths_first a f g i n m Numbers over = absurd (omega arith)
+  paths_first a f g i n m q over = λ less. cc
 
-  present_first : Small Any → Small Fixed → AreShort P.fixed → Small Integers → Small Names → Small Paths → AreShort P.paths → IsEarliest Present
-  present_first a f g i n p t Present over = λ less. cc
-  present_first a f g i n p t Strings over = λ less. cc
-  present_first a f g i n p t (At text) over = let few = t text.now in absurd (omega arith)
-  present_first a f g i n p t (FixedAt text) over = let few = g text.now in absurd (omega arith)
-  present_first a f g i n p t q over = absurd (omega arith)
+  at_first : Small Any → Small Fixed → AreShort P.fixed → Small Integers → Small Names → Small Numbers → Small Paths → (k : Bor (List ℕ)) → ((text : List ℕ) → limits.entries < count_at text P.paths → (text ≡ k.now) ⊎ (text_cmp k.now text ≡ Less)) → IsEarliest (At k)
+  at_first a f g i n m p k first Present over = λ less. cc
+  at_first a f g i n m p k first Strings over = λ less. cc
+  at_first a f g i n m p k first (At text) over = list_first (codes "paths") k.now text.now (first text.now over)
+  at_first a f g i n m p k first (FixedAt text) over = let few = g text.now in absurd (omega arith)
+  at_first a f g i n m p k first q over = absurd (omega arith)
 
-  strings_first : Small Any → Small Fixed → AreShort P.fixed → Small Integers → Small Names → Small Paths → AreShort P.paths → Small Present → IsEarliest Strings
-  strings_first a f g i n p t r Strings over = λ less. cc
-  strings_first a f g i n p t r (At text) over = let few = t text.now in absurd (omega arith)
-  strings_first a f g i n p t r (FixedAt text) over = let few = g text.now in absurd (omega arith)
-  strings_first a f g i n p t r q over = absurd (omega arith)
+  present_first : Small Any → Small Fixed → AreShort P.fixed → Small Integers → Small Names → Small Numbers → Small Paths → AreShort P.paths → IsEarliest Present
+  present_first a f g i n m p t Present over = λ less. cc
+  present_first a f g i n m p t Strings over = λ less. cc
+  present_first a f g i n m p t (At text) over = let few = t text.now in absurd (omega arith)
+  present_first a f g i n m p t (FixedAt text) over = let few = g text.now in absurd (omega arith)
+  present_first a f g i n m p t q over = absurd (omega arith)
+
+  strings_first : Small Any → Small Fixed → AreShort P.fixed → Small Integers → Small Names → Small Numbers → Small Paths → AreShort P.paths → Small Present → IsEarliest Strings
+  strings_first a f g i n m p t r Strings over = λ less. cc
+  strings_first a f g i n m p t r (At text) over = let few = t text.now in absurd (omega arith)
+  strings_first a f g i n m p t r (FixedAt text) over = let few = g text.now in absurd (omega arith)
+  strings_first a f g i n m p t r q over = absurd (omega arith)
 
   is_first : (pool : PoolName) (x : Oversized) → (x ≡ record { pool = pool; found = size_of pool P; allowed = most_of pool limits }) × (most_of pool limits < size_of pool P) → IsEarliest pool → IsOversized limits P x
   is_first pool x h first = subst (IsOversized limits P) (sym h.0) (record { found = refl; allowed = refl; over = h.1; first = first })
@@ -227,14 +236,15 @@ module _ (limits : PoolLimits) (P : Pools) where
       let r = first_long limits.entries P.fixed h.0.now x.found o h.3 in
       record { found = rw h.1 r.count; allowed = rw h.1 h.2; over = rw h.2 r.over; first = rw h.1 (fixed_at_first a f h.0 r.first) }
 
-  path_is_first : (x : Oversized) → AreMembers P.paths → Small Any → Small Fixed → AreShort P.fixed → Small Integers → Small Names → Small Paths → IsLongList At limits.entries P.paths x → IsOversized limits P x
-  path_is_first x o a f g i n p h =
+  path_is_first : (x : Oversized) → AreMembers P.paths → Small Any → Small Fixed → AreShort P.fixed → Small Integers → Small Names → Small Numbers → Small Paths → IsLongList At limits.entries P.paths x → IsOversized limits P x
+  path_is_first x o a f g i n m p h =
       let r = first_long limits.entries P.paths h.0.now x.found o h.3 in
-      record { found = rw h.1 r.count; allowed = rw h.1 h.2; over = rw h.2 r.over; first = rw h.1 (at_first a f g i n p h.0 r.first) }
+      record { found = rw h.1 r.count; allowed = rw h.1 h.2; over = rw h.2 r.over; first = rw h.1 (at_first a f g i n m p h.0 r.first) }
 
-  all_small : Small Any → Small Fixed → AreShort P.fixed → Small Integers → Small Names → Small Paths → AreShort P.paths → Small Present → Small Strings → AreSmall limits P
-  all_small a f g i n p t r s = record {
+  all_small : Small Any → Small Fixed → AreShort P.fixed → Small Integers → Small Names → Small Numbers → Small Paths → AreShort P.paths → Small Present → Small Strings → AreSmall limits P
+  all_small a f g i n m p t r s = record {
     integers = i;
+    numbers = m;
     strings = s;
     names = n;
     any = a;
@@ -249,20 +259,21 @@ module _ (limits : PoolLimits) (P : Pools) where
   short ms none = no_long_list limits.entries ms none
 
   -- from `paths` on
-  later_oversized : (paths list present strings : Option Oversized) → AreMembers P.paths → Small Any → Small Fixed → AreShort P.fixed → Small Integers → Small Names → IsTested limits P Paths paths → AreTested At limits.entries P.paths list
+  later_oversized : (paths list present strings : Option Oversized) → AreMembers P.paths → Small Any → Small Fixed → AreShort P.fixed → Small Integers → Small Names → Small Numbers → IsTested limits P Paths paths → AreTested At limits.entries P.paths list
       → IsTested limits P Present present → IsTested limits P Strings strings → MatchOption (option_or (option_or (option_or paths list) present) strings) (AreSmall limits P) (IsOversized limits P)
-  later_oversized (Some x) list present strings o a f g i n p t r s = is_first Paths x p (paths_first a f g i n)
-  later_oversized None (Some x) present strings o a f g i n p t r s = path_is_first x o a f g i n p t
-  later_oversized None None (Some x) strings o a f g i n p t r s = is_first Present x r (present_first a f g i n p (short P.paths t))
-  later_oversized None None None (Some x) o a f g i n p t r s = is_first Strings x s (strings_first a f g i n p (short P.paths t) r)
-  later_oversized None None None None o a f g i n p t r s = all_small a f g i n p (short P.paths t) r s
+  later_oversized (Some x) list present strings o a f g i n m p t r s = is_first Paths x p (paths_first a f g i n m)
+  later_oversized None (Some x) present strings o a f g i n m p t r s = path_is_first x o a f g i n m p t
+  later_oversized None None (Some x) strings o a f g i n m p t r s = is_first Present x r (present_first a f g i n m p (short P.paths t))
+  later_oversized None None None (Some x) o a f g i n m p t r s = is_first Strings x s (strings_first a f g i n m p (short P.paths t) r)
+  later_oversized None None None None o a f g i n m p t r s = all_small a f g i n m p (short P.paths t) r s
 
-  pub first_oversized : (any fixed fixed_list integers names paths list present strings : Option Oversized) → AreMembers P.fixed → AreMembers P.paths → IsTested limits P Any any → IsTested limits P Fixed fixed → AreTested FixedAt limits.entries P.fixed fixed_list
-      → IsTested limits P Integers integers → IsTested limits P Names names → IsTested limits P Paths paths → AreTested At limits.entries P.paths list → IsTested limits P Present present → IsTested limits P Strings strings
-      → MatchOption (option_or (option_or (option_or (option_or (option_or (option_or (option_or (option_or any fixed) fixed_list) integers) names) paths) list) present) strings) (AreSmall limits P) (IsOversized limits P)
-  first_oversized (Some x) fixed fixed_list integers names paths list present strings of op a f g i n p t r s = is_first Any x a any_first
-  first_oversized None (Some x) fixed_list integers names paths list present strings of op a f g i n p t r s = is_first Fixed x f (fixed_first a)
-  first_oversized None None (Some x) integers names paths list present strings of op a f g i n p t r s = fixed_is_first x of a f g
-  first_oversized None None None (Some x) names paths list present strings of op a f g i n p t r s = is_first Integers x i (integers_first a f (short P.fixed g))
-  first_oversized None None None None (Some x) paths list present strings of op a f g i n p t r s = is_first Names x n (names_first a f (short P.fixed g) i)
-  first_oversized None None None None None paths list present strings of op a f g i n p t r s = later_oversized paths list present strings op a f (short P.fixed g) i n p t r s
+  pub first_oversized : (any fixed fixed_list integers names numbers paths list present strings : Option Oversized) → AreMembers P.fixed → AreMembers P.paths → IsTested limits P Any any → IsTested limits P Fixed fixed → AreTested FixedAt limits.entries P.fixed fixed_list
+      → IsTested limits P Integers integers → IsTested limits P Names names → IsTested limits P Numbers numbers → IsTested limits P Paths paths → AreTested At limits.entries P.paths list → IsTested limits P Present present → IsTested limits P Strings strings
+      → MatchOption (option_or (option_or (option_or (option_or (option_or (option_or (option_or (option_or (option_or any fixed) fixed_list) integers) names) numbers) paths) list) present) strings) (AreSmall limits P) (IsOversized limits P)
+  first_oversized (Some x) fixed fixed_list integers names numbers paths list present strings of op a f g i n m p t r s = is_first Any x a any_first
+  first_oversized None (Some x) fixed_list integers names numbers paths list present strings of op a f g i n m p t r s = is_first Fixed x f (fixed_first a)
+  first_oversized None None (Some x) integers names numbers paths list present strings of op a f g i n m p t r s = fixed_is_first x of a f g
+  first_oversized None None None (Some x) names numbers paths list present strings of op a f g i n m p t r s = is_first Integers x i (integers_first a f (short P.fixed g))
+  first_oversized None None None None (Some x) numbers paths list present strings of op a f g i n m p t r s = is_first Names x n (names_first a f (short P.fixed g) i)
+  first_oversized None None None None None (Some x) paths list present strings of op a f g i n m p t r s = is_first Numbers x m (numbers_first a f (short P.fixed g) i n)
+  first_oversized None None None None None None paths list present strings of op a f g i n m p t r s = later_oversized paths list present strings op a f (short P.fixed g) i n m p t r s

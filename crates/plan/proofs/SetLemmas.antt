@@ -1,17 +1,20 @@
 -- The items of a set: scalars, each its own key.
 use Rattle.std.specs.Prelude.{◌≡◌, ℕ, List, [], ◌∷◌, length, map, true}
-use Rattle.std.proofs.Common.{refl, ap, sym, ◌∙◌}
+use Rattle.std.proofs.Common.{refl, ap, sym, subst, ◌∙◌}
 use Rattle.std.proofs.lemmas.List.{length-map}
 use Rattle.jtree.specs.Data.{Data}
 use Rattle.jtree.specs.Data as tree
+use Rattle.jtree.specs.Equality.{equal_by}
 use Rattle.jtree.specs.Nodes.{node_count}
+use Rattle.jtree.specs.Internal.EqualityLaws.{equal_itself}
+use Rattle.jtree.specs.declared.equality.Equality.{Equality}
 use Rattle.jtree.specs.Internal.Rising.{contained, contains}
 use Rattle.schema.specs.Nodes.Node.{Node, node, scalar, object, list, open_}
 use Rattle.schema.specs.Nodes.Node as nodes
 use Rattle.schema.specs.Nodes.Items.{IsPlainScalar}
 use Rattle.schema.specs.declared.node.ScalarKind.{ScalarKind}
-use Rattle.schema.specs.declared.node.ScalarKind.TheVariants.{Boolean, Integer, String, IntOrString}
-use Rattle.stored.specs.Objects.Tests.{accepts_scalar, is_same}
+use Rattle.schema.specs.declared.node.ScalarKind.TheVariants.{Boolean, Integer, Number, String, IntOrString}
+use Rattle.stored.specs.Objects.Tests.{accepts_scalar}
 use Rattle.stored.specs.Objects.StoredByParts.{IsValidHere}
 use Rattle.plan.specs.Pools.Pools.{Pools}
 use Rattle.plan.specs.Samples.Sites.{Site}
@@ -20,7 +23,8 @@ use Rattle.plan.specs.Samples.Candidates.{sort_at, HasCount}
 use Rattle.plan.specs.Internal.Keyed.{Keyed}
 use Rattle.plan.specs.declared.sort.Sort.TheVariants.{Leaf}
 use Rattle.plan.proofs.ApartLemmas.{map_among, among_map, map_apart}
-use Rattle.plan.proofs.TupleLemmas.{same_tree, all_apart}
+use Rattle.plan.proofs.OneValue.{one_part}
+use Rattle.plan.proofs.TupleLemmas.{all_apart}
 use Rattle.plan.specs.Internal.Laws.{StoredLaw}
 
 pub plain_leaf : (N : Node) → IsPlainScalar N → sort_at N ≡ Leaf
@@ -33,6 +37,8 @@ plain_leaf (node n t open_) plain = absurd plain
 one_node : (kind : ScalarKind) (v : Data) → accepts_scalar kind v ≡ true → node_count v ≡ 1
 one_node Boolean (tree.boolean b) e = refl
 one_node Integer (tree.integer z) e = refl
+one_node Number (tree.integer z) e = refl
+one_node Number (tree.number s) e = refl
 one_node String (tree.text s) e = refl
 one_node IntOrString (tree.integer z) e = refl
 one_node IntOrString (tree.text s) e = refl
@@ -57,8 +63,8 @@ valid_no_null (node n t open_) plain valid = plain
 pub scalar_no_null : StoredLaw → (P : Pools) (s : Site) → IsPlainScalar s.node → IsPart P s tree.null → ⊥
 scalar_no_null stored P s plain h = valid_no_null s.node plain ((stored s.node tree.null).0 h.stored).0
 
-pub set_keyed : StoredLaw → (P : Pools) (M : Site) (count : ℕ) → IsPlainScalar M.node → HasCount (IsPart P M) count → (K : Keyed P M is_same) × (length K.keys ≡ count)
-set_keyed stored P M count plain h =
+pub set_keyed : StoredLaw → (e : Equality) (P : Pools) (M : Site) (count : ℕ) → IsPlainScalar M.node → HasCount (IsPart P M) count → (K : Keyed P M (equal_by e)) × (length K.keys ≡ count)
+set_keyed stored e P M count plain h =
     let vs = h.values in
     let one : Data → List Data = λ v. v ∷ [] in
     let size = scalar_one stored P M plain in (
@@ -71,8 +77,8 @@ set_keyed stored P M count plain h =
             let w = among_map one vs k a in
             let q = (h.are.each w.0).0 (contains vs w.0 w.1.0) in
             (w.0, (q, w.1.1, size w.0 q ∙ sym (size v p)));
-        alike_same_key = λ v w p q e. ap one ((same_tree v w).0 e);
-        same_key_alike = λ v w p q e. (same_tree v w).1 (cc);
+        alike_same_key = λ v w p q same. ap one (one_part stored e P M plain v w p q same);
+        same_key_alike = λ v w p q same. let one : v ≡ w = cc in subst (λ u. equal_by e v u ≡ true) one (equal_itself e v);
       },
       length-map vs one ∙ h.count_is,
     )

@@ -30,7 +30,7 @@ abbrev IsSoundBelow : Node → Type 0
 IsSoundBelow N = (p : Place) (M : Node) → node_at N p ≡ Some M → HasSoundItems M × HasSoundJunctors M
 
 no_pools : Pools
-no_pools = record { integers = []; strings = []; names = []; any = []; paths = no_members; present = []; fixed = no_members }
+no_pools = record { integers = []; numbers = []; strings = []; names = []; any = []; paths = no_members; present = []; fixed = no_members }
 
 -- a field after the first has another name
 pub later_field : (l : List ℕ) (N : Node) (required : Bool) (default : Option Data) (fs : Fields) → AreOrdered (field l N required default fs) → (k : List ℕ) (f : Declared) → field_at k fs ≡ Some f → bytes_eq k l ≡ false
@@ -76,8 +76,8 @@ abbrev pub AreKeysOf : Node → List (List ℕ) → Type 0
 AreKeysOf N keys = (keys ≡ []) ⊎ HasKeys N keys
 
 keys_of_items : (type : ListType) (keys : List (List ℕ)) (N : Node) → AreDistinct type keys N → AreKeysOf N (item_keys type keys)
-keys_of_items Map keys N h = inr h
-keys_of_items Set keys N h = inl refl
+keys_of_items (Map e) keys N h = inr h
+keys_of_items (Set e) keys N h = inl refl
 keys_of_items Atomic keys N h = inl refl
 
 -- its node is ordered, its items and those below it can be distinguished, the site of its items is one of all, and its keys are its own

@@ -19,6 +19,7 @@ use Rattle.plan.specs.Samples.Keys.{AreInOrder, AreKeySlots, AreSetItems, AreMap
 use Rattle.plan.specs.Internal.PartLaws.{PartLaws}
 use Rattle.plan.specs.declared.sort.Distinct.TheVariants.{Free, Whole, Keys}
 use Rattle.plan.proofs.KeyedLemmas.{at_most}
+use Rattle.plan.proofs.OneValue.{one_test}
 use Rattle.plan.proofs.MapListLemmas.{slot_key, own_keys, map_alike}
 use Rattle.plan.specs.Internal.Laws.{StoredLaw}
 use Rattle.plan.proofs.PartLemmas.{fields_in_order, name_of_value_slot, values_in_order}
@@ -53,20 +54,20 @@ never_alike (node n t (list N Atomic keys b)) e v w = refl
 never_alike N e v w = cc
 
 set_items : StoredLaw → (P : Pools) (path : List ℕ) (N : Node) (own : List (List ℕ)) (M : Site) → item_site_at P path N ≡ Some M → distinct_at N ≡ Whole → HasSoundItems N → AreSetItems P (record { node = N; keys = own; path = path; fixed = None }) M
-set_items stored P path (node n t (list K Set keys b)) own M is whole h =
-    subst (AreSetItems P (record { node = node n t (list K Set keys b); keys = own; path = path; fixed = None })) (same_Some _ M is) (record {
+set_items stored P path (node n t (list K (Set e) keys b)) own M is whole h =
+    subst (AreSetItems P (record { node = node n t (list K (Set e) keys b); keys = own; path = path; fixed = None })) (same_Some _ M is) (record {
       leaf = leaf_any (fixed_at (below path item) P) _ (plain_leaf K h);
       one = scalar_one stored P (plain P (below path item) K) h;
-      alike = λ v w. refl;
-      most = λ ds count are apart candidates. let k = set_keyed stored P (plain P (below path item) K) count h candidates in at_most k.0 count k.1 ds are apart;
+      alike = λ v w p q. one_test stored e P (plain P (below path item) K) h v w p q;
+      most = λ ds count are apart candidates. let k = set_keyed stored e P (plain P (below path item) K) count h candidates in at_most k.0 count k.1 ds are apart;
     })
-set_items stored P path (node n t (list K Map keys b)) own M is whole h = absurd (cc)
+set_items stored P path (node n t (list K (Map e) keys b)) own M is whole h = absurd (cc)
 set_items stored P path (node n t (list K Atomic keys b)) own M is whole h = absurd (cc)
 set_items stored P path N own M is whole h = absurd (cc)
 
 map_items : StoredLaw → PartLaws → (P : Pools) (path : List ℕ) (N : Node) (own : List (List ℕ)) (M : Site) → item_site_at P path N ≡ Some M → distinct_at N ≡ Keys → IsNode N → HasSoundItems N → AreMapItems P (record { node = N; keys = own; path = path; fixed = None }) M
-map_items stored laws P path (node n t (list K Map keys b)) own M is by o h = subst (AreMapItems P (record { node = node n t (list K Map keys b); keys = own; path = path; fixed = None })) (same_Some _ M is) (map_alike stored laws P path own n t K keys b o h)
-map_items stored laws P path (node n t (list K Set keys b)) own M is by o h = absurd (cc)
+map_items stored laws P path (node n t (list K (Map e) keys b)) own M is by o h = subst (AreMapItems P (record { node = node n t (list K (Map e) keys b); keys = own; path = path; fixed = None })) (same_Some _ M is) (map_alike stored laws e P path own n t K keys b o h)
+map_items stored laws P path (node n t (list K (Set e) keys b)) own M is by o h = absurd (cc)
 map_items stored laws P path (node n t (list K Atomic keys b)) own M is by o h = absurd (cc)
 map_items stored laws P path N own M is by o h = absurd (cc)
 

@@ -12,6 +12,7 @@ use Rattle.schema.specs.Nodes.Node as nodes
 use Rattle.schema.specs.Nodes.ByPlace.{Declared, field_at, node_at}
 use Rattle.schema.specs.declared.node.Bounds.{Bounds}
 use Rattle.schema.specs.declared.node.MapType.{MapType}
+use Rattle.jtree.specs.declared.equality.Equality.{Equality}
 use Rattle.schema.specs.declared.node.ListType.{ListType}
 use Rattle.schema.specs.declared.node.ListType.TheVariants.{Atomic, Set, Map}
 use Rattle.schema.specs.Nodes.Items.{HasSoundItems}
@@ -279,10 +280,10 @@ no_slot_at P names sites n at [] path keys named k N r d (field l M r2 d2 fs) he
 no_slot_at P names sites n zero (e ∷ es) path keys named k N r d (field l M r2 d2 fs) here h none = cc
 no_slot_at P names sites n (suc at) (e ∷ es) path keys named k N r d (field l M r2 d2 fs) here h none = no_slot_at P names sites n at es path keys named k N r d fs here h.1 none
 
-item_free : (Q : Pools) (text : List ℕ) (t : ListType) → (t ≡ Map → fixed_at text Q ≡ None) → fixed_item Q t text ≡ fixed_at text Q
+item_free : (Q : Pools) (text : List ℕ) (t : ListType) → ((e : Equality) → t ≡ Map e → fixed_at text Q ≡ None) → fixed_item Q t text ≡ fixed_at text Q
 item_free Q text Atomic h = refl
-item_free Q text Set h = refl
-item_free Q text Map h = sym (h refl)
+item_free Q text (Set e) h = refl
+item_free Q text (Map e) h = sym (h e refl)
 
 some_of : {X : Type 0} (xs : List X) → 0 < length xs → X
 some_of [] l = absurd (omega arith)
@@ -435,7 +436,7 @@ module _ (one : OneText) {Z : Type 0} (holds : Z → ℕ → Type 0) (limit : �
         let plain_here : site_at others n ≡ record { node = ListHere; keys = s.keys; path = path; fixed = None } = here_over way on ∙ ap (λ f. record { node = ListHere; keys = s.keys; path = path; fixed = f }) free in
         let placed = way.placed n on.inside in
         let free_items : fixed_item Q type (below path step.item) ≡ fixed_at (below path step.item) Q =
-        item_free Q (below path step.item) type (λ is. subst (λ t. fixed_at (below t step.item) Q ≡ None) (sym placed.path_is ∙ on.path_is) (way.items placed.front ListHere (placed.leads ∙ ap Some on.node) (ap (λ t. is_map_list (node m d (list M t ks b))) is)))
+        item_free Q (below path step.item) type (λ e is. subst (λ t. fixed_at (below t step.item) Q ≡ None) (sym placed.path_is ∙ on.path_is) (way.items placed.front ListHere (placed.leads ∙ ap Some on.node) (ap (λ t. is_map_list (node m d (list M t ks b))) is)))
         in
         let item_over : site_at others c ≡ record { node = M; keys = item_keys type ks; path = below path step.item; fixed = fixed_item Q type (below path step.item) } =
         way.others_are c (let l = here.0 in let w = on.inside in omega arith) ∙ (ap (over Q) (sym item) ∙ ap (λ f. record { node = M; keys = item_keys type ks; path = below path step.item; fixed = f }) (sym free_items))

@@ -1,6 +1,7 @@
 -- Lists in order, each element once.
-use Rattle.std.proofs.Common.{◌≡◌, ◌∙◌, ℕ, List, [], ◌∷◌, map, refl, ap, sym, subst, inl, inr}
+use Rattle.std.proofs.Common.{◌≡◌, ◌∙◌, ◌↔◌, ℕ, List, [], ◌∷◌, ◌++◌, Bool, true, false, map, refl, ap, sym, subst, inl, inr}
 use Rattle.std.specs.Cmp.{IsTotalOrder}
+use Rattle.std.specs.List.{dedup, dedup_from}
 use Rattle.std.specs.Ordering.{on}
 use Rattle.std.specs.declared.cmp.Ordering.{Ordering}
 use Rattle.std.specs.declared.cmp.Ordering.TheVariants.{Less, Equal}
@@ -8,13 +9,16 @@ use Rattle.std.proofs.lemmas.Cmp.{nat_list_cmp_total, tied_itself}
 use Rattle.std.proofs.lemmas.Map.Lookups.{exact_bytes}
 use Rattle.jtree.specs.Internal.Rising.{Among, Rising, contains, contained, rising, all_pairs}
 use Rattle.jtree.specs.Internal.OrderLaws.{tree_same}
-use Rattle.jtree.specs.Data.{Data}
+use Rattle.jtree.specs.Data.{Data, null, boolean}
+use Rattle.jtree.specs.Internal.Lookups.{bool_cases}
 use Rattle.jtree.specs.Order.{text_cmp, tree_cmp}
 use Rattle.jtree.specs.View.{data_of, tree_from}
 use Rattle.jtree.specs.declared.value.Tree.{Tree}
 use Rattle.jtree.specs.declared.value.Tree.TheVariants as tree
+use Rattle.plan.specs.Samples.Leasts.{same_number, leasts}
 use Rattle.plan.specs.Samples.Names.{in_order}
 use Rattle.plan.specs.Internal.Values.{trees_of, IsInOrder, IsBase}
+use Rattle.plan.proofs.LeastLemmas.{least_same, least_beside, deduped, deduped_rises}
 use Rattle.plan.proofs.NameLemmas.{in_order_rising, in_order_has, in_order_only}
 
 -- ---- mapped lists
@@ -62,6 +66,52 @@ same_tree t u e = sym (tree_back t) ∙ (ap tree_from (tree_same (data_of t) (da
 -- trees put in order are a base of those that they were
 pub base_from : (ds : List Data) (ts us : List Tree) → trees_of ts ≡ ds → (((t u : Tree) → tree_cmp (data_of t) (data_of u) ≡ Equal → t ≡ u) → IsInOrder (on data_of tree_cmp) ts us) → IsBase ds us
 base_from ds ts us e h = subst (λ ds. IsBase ds us) e (in_order_by (λ t. data_of t) tree_cmp ts us (h same_tree))
+
+-- of neighbours of one value the first alone
+abbrev one_number : Tree → Tree → Bool
+one_number t u = same_number (data_of t) (data_of u)
+
+deduped_from : (k : Tree) (ts : List Tree) → trees_of (dedup_from one_number k ts) ≡ dedup_from same_number (data_of k) (trees_of ts)
+deduped_from k [] = refl
+deduped_from k (t ∷ ts) = elim (bool_cases (same_number (data_of t) (data_of k))) [
+  | inl same ↦ rw same (deduped_from k ts)
+  | inr other ↦ rw other (ap (λ ds. data_of k ∷ ds) (deduped_from t ts))
+]
+
+deduped_trees : (ts : List Tree) → trees_of (dedup one_number ts) ≡ dedup same_number (trees_of ts)
+deduped_trees [] = refl
+deduped_trees (t ∷ ts) = deduped_from t ts
+
+pub base_deduped : (ds : List Data) (ts us : List Tree) → us ≡ dedup one_number ts → IsBase ds ts → IsBase (leasts ds) us
+base_deduped ds ts us is b =
+    let up = rising (λ u v. tree_cmp u v ≡ Less) (trees_of ts) b.ascending in
+    let are : trees_of us ≡ dedup same_number (trees_of ts) = ap trees_of is ∙ deduped_trees ts in
+    let same : (v : Data) → Among (trees_of ts) v ↔ Among ds v = λ v.
+    ((λ a. contained ds v ((b.each v).0 (contains (trees_of ts) v a))), λ a. contained (trees_of ts) v ((b.each v).1 (contains ds v a))) in
+    rw are (record {
+      each = λ v. (
+        (λ c. contains (leasts ds) v (least_same (trees_of ts) ds same v ((deduped (trees_of ts) up v).0 (contained (dedup same_number (trees_of ts)) v c)))),
+        λ c. contains (dedup same_number (trees_of ts)) v
+            ((deduped (trees_of ts) up v).1 (least_same ds (trees_of ts) (λ v. ((same v).1, (same v).0)) v (contained (leasts ds) v c))),
+      );
+      ascending = all_pairs (λ u v. tree_cmp u v ≡ Less) (dedup same_number (trees_of ts)) (deduped_rises (trees_of ts) up);
+    })
+
+-- null stays beside the least ones
+pub null_beside : (ds : List Data) (ts : List Tree) → IsBase (leasts (null ∷ ds)) ts → IsBase (null ∷ leasts ds) ts
+null_beside ds ts b = record {
+  each = λ v.
+      let s = least_beside null ds refl v in (
+        (λ c. contains (null ∷ leasts ds) v (s.0 (contained (leasts (null ∷ ds)) v ((b.each v).0 c)))),
+        λ c. (b.each v).1 (contains (leasts (null ∷ ds)) v (s.1 (contained (null ∷ leasts ds) v c))),
+      );
+  ascending = b.ascending;
+}
+
+-- what is added one after the other is one list
+pub scalars_joined : (bs : List Tree) (is ts : List Data) → (trees_of ((bs ++ tree.Bool false ∷ []) ++ tree.Bool true ∷ []) ++ is) ++ ts ≡ trees_of bs ++ (boolean false ∷ boolean true ∷ is ++ ts)
+scalars_joined [] is ts = refl
+scalars_joined (b ∷ bs) is ts = ap (λ ds. data_of b ∷ ds) (scalars_joined bs is ts)
 
 -- ---- lists with the same elements, both in order
 

@@ -3,6 +3,7 @@ pub mod Tables
 pub mod Lists
 pub mod Laws
 pub mod PartLaws
+pub mod LeastLaws
 pub mod Values
 pub mod Arena
 pub mod PoolBreak

@@ -1,5 +1,6 @@
 -- What samples are made of.
 pub mod Site
+pub mod Leasts
 pub mod Over
 pub mod Part
 pub mod Names

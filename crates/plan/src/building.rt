@@ -217,8 +217,8 @@ fn fixed_item<'a>(pools: &'a Pools, list: &ListNode, below: &str) -> Option<&'a 
     ensures { option_map (λ ts. trees_of ts.now) result ≡ Sites.fixed_item pools.now list.now.list_type below.now }
 {
     match list.list_type {
-        ListType::Map => None,
-        ListType::Atomic | ListType::Set => pools.fixed_at(below),
+        ListType::Map(_) => None,
+        ListType::Atomic | ListType::Set(_) => pools.fixed_at(below),
     }
 }
 
@@ -227,8 +227,8 @@ fn item_keys(list: &ListNode) -> &[Text]
     ensures { result.now ≡ item_keys list.now.list_type list.now.keys.items }
 {
     match list.list_type {
-        ListType::Map => &list.keys,
-        ListType::Atomic | ListType::Set => &[],
+        ListType::Map(_) => &list.keys,
+        ListType::Atomic | ListType::Set(_) => &[],
     }
 }
 

@@ -16,23 +16,26 @@ use jtree::Tree;
 use schema::{Bounds, Branches, Constraints, Node, ScalarKind, ScalarNode, Sort, Validations};
 use std::alloc::{AllocError, Global};
 
-/// The places, in a list of trees, of the values of each kind.
+/// The places of the values of each kind: of numbers in one list of trees, of the others in another.
 #[derive(Drop)]
 pub(crate) struct Kinds {
     pub booleans: Vec<usize>,
     pub integers: Vec<usize>,
+    /// Integers and other numbers.
+    pub numbers: Vec<usize>,
     pub strings: Vec<usize>,
     pub integers_and_strings: Vec<usize>,
 }
 
 impl Kinds {
-    /// The places in this list.
-    pub(crate) fn new(alloc: Global, trees: &[Tree]) -> Result<Kinds, AllocError>
-        ensures { IfOk result (λ k. AreKinds trees.now k) }
+    /// The places in these lists.
+    pub(crate) fn new(alloc: Global, trees: &[Tree], numbers: &[Tree]) -> Result<Kinds, AllocError>
+        ensures { IfOk result (λ k. AreKinds trees.now numbers.now k) }
     {
         Ok(Kinds {
             booleans: places_of_kind(alloc, ScalarKind::Boolean, trees)?,
             integers: places_of_kind(alloc, ScalarKind::Integer, trees)?,
+            numbers: places_of_kind(alloc, ScalarKind::Number, numbers)?,
             strings: places_of_kind(alloc, ScalarKind::String, trees)?,
             integers_and_strings: places_of_kind(alloc, ScalarKind::IntOrString, trees)?,
         })
@@ -45,6 +48,7 @@ impl Kinds {
         match kind {
             ScalarKind::Boolean => &self.booleans,
             ScalarKind::Integer => &self.integers,
+            ScalarKind::Number => &self.numbers,
             ScalarKind::String => &self.strings,
             ScalarKind::IntOrString => &self.integers_and_strings,
         }
@@ -131,6 +135,7 @@ fn has_no_constraints(constraints: &Constraints) -> bool
                 least: None,
                 most: None,
             },
+            written: None,
             required,
         } => required.names.is_empty(),
         _ => false,

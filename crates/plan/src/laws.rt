@@ -3,6 +3,7 @@ ghost use Rattle.std.specs.Prelude.{◌≡◌};
 ghost use Rattle.plan.specs.Internal.Laws.{StoredLaw, SchemaLaws};
 ghost use Rattle.plan.specs.Internal.PartLaws.{PartLaws};
 ghost use Rattle.plan.specs.Pools.Pools.{standard, large};
+ghost use Rattle.plan.specs.Samples.Leasts.{KeepsIntegers};
 
 use crate::pool_limits::PoolLimits;
 
@@ -10,6 +11,12 @@ use crate::pool_limits::PoolLimits;
 pub fn named_pool_limits()
     ensures standard { PoolLimits.STANDARD ≡ standard }
     ensures large { PoolLimits.LARGE ≡ large }
+{}
+
+/// Of numbers of one value that are listed for a place the least alone counts. Nothing is left out of what has integers alone, which is all
+/// that `Profile::Core` reads.
+pub fn integers_stay()
+    ensures { KeepsIntegers }
 {}
 
 /// What the parts of a site are, one level at a time.

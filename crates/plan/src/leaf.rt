@@ -1,5 +1,5 @@
 //! The candidates of a leaf: a scalar, an open node, or a node whose values are fixed.
-ghost use Rattle.std.specs.Prelude.{◌≡◌, ℕ, ◌≤◌, ◌<◌, ◌↔◌, ◌⊎◌, ◌∷◌, IfOk, map, option_map};
+ghost use Rattle.std.specs.Prelude.{◌≡◌, ℕ, true, ◌≤◌, ◌<◌, ◌↔◌, ◌⊎◌, ◌∷◌, IfOk, map, option_map};
 ghost use Rattle.std.specs.List.{slice_get};
 ghost use Rattle.std.specs.Bool.{Decides};
 ghost use Rattle.std.specs.Option.{option_copied};
@@ -10,6 +10,7 @@ ghost use Rattle.jtree.specs.declared.value.Tree.{Tree};
 ghost use Rattle.schema.specs.Nodes.View.{node_of};
 ghost use Rattle.plan.specs.Pools.Pools.{Pools as PoolsData};
 ghost use Rattle.plan.specs.Samples.Sites.{Site, plain, where_fixed};
+ghost use Rattle.plan.specs.Samples.Leasts.{leasts};
 ghost use Rattle.plan.specs.Samples.Over.{listed_for, listed};
 ghost use Rattle.plan.specs.Samples.Candidates.{sort_at, sort_of, AreCandidates};
 ghost use Rattle.plan.specs.Samples.Sizes.{HasSize, IsUpTo};
@@ -22,7 +23,7 @@ use crate::kinds::bare_kind;
 use crate::values::{Values, in_order, with_null};
 use crate::{Pools, SizeSet, laws};
 use jtree::Tree;
-use schema::{Node, Sort};
+use schema::{Node, ScalarKind, Sort};
 use std::alloc::{AllocError, Global};
 use stored::check_stored;
 
@@ -30,7 +31,8 @@ use stored::check_stored;
 /// list for its path, or its fixed values).
 #[derive(Drop)]
 pub(crate) enum Base {
-    Scalars,
+    /// The values for a scalar of this kind.
+    Scalars(ScalarKind),
     Any,
     Own(Vec<Tree>),
 }
@@ -68,13 +70,25 @@ fn places_in(
     base: &Base,
     node: &Node,
 ) -> Result<Vec<usize>, AllocError>
-    ensures { IfOk result (λ places. AreKinds values.now.scalars.items values.now.kinds → (past : Tree) → AreStored limit (node_of node.now) (trees_of (base_of values.now base.now)) (at_places past (base_of values.now base.now) places.items)) }
+    ensures { IfOk result (λ places. AreKinds values.now.scalars.items values.now.numbers.items values.now.kinds → (past : Tree) → AreStored limit (node_of node.now) (trees_of (base_of values.now base.now)) (at_places past (base_of values.now base.now) places.items)) }
 {
     match (base, bare_kind(node)) {
-        (Base::Scalars, Some(kind)) if limit > 0 => {
+        (Base::Scalars(listed), Some(kind)) if limit > 0 && is_same(*listed, kind) => {
             Vec::from_slice(alloc, values.kinds.places(kind))
         }
         _ => stored_places(alloc, limit, node, base.trees(values)),
+    }
+}
+
+fn is_same(kind: ScalarKind, other: ScalarKind) -> bool
+    ensures { result ≡ true → kind ≡ other }
+{
+    match kind {
+        ScalarKind::Boolean => matches!(other, ScalarKind::Boolean),
+        ScalarKind::Integer => matches!(other, ScalarKind::Integer),
+        ScalarKind::Number => matches!(other, ScalarKind::Number),
+        ScalarKind::String => matches!(other, ScalarKind::String),
+        ScalarKind::IntOrString => matches!(other, ScalarKind::IntOrString),
     }
 }
 
@@ -137,12 +151,12 @@ fn base_at(alloc: Global, pools: &Pools, path: &str, node: &Node) -> Result<Base
 
 /// The base with null and what is listed for each scalar or open node like this one.
 fn base_by_node(alloc: Global, node: &Node) -> Result<Base, AllocError>
-    ensures { IfOk result (λ b. (P : PoolsData) (v : Values) → AreValues P v → sort_at (node_of node.now) ≡ sort.Leaf → IsBase (null ∷ listed_for P (node_of node.now)) (base_of v b)) }
+    ensures { IfOk result (λ b. (P : PoolsData) (v : Values) → AreValues P v → sort_at (node_of node.now) ≡ sort.Leaf → IsBase (null ∷ leasts (listed_for P (node_of node.now))) (base_of v b)) }
 {
     match &node.sort {
         Sort::Scalar(scalar) => match &scalar.validations.constraints.choices {
             Some(choices) => Ok(Base::Own(with_null(alloc, &choices.items)?)),
-            None => Ok(Base::Scalars),
+            None => Ok(Base::Scalars(scalar.kind)),
         },
         _ => Ok(Base::Any),
     }
@@ -184,7 +198,8 @@ impl Base {
         ensures { result.now ≡ base_of values.now self.now }
     {
         match self {
-            Base::Scalars => values.scalars.as_slice(),
+            Base::Scalars(ScalarKind::Number) => values.numbers.as_slice(),
+            Base::Scalars(_) => values.scalars.as_slice(),
             Base::Any => values.any.as_slice(),
             Base::Own(trees) => trees.as_slice(),
         }

@@ -59,8 +59,8 @@ fn distinct(list_type: ListType) -> Distinct
 {
     match list_type {
         ListType::Atomic => Distinct::Free,
-        ListType::Set => Distinct::Whole,
-        ListType::Map => Distinct::Keys,
+        ListType::Set(_) => Distinct::Whole,
+        ListType::Map(_) => Distinct::Keys,
     }
 }
 
@@ -110,8 +110,8 @@ fn item_bounds<Z: SizeSet>(
     stored::laws::stored_by_parts();
     match list.list_type {
         ListType::Atomic => bounds,
-        ListType::Set => cut_bounds(bounds, arena.count(item)),
-        ListType::Map => cut_bounds(bounds, item_tuples(arena, item)),
+        ListType::Set(_) => cut_bounds(bounds, arena.count(item)),
+        ListType::Map(_) => cut_bounds(bounds, item_tuples(arena, item)),
     }
 }
 

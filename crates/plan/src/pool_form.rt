@@ -3,21 +3,24 @@ ghost use Rattle.std.specs.Prelude.{◌≡◌, ◌∷◌, [], OnOk, IfOk, IfErr,
 ghost use Rattle.jtree.specs.Path;
 ghost use Rattle.jtree.specs.Pointer;
 ghost use Rattle.jtree.specs.View.{data_of};
-ghost use Rattle.plan.specs.Pools.Document.{HasForm, pool_form, lists};
+ghost use Rattle.plan.specs.Pools.Document.{HasFormBy, pool_form, numbers_form, lists};
 ghost use Rattle.plan.specs.Pools.Document;
-ghost use Rattle.plan.specs.Pools.PoolsFault.{IsPoolsFault};
+ghost use Rattle.plan.specs.Pools.PoolsFault.{IsPoolsFaultBy};
 ghost use Rattle.plan.specs.declared.pool_limits.PoolLimits.{PoolLimits};
 ghost use Rattle.plan.specs.Internal.PoolBreak.{test_of, form_of, other_item, below_name, list_break, pool_break};
 ghost use Rattle.plan.specs.Internal.PoolBreak;
 
 use crate::fault::PFault;
 use jtree::{Items, Members, Tree, push_index, push_name};
+use schema::Profile;
 use std::alloc::{AllocError, Global};
 
 /// The form of an entry of a list.
 #[derive(Clone, Copy)]
 pub(crate) enum EntryKind {
     Integer,
+    /// An integer or another number.
+    Number,
     Text,
     Any,
 }
@@ -35,15 +38,26 @@ enum PoolForm {
 
 impl PoolForm {
     /// The form of the member of this name.
-    fn of_pool(name: &str) -> PoolForm
-        ensures { form_of result ≡ pool_form name.now }
+    fn of_pool(profile: Profile, name: &str) -> PoolForm
+        ensures { form_of result ≡ pool_form profile name.now }
     {
         match name {
             "integers" => PoolForm::Entries(EntryKind::Integer),
             "strings" | "names" | "present" => PoolForm::Entries(EntryKind::Text),
             "any" => PoolForm::Entries(EntryKind::Any),
             "paths" | "fixed" => PoolForm::Lists,
+            "numbers" => PoolForm::of_numbers(profile),
             _ => PoolForm::Unknown,
+        }
+    }
+
+    /// The form of the member `numbers`.
+    fn of_numbers(profile: Profile) -> PoolForm
+        ensures { form_of result ≡ numbers_form profile }
+    {
+        match profile {
+            Profile::Core => PoolForm::Unknown,
+            Profile::Cluster => PoolForm::Entries(EntryKind::Number),
         }
     }
 }
@@ -54,6 +68,7 @@ impl EntryKind {
     {
         match self {
             EntryKind::Integer => matches!(entry, Tree::Int(_)),
+            EntryKind::Number => matches!(entry, Tree::Int(_) | Tree::Number(_)),
             EntryKind::Text => matches!(entry, Tree::Text(_)),
             EntryKind::Any => true,
         }
@@ -61,42 +76,55 @@ impl EntryKind {
 }
 
 /// Answers `Form` with the pointer of the first place in path order that breaks the form.
-pub(crate) fn check_form(alloc: Global, document: &Tree) -> Result<(), PFault>
-    ensures ok { OnOk result (HasForm (data_of document.now)) }
-    ensures err { (limits : PoolLimits) → IfErr result (IsPoolsFault limits (data_of document.now)) }
+pub(crate) fn check_form(alloc: Global, profile: Profile, document: &Tree) -> Result<(), PFault>
+    ensures ok { OnOk result (HasFormBy profile (data_of document.now)) }
+    ensures err { (limits : PoolLimits) → IfErr result (IsPoolsFaultBy profile limits (data_of document.now)) }
 {
     document.reveal_invariant();
-    match first_break(alloc, document)? {
+    match first_break(alloc, profile, document)? {
         None => Ok(()),
         Some(pointer) => Err(PFault::Form(pointer)),
     }
 }
 
 /// The pointer of the first place in path order that breaks the form.
-fn first_break(alloc: Global, document: &Tree) -> Result<Option<String>, AllocError>
-    ensures { IfOk result (λ o. option_map string_bytes o ≡ option_map Pointer.pointer (PoolBreak.first_break (data_of document.now))) }
+fn first_break(
+    alloc: Global,
+    profile: Profile,
+    document: &Tree,
+) -> Result<Option<String>, AllocError>
+    ensures { IfOk result (λ o. option_map string_bytes o ≡ option_map Pointer.pointer (PoolBreak.first_break profile (data_of document.now))) }
 {
     match document {
-        Tree::Object(members) => members_break(alloc, members),
+        Tree::Object(members) => members_break(alloc, profile, members),
         _ => Ok(Some(String::new(alloc))),
     }
 }
 
-fn members_break(alloc: Global, members: &Members) -> Result<Option<String>, AllocError>
-    ensures { IfOk result (λ o. option_map string_bytes o ≡ option_map Pointer.pointer (PoolBreak.members_break PoolBreak.member_break members.now)) }
+fn members_break(
+    alloc: Global,
+    profile: Profile,
+    members: &Members,
+) -> Result<Option<String>, AllocError>
+    ensures { IfOk result (λ o. option_map string_bytes o ≡ option_map Pointer.pointer (PoolBreak.members_break (PoolBreak.member_break profile) members.now)) }
 {
     for member in &members.members {
-        if let Some(pointer) = member_break(alloc, member.name.as_str(), &member.tree)? {
+        if let Some(pointer) = member_break(alloc, profile, member.name.as_str(), &member.tree)? {
             return Ok(Some(pointer));
         }
     }
     Ok(None)
 }
 
-fn member_break(alloc: Global, name: &str, tree: &Tree) -> Result<Option<String>, AllocError>
-    ensures { IfOk result (λ o. option_map string_bytes o ≡ option_map Pointer.pointer (PoolBreak.member_break name.now (data_of tree.now))) }
+fn member_break(
+    alloc: Global,
+    profile: Profile,
+    name: &str,
+    tree: &Tree,
+) -> Result<Option<String>, AllocError>
+    ensures { IfOk result (λ o. option_map string_bytes o ≡ option_map Pointer.pointer (PoolBreak.member_break profile name.now (data_of tree.now))) }
 {
-    match PoolForm::of_pool(name) {
+    match PoolForm::of_pool(profile, name) {
         PoolForm::Entries(kind) => entries_break(alloc, name, kind, tree),
         PoolForm::Lists => lists_break(alloc, name, tree),
         PoolForm::Unknown => Ok(Some(name_pointer(alloc, name)?)),

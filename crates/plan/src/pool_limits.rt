@@ -5,7 +5,7 @@ ghost use Rattle.plan.specs.Pools.Pools.{standard, large};
 /// How large pools may be. Each repeat counts.
 #[derive(Clone, Copy)]
 pub struct PoolLimits {
-    /// The most integers, the most strings, the most trees of any kind, and the most trees in the list of a path.
+    /// The most integers, the most numbers, the most strings, the most trees of any kind, and the most trees in the list of a path.
     pub entries: usize,
     /// The most names.
     pub names: usize,

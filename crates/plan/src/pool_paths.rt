@@ -158,7 +158,7 @@ fn is_map_list(node: &Node) -> bool
     ensures { result ≡ FixedPaths.is_map_list (node_of node.now) }
 {
     match &node.sort {
-        Sort::List(list) => matches!(list.list_type, ListType::Map),
+        Sort::List(list) => matches!(list.list_type, ListType::Map(_)),
         _ => false,
     }
 }

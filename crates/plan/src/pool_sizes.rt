@@ -26,6 +26,7 @@ pub enum PoolName<'a> {
     FixedAt(&'a str),
     Integers,
     Names,
+    Numbers,
     Paths,
     /// The list under `paths` for the path of this text.
     At(&'a str),
@@ -44,7 +45,7 @@ pub struct Oversized<'a> {
 }
 
 /// The first pool in path order that has more entries than the limits allow, each repeat counted. `None` where no pool has: of a
-/// document that has the form, `Pools::read_within` with these limits answers `TooLarge` exactly where this names a pool.
+/// document that has the form, `Pools::read_by` with these limits answers `TooLarge` exactly where this names a pool.
 pub fn oversized_pool(document: &Tree, limits: PoolLimits) -> Option<Oversized<'_>>
     ensures { MatchOption result (AreSmall limits (pools_of (data_of document.now))) (IsOversized limits (pools_of (data_of document.now))) }
 {
@@ -52,6 +53,7 @@ pub fn oversized_pool(document: &Tree, limits: PoolLimits) -> Option<Oversized<'
     let fixed = lists_of(document, "fixed");
     let integers = count(document, "integers", EntryKind::Integer);
     let names = count(document, "names", EntryKind::Text);
+    let numbers = count(document, "numbers", EntryKind::Number);
     let paths = lists_of(document, "paths");
     let present = count(document, "present", EntryKind::Text);
     let strings = count(document, "strings", EntryKind::Text);
@@ -60,6 +62,7 @@ pub fn oversized_pool(document: &Tree, limits: PoolLimits) -> Option<Oversized<'
         .or(long_fixed(fixed, limits.entries))
         .or(over(PoolName::Integers, integers, limits.entries))
         .or(over(PoolName::Names, names, limits.names))
+        .or(over(PoolName::Numbers, numbers, limits.entries))
         .or(over(PoolName::Paths, paths.len(), limits.paths))
         .or(long_path(paths, limits.entries))
         .or(over(PoolName::Present, present, limits.paths))

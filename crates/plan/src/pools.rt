@@ -2,11 +2,11 @@
 use crate::fault::PFault;
 use crate::list_at::{ListAt, put_all};
 use crate::path_step::PathStep;
-use crate::pool_form::check_form;
+use crate::pool_form::{EntryKind, check_form};
 use crate::pool_limits::PoolLimits;
 use crate::pool_sizes::oversized_pool;
 use jtree::{Member, Members, Text, Tree};
-use schema::is_among;
+use schema::{Profile, is_among};
 use std::alloc::{AllocError, Global};
 use std::cmp::Ordering;
 use std::marker::Model;
@@ -14,6 +14,8 @@ use std::marker::Model;
 /// The values that samples may hold.
 pub struct Pools {
     integers: Vec<i64>,
+    /// Integers and other numbers, for places of numbers.
+    numbers: Vec<Tree>,
     strings: Vec<Text>,
     names: Vec<Text>,
     any: Vec<Tree>,
@@ -29,6 +31,7 @@ impl Drop for Pools {
     fn drop(self) {
         let Pools {
             integers: _,
+            numbers: _,
             strings: _,
             names: _,
             any: _,
@@ -52,9 +55,9 @@ impl Model for Pools {
 
     ghost use Rattle.jtree.specs.View.{data_of};
 
-    ghost view = { λ a. record { integers = a.integers.items; strings = a.strings.items; names = a.names.items; any = map data_of a.any.items; paths = a.paths; fixed = a.fixed; present = a.present.items } };
+    ghost view = { λ a. record { integers = a.integers.items; numbers = map data_of a.numbers.items; strings = a.strings.items; names = a.names.items; any = map data_of a.any.items; paths = a.paths; fixed = a.fixed; present = a.present.items } };
 
-    ghost invariant = { λ a. All (λ z. FitsSigned w64 z) a.integers.items × All IsTree (map data_of a.any.items) };
+    ghost invariant = { λ a. All (λ z. FitsSigned w64 z) a.integers.items × All IsTree (map data_of a.numbers.items) × All IsTree (map data_of a.any.items) };
 }
 
 impl Pools {
@@ -67,8 +70,8 @@ impl Pools {
     ghost use Rattle.plan.specs.Pools.Along;
     ghost use Rattle.plan.specs.Pools.Along.{beginnings, lists_of};
     ghost use Rattle.plan.specs.Pools.PathSteps.{path_of};
-    ghost use Rattle.plan.specs.Pools.Document.{HasForm, pools_of};
-    ghost use Rattle.plan.specs.Pools.PoolsFault.{IsPoolsFault};
+    ghost use Rattle.plan.specs.Pools.Document.{HasForm, HasFormBy, pools_of};
+    ghost use Rattle.plan.specs.Pools.PoolsFault.{IsPoolsFault, IsPoolsFaultBy};
 
     /// The pools of a document: an object with any of the members `integers` (a list of integers of 64 bits), `strings`,
     /// `names` and `present` (lists of texts), `any` (a list of trees), and `paths` and `fixed` (objects whose members are lists of
@@ -98,12 +101,30 @@ impl Pools {
         ensures small { IfOk result (AreSmall limits) }
         ensures err { IfErr result (IsPoolsFault limits (data_of document.now)) }
     {
-        check_form(alloc, document)?;
+        Pools::read_by(alloc, document, Profile::Core, limits)
+    }
+
+    /// As [`Pools::read_within`], for a schema that is judged by this profile: by `Profile::Cluster` the document may also have the
+    /// member `numbers`, a list of integers and other numbers, from which places of numbers take their values besides. It may have as
+    /// many entries as `integers`.
+    pub fn read_by(
+        alloc: Global,
+        document: &Tree,
+        profile: Profile,
+        limits: PoolLimits,
+    ) -> Result<Pools, PFault>
+        ensures ok { IfOk result (λ p. p ≡ pools_of (data_of document.now)) }
+        ensures form { OnOk result (HasFormBy profile (data_of document.now)) }
+        ensures small { IfOk result (AreSmall limits) }
+        ensures err { IfErr result (IsPoolsFaultBy profile limits (data_of document.now)) }
+    {
+        check_form(alloc, profile, document)?;
         if oversized_pool(document, limits).is_some() {
             return Err(PFault::TooLarge);
         }
         Ok(Pools {
             integers: integers_of(alloc, entries(document, "integers"))?,
+            numbers: numbers_of(alloc, entries(document, "numbers"))?,
             strings: texts_of(alloc, entries(document, "strings"))?,
             names: texts_of(alloc, entries(document, "names"))?,
             any: trees_of(alloc, entries(document, "any"))?,
@@ -115,10 +136,11 @@ impl Pools {
 
     /// Empty pools.
     pub fn new(alloc: Global) -> Pools
-        ensures { result ≡ record { integers = []; strings = []; names = []; any = []; paths = no_members; fixed = no_members; present = [] } }
+        ensures { result ≡ record { integers = []; numbers = []; strings = []; names = []; any = []; paths = no_members; fixed = no_members; present = [] } }
     {
         Pools {
             integers: Vec::new(alloc),
+            numbers: Vec::new(alloc),
             strings: Vec::new(alloc),
             names: Vec::new(alloc),
             any: Vec::new(alloc),
@@ -139,9 +161,10 @@ impl Pools {
     {
         Ok(Pools {
             integers: integers_from(alloc, self.integers.as_slice())?,
+            numbers: trees_of(alloc, &self.numbers)?,
             strings: copies_of(alloc, self.strings())?,
             names: copies_of(alloc, self.names())?,
-            any: trees_of(alloc, self.any.as_slice())?,
+            any: trees_of(alloc, &self.any)?,
             paths: members_from(alloc, &self.paths)?,
             fixed,
             present,
@@ -159,6 +182,7 @@ impl Pools {
     {
         let Pools {
             integers,
+            numbers,
             strings,
             names,
             any,
@@ -169,6 +193,7 @@ impl Pools {
         let (fixed, old) = put_all(alloc, fixed, lists)?;
         let pools = Pools {
             integers,
+            numbers,
             strings,
             names,
             any,
@@ -204,6 +229,14 @@ impl Pools {
         ensures fit { All (λ z. FitsSigned w64 z) self.now.integers }
     {
         self.integers.as_slice()
+    }
+
+    /// The numbers for places of numbers, integers among them, as the document has them: repeats among them.
+    pub fn numbers(&self) -> &[Tree]
+        ensures entries { map data_of result.now ≡ self.now.numbers }
+        ensures trees { All IsTree self.now.numbers }
+    {
+        self.numbers.as_slice()
     }
 
     /// The strings.
@@ -272,7 +305,7 @@ impl Pools {
 }
 
 ghost use Rattle.std.specs.Int.{w64};
-ghost use Rattle.std.specs.Prelude.{◌≡◌, ◌++◌, [], All, FitsSigned, IfOk, Some, map, filter_map, option_map, option_and_then};
+ghost use Rattle.std.specs.Prelude.{◌≡◌, ◌++◌, [], All, FitsSigned, IfOk, Some, map, filter, filter_map, option_map, option_and_then};
 ghost use Rattle.jtree.specs.Data.{IsTree};
 ghost use Rattle.jtree.specs.Data;
 ghost use Rattle.jtree.specs.Order.{text_cmp};
@@ -281,7 +314,7 @@ ghost use Rattle.jtree.specs.View.{data_of};
 ghost use Rattle.plan.specs.Pools.Along.{beginnings};
 ghost use Rattle.plan.specs.Pools.PathSteps.{path_of};
 ghost use Rattle.plan.specs.Pools.Pools.{entries_in};
-ghost use Rattle.plan.specs.Pools.Document.{entries_of, integer_of, text_of, members_of};
+ghost use Rattle.plan.specs.Pools.Document.{entries_of, integer_of, is_any_number, text_of, members_of};
 
 /// The list under this name, where there is one.
 fn list_under<'a>(lists: &'a Members, name: &str) -> Option<&'a [Tree]>
@@ -331,6 +364,19 @@ fn integers_of(alloc: Global, entries: &[Tree]) -> Result<Vec<i64>, AllocError>
         }
     }
     Ok(integers)
+}
+
+/// Those that are integers or other numbers.
+fn numbers_of(alloc: Global, entries: &[Tree]) -> Result<Vec<Tree>, AllocError>
+    ensures { IfOk result (λ v. map data_of v.items ≡ filter is_any_number (map data_of entries.now)) }
+{
+    let mut numbers = Vec::new(alloc);
+    for entry in entries {
+        if EntryKind::Number.admits(entry) {
+            numbers.push(entry.try_clone(alloc)?)?;
+        }
+    }
+    Ok(numbers)
 }
 
 fn texts_of(alloc: Global, entries: &[Tree]) -> Result<Vec<Text>, AllocError>

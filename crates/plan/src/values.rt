@@ -1,7 +1,10 @@
-//! The values that samples may hold, in the tree order, each once: shared by all leaves of a plan.
-ghost use Rattle.std.specs.Prelude.{◌≡◌, ◌∷◌, ◌++◌, map, IfOk, OnOk};
+//! The values that samples may hold, in the tree order, each once, and of numbers of one value the least alone: shared by all leaves of
+//! a plan.
+ghost use Rattle.std.specs.Prelude.{◌≡◌, List, ◌∷◌, ◌++◌, map, IfOk, OnOk};
 ghost use Rattle.std.specs.declared.cmp.Ordering.TheVariants.{Equal};
-ghost use Rattle.jtree.specs.Data.{null, integer, text};
+ghost use Rattle.jtree.specs.Data.{Data, null, integer, text};
+ghost use Rattle.jtree.specs.View.{data_of};
+ghost use Rattle.plan.specs.Samples.Leasts.{same_number, leasts};
 ghost use Rattle.plan.specs.Samples.Over.{scalars_of};
 ghost use Rattle.plan.specs.Samples.Names;
 ghost use Rattle.plan.specs.Internal.Values.{trees_of, IsInOrder, IsBase};
@@ -12,14 +15,16 @@ use crate::kinds::Kinds;
 use jtree::{Text, Tree};
 use std::alloc::{AllocError, Global};
 
-/// The values of the pools, in order, each once; null is among the trees.
+/// The values of the pools, in order, each value once; null is among the trees.
 #[derive(Drop)]
 pub(crate) struct Values {
     /// Null, which is the tree of a place past the last one.
     pub null: Tree,
     /// Null, both booleans, the integers and the strings.
     pub scalars: Vec<Tree>,
-    /// The places of each kind among the scalars.
+    /// These and the numbers.
+    pub numbers: Vec<Tree>,
+    /// The places of each kind among the scalars, of numbers among the latter.
     pub kinds: Kinds,
     /// Null, and the values of open nodes.
     pub any: Vec<Tree>,
@@ -48,10 +53,12 @@ impl Values {
     pub(crate) fn new(alloc: Global, pools: &Pools) -> Result<Values, AllocError>
         ensures { IfOk result (λ v. AreValues pools.now v) }
     {
-        let scalars = scalars_of(alloc, pools)?;
+        let scalars = scalars_beside(alloc, pools, &[])?;
+        let numbers = scalars_beside(alloc, pools, pools.numbers())?;
         Ok(Values {
-            kinds: Kinds::new(alloc, &scalars)?,
+            kinds: Kinds::new(alloc, &scalars, &numbers)?,
             scalars,
+            numbers,
             any: with_null(alloc, pools.any())?,
             names: names(alloc, pools.names())?,
             null: Tree::Null,
@@ -59,15 +66,28 @@ impl Values {
     }
 }
 
-/// Null, both booleans, the integers and the strings, in order, each once.
-fn scalars_of(alloc: Global, pools: &Pools) -> Result<Vec<Tree>, AllocError>
-    ensures { IfOk result (λ v. IsBase (null ∷ scalars_of pools.now) v.items) }
+/// Null, these trees, both booleans, the integers and the strings, in order, each value once.
+fn scalars_beside(alloc: Global, pools: &Pools, beside: &[Tree]) -> Result<Vec<Tree>, AllocError>
+    ensures { IfOk result (λ v. IsBase (null ∷ leasts (trees_of beside.now ++ scalars_of pools.now)) v.items) }
 {
-    let mut trees = vec![in alloc; Tree::Null, Tree::Bool(false), Tree::Bool(true)]?;
+    let mut trees = vec![in alloc; Tree::Null]?;
+    push_trees(alloc, &mut trees, beside)?;
+    trees.push(Tree::Bool(false))?;
+    trees.push(Tree::Bool(true))?;
     push_integers(&mut trees, pools.integers())?;
     push_texts(alloc, &mut trees, pools.strings())?;
-    put_in_order(&mut trees);
+    put_values_in_order(&mut trees);
     Ok(trees)
+}
+
+/// Adds copies of these trees.
+fn push_trees(alloc: Global, trees: &mut Vec<Tree>, more: &[Tree]) -> Result<(), AllocError>
+    ensures { OnOk result (trees.new.items ≡ trees.old.items ++ more.now) }
+{
+    for tree in more {
+        trees.push(tree.try_clone(alloc)?)?;
+    }
+    Ok(())
 }
 
 /// Adds these integers.
@@ -90,27 +110,44 @@ fn push_texts(alloc: Global, trees: &mut Vec<Tree>, texts: &[Text]) -> Result<()
     Ok(())
 }
 
-/// Null and these trees, in order, each once.
+/// Null and these trees, in order, each value once.
 pub(crate) fn with_null(alloc: Global, trees: &[Tree]) -> Result<Vec<Tree>, AllocError>
-    ensures { IfOk result (λ v. IsBase (null ∷ trees_of trees.now) v.items) }
+    ensures { IfOk result (λ v. IsBase (null ∷ leasts (trees_of trees.now)) v.items) }
 {
     in_order(alloc, vec![in alloc; Tree::Null]?, trees)
 }
 
-/// The first trees and these, in order, each once.
+/// The first trees and these, in order, each value once.
 pub(crate) fn in_order(
     alloc: Global,
     first: Vec<Tree>,
     trees: &[Tree],
 ) -> Result<Vec<Tree>, AllocError>
-    ensures { IfOk result (λ v. IsBase (trees_of first.items ++ trees_of trees.now) v.items) }
+    ensures { IfOk result (λ v. IsBase (leasts (trees_of first.items ++ trees_of trees.now)) v.items) }
 {
     let mut copies = first;
-    for tree in trees {
-        copies.push(tree.try_clone(alloc)?)?;
-    }
-    put_in_order(&mut copies);
+    push_trees(alloc, &mut copies, trees)?;
+    put_values_in_order(&mut copies);
     Ok(copies)
+}
+
+/// Puts the trees in order, each once, and of numbers of one value the least alone.
+fn put_values_in_order(trees: &mut Vec<Tree>)
+    ensures { IsBase (leasts (trees_of trees.old.items)) trees.new.items }
+{
+    put_in_order(trees);
+    // numbers of one value are neighbours
+    trees.dedup_by(|next, kept| is_same_number(next, kept));
+}
+
+/// Whether the two are numbers of one value, and no integers.
+fn is_same_number(tree: &Tree, other: &Tree) -> bool
+    ensures { result ≡ same_number (data_of tree.now) (data_of other.now) }
+{
+    match (tree, other) {
+        (Tree::Number(_), Tree::Number(_)) => tree.has_value_of(other),
+        _ => false,
+    }
 }
 
 /// The names in the order of their bytes, each once.

@@ -16,6 +16,7 @@ use Rattle.schema.specs.Rules.Reasons.{is_junctor_reason, is_names_reason}
 use Rattle.schema.specs.declared.reason.Reason.{Reason}
 use Rattle.schema.specs.declared.reason.Reason.TheVariants.{MisplacedJunctor, NotInScalarBranches, NotInPresenceBranches, TooManyNames, EmptyEnum, EnumNotScalars, UndeclaredField}
 use Rattle.schema.proofs.ReasonWords.{listed_there, empty_there, some_keyword, keyword_found}
+use Rattle.schema.specs.declared.profile.Profile.{Profile}
 
 -- ---- where fields are named there is a junctor
 
@@ -49,58 +50,58 @@ junctor_there s (names, apart, each, many) = names_there s names each (omega (ar
 -- ---- the four conditions
 
 -- a reason is found, with a keyword that is there
-abbrev HasJunctorReason : Place → Option Data → Data → Type 0
-HasJunctorReason p o s =
-    (k : List ℕ) × (c : Reason) × (has s k ≡ true) × ((is_junctor_reason p o c k s ≡ true) ⊎ ((is_names_reason c k ≡ true) × HasTooManyNames p s))
+abbrev HasJunctorReason : (profile : Profile) → Place → Option Data → Data → Type 0
+HasJunctorReason profile p o s =
+    (k : List ℕ) × (c : Reason) × (has s k ≡ true) × ((is_junctor_reason profile p o c k s ≡ true) ⊎ ((is_names_reason c k ≡ true) × HasTooManyNames profile p s))
 
-junctor_to : (p : Place) (o : Option Data) (s : Data) → BreaksJunctors p o s → HasJunctorReason p o s
-junctor_to p o s (inl h) =
-    let parts = and_parts (takes_no_junctor p s) _ h in
+junctor_to : (profile : Profile) (p : Place) (o : Option Data) (s : Data) → BreaksJunctors profile p o s → HasJunctorReason profile p o s
+junctor_to profile p o s (inl h) =
+    let parts = and_parts (takes_no_junctor profile p s) _ h in
     let f = some_keyword (λ k. is_among k junctor_keywords) s parts.1 in
     (f.0, MisplacedJunctor, f.1, inl (and_from (is_among f.0 junctor_keywords) _ f.2 parts.0))
-junctor_to p o s (inr (inl many)) = let f = junctor_there s many.2 in (f.0, TooManyNames, f.1, inr (f.2, many))
-junctor_to p o s (inr (inr (inl h))) =
-    let parts = and_parts (asks_presence p o) _ h in
+junctor_to profile p o s (inr (inl many)) = let f = junctor_there s many.2 in (f.0, TooManyNames, f.1, inr (f.2, many))
+junctor_to profile p o s (inr (inr (inl h))) =
+    let parts = and_parts (asks_presence profile p o) _ h in
     elim (or_cases (has_keyword (λ k. not (is_presence_keyword k)) s) _ parts.1) [
       | inl other ↦ let f = some_keyword (λ k. not (is_presence_keyword k)) s other in (f.0, NotInPresenceBranches, f.1, inl (and_from (not (is_presence_keyword f.0)) _ f.2 parts.0))
-      | inr undeclared ↦ (codes "required", UndeclaredField, listed_there _ (under s (codes "required")) undeclared, inl (and_from (asks_presence p o) _ parts.0 undeclared))
+      | inr undeclared ↦ (codes "required", UndeclaredField, listed_there _ (under s (codes "required")) undeclared, inl (and_from (asks_presence profile p o) _ parts.0 undeclared))
     ]
-junctor_to p o s (inr (inr (inr h))) =
-    let parts = and_parts (asks_value p o) _ h in
+junctor_to profile p o s (inr (inr (inr h))) =
+    let parts = and_parts (asks_value profile p o) _ h in
     elim (or_cases (has_keyword (λ k. not (is_branch_keyword k)) s) _ parts.1) [
       | inl other ↦ let f = some_keyword (λ k. not (is_branch_keyword k)) s other in (f.0, NotInScalarBranches, f.1, inl (and_from (not (is_branch_keyword f.0)) _ f.2 parts.0))
       | inr bad ↦ elim (or_cases (has_empty_enum s) _ bad) [
-        | inl empty ↦ (codes "enum", EmptyEnum, empty_there s empty, inl (and_from (asks_value p o) _ parts.0 empty))
-        | inr other ↦ (codes "enum", EnumNotScalars, listed_there _ (under s (codes "enum")) other, inl (and_from (asks_value p o) _ parts.0 other))
+        | inl empty ↦ (codes "enum", EmptyEnum, empty_there s empty, inl (and_from (asks_value profile p o) _ parts.0 empty))
+        | inr other ↦ (codes "enum", EnumNotScalars, listed_there _ (under s (codes "enum")) other, inl (and_from (asks_value profile p o) _ parts.0 other))
       ]
     ]
 
-junctor_from : (p : Place) (o : Option Data) (c : Reason) (k : List ℕ) (s : Data) → has s k ≡ true → is_junctor_reason p o c k s ≡ true → BreaksJunctors p o s
-junctor_from p o MisplacedJunctor k s there h =
+junctor_from : (profile : Profile) (p : Place) (o : Option Data) (c : Reason) (k : List ℕ) (s : Data) → has s k ≡ true → is_junctor_reason profile p o c k s ≡ true → BreaksJunctors profile p o s
+junctor_from profile p o MisplacedJunctor k s there h =
     let parts = and_parts (is_among k junctor_keywords) _ h in
-    inl (and_from (takes_no_junctor p s) _ parts.1 (keyword_found (λ l. is_among l junctor_keywords) s k there parts.0))
-junctor_from p o NotInPresenceBranches k s there h =
+    inl (and_from (takes_no_junctor profile p s) _ parts.1 (keyword_found (λ l. is_among l junctor_keywords) s k there parts.0))
+junctor_from profile p o NotInPresenceBranches k s there h =
     let parts = and_parts (not (is_presence_keyword k)) _ h in
-    inr (inr (inl (and_from (asks_presence p o) _ parts.1 (or_left _ _ (keyword_found (λ l. not (is_presence_keyword l)) s k there parts.0)))))
-junctor_from p o UndeclaredField k s there h =
-    let parts = and_parts (asks_presence p o) _ (and_parts (bytes_eq k (codes "required")) _ h).1 in
-    inr (inr (inl (and_from (asks_presence p o) _ parts.0 (or_right (has_keyword (λ l. not (is_presence_keyword l)) s) _ parts.1))))
-junctor_from p o NotInScalarBranches k s there h =
+    inr (inr (inl (and_from (asks_presence profile p o) _ parts.1 (or_left _ _ (keyword_found (λ l. not (is_presence_keyword l)) s k there parts.0)))))
+junctor_from profile p o UndeclaredField k s there h =
+    let parts = and_parts (asks_presence profile p o) _ (and_parts (bytes_eq k (codes "required")) _ h).1 in
+    inr (inr (inl (and_from (asks_presence profile p o) _ parts.0 (or_right (has_keyword (λ l. not (is_presence_keyword l)) s) _ parts.1))))
+junctor_from profile p o NotInScalarBranches k s there h =
     let parts = and_parts (not (is_branch_keyword k)) _ h in
-    inr (inr (inr (and_from (asks_value p o) _ parts.1 (or_left _ _ (keyword_found (λ l. not (is_branch_keyword l)) s k there parts.0)))))
-junctor_from p o EmptyEnum k s there h =
-    let parts = and_parts (asks_value p o) _ (and_parts (bytes_eq k (codes "enum")) _ h).1 in
-    inr (inr (inr (and_from (asks_value p o) _ parts.0 (or_right (has_keyword (λ l. not (is_branch_keyword l)) s) _ (or_left _ _ parts.1)))))
-junctor_from p o EnumNotScalars k s there h =
-    let parts = and_parts (asks_value p o) _ (and_parts (bytes_eq k (codes "enum")) _ h).1 in
-    inr (inr (inr (and_from (asks_value p o) _ parts.0 (or_right (has_keyword (λ l. not (is_branch_keyword l)) s) _ (or_right (has_empty_enum s) _ parts.1)))))
-junctor_from p o _ k s there h = absurd (cc)
+    inr (inr (inr (and_from (asks_value profile p o) _ parts.1 (or_left _ _ (keyword_found (λ l. not (is_branch_keyword l)) s k there parts.0)))))
+junctor_from profile p o EmptyEnum k s there h =
+    let parts = and_parts (asks_value profile p o) _ (and_parts (bytes_eq k (codes "enum")) _ h).1 in
+    inr (inr (inr (and_from (asks_value profile p o) _ parts.0 (or_right (has_keyword (λ l. not (is_branch_keyword l)) s) _ (or_left _ _ parts.1)))))
+junctor_from profile p o EnumNotScalars k s there h =
+    let parts = and_parts (asks_value profile p o) _ (and_parts (bytes_eq k (codes "enum")) _ h).1 in
+    inr (inr (inr (and_from (asks_value profile p o) _ parts.0 (or_right (has_keyword (λ l. not (is_branch_keyword l)) s) _ (or_right (has_empty_enum s) _ parts.1)))))
+junctor_from profile p o _ k s there h = absurd (cc)
 
-pub junctor_reasons : (p : Place) (o : Option Data) (s : Data) → BreaksJunctors p o s ↔ HasJunctorReason p o s
-junctor_reasons p o s = (
-  junctor_to p o s,
+pub junctor_reasons : (profile : Profile) (p : Place) (o : Option Data) (s : Data) → BreaksJunctors profile p o s ↔ HasJunctorReason profile p o s
+junctor_reasons profile p o s = (
+  junctor_to profile p o s,
   λ f. elim f.3 [
-    | inl is ↦ junctor_from p o f.1 f.0 s f.2 is
+    | inl is ↦ junctor_from profile p o f.1 f.0 s f.2 is
     | inr names ↦ inr (inl names.1)
   ],
 )

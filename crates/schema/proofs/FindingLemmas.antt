@@ -16,6 +16,7 @@ use Rattle.jtree.specs.View.{members_of}
 use Rattle.jtree.specs.declared.value.Member.{Member}
 use Rattle.jtree.specs.Internal.Lookups.{bool_cases, same_name, own_name, before_each}
 use Rattle.jtree.specs.Internal.Rising.{Among, Rising, index_of, contained, contains, each_of, all_pairs, among_left, among_right, among_parts, rising_join}
+use Rattle.schema.specs.Document.Raw.{Raw, raw_by}
 use Rattle.schema.specs.Internal.PlaceView.{place_of}
 use Rattle.schema.specs.Internal.Subschemas.{IsSubschema}
 use Rattle.schema.specs.Internal.Taken.{Taken}
@@ -30,6 +31,7 @@ use Rattle.schema.specs.declared.reason.Reason.{Reason}
 use Rattle.schema.specs.declared.reason.Reason.TheVariants.{NotInBranches, TypeInBranch, NotSupported, KeysOfOtherList, NoKeys, NoItems, ItemsNotObjects, ItemsNotScalars, NullableItems, RepeatedKey, UndeclaredKey, KeyNotScalar, NullableKey, OptionalKey, MisplacedJunctor, NotInScalarBranches, NotInPresenceBranches, TooManyNames, EmptyEnum, EnumNotScalars, EnumOfOtherKind, UndeclaredField, RootNotObject, NotAtRoot, UnknownType, NotWithPreserving, NotOfScalars, NotOfLists, NotOfObjects, NotOfOpenPlaces, AdditionalPropertiesTrue}
 use Rattle.schema.specs.declared.reason.Finding.{Finding}
 use Rattle.schema.proofs.TakenLemmas.{Same, same_each, same_all, same_rising, adds_join, adds_one, adds_nothing}
+use Rattle.schema.specs.declared.profile.Profile.{Profile}
 
 -- ---- one more reason, and one more keyword
 
@@ -37,31 +39,31 @@ more_findings : (k : List ℕ) (reasons : List Reason) (i : ℕ) (d : Reason) �
     → findings_at k (take (i + 1) reasons) ≡ findings_at k (take i reasons) ++ (finding k (get_or reasons i d) ∷ [])
 more_findings k reasons i d within = ap (findings_at k) (take_more reasons i d within) ∙ map-append (finding k) (take i reasons) (get_or reasons i d ∷ [])
 
-pub found_reason : (v : Subschema) (r : Rule) (k : List ℕ) (reasons : List Reason) (i : ℕ) (d : Reason) (old mid : List Finding) (f : Finding) → i < length reasons
-    → f ≡ finding k (get_or reasons i d) → ((raw : Data) → IsSubschema raw v → IsTrue true ↔ ExplainedBy v r raw (finding k (get_or reasons i d)))
-    → AddsFindings v r (findings_at k (take i reasons)) old mid → AddsFindings v r (findings_at k (take (i + 1) reasons)) old (mid ++ (f ∷ []))
-found_reason v r k reasons i d old mid f within same is h =
-    subst (λ fs. AddsFindings v r fs old (mid ++ (f ∷ []))) (sym (more_findings k reasons i d within))
+pub found_reason : (profile : Profile) (v : Subschema) (r : Rule) (k : List ℕ) (reasons : List Reason) (i : ℕ) (d : Reason) (old mid : List Finding) (f : Finding) → i < length reasons
+    → f ≡ finding k (get_or reasons i d) → ((raw : Data) → IsSubschema raw v → IsTrue true ↔ ExplainedBy profile v r raw (finding k (get_or reasons i d)))
+    → AddsFindings profile v r (findings_at k (take i reasons)) old mid → AddsFindings profile v r (findings_at k (take (i + 1) reasons)) old (mid ++ (f ∷ []))
+found_reason profile v r k reasons i d old mid f within same is h =
+    subst (λ fs. AddsFindings profile v r fs old (mid ++ (f ∷ []))) (sym (more_findings k reasons i d within))
     (adds_join (findings_at k (take i reasons)) (finding k (get_or reasons i d) ∷ []) old mid (mid ++ (f ∷ [])) (λ raw known. known) h
     (adds_one (finding k (get_or reasons i d)) f mid (λ raw known. ((is raw known).0 refl, sym same))))
 
-pub passed_reason : (v : Subschema) (r : Rule) (k : List ℕ) (reasons : List Reason) (i : ℕ) (d : Reason) (old mid : List Finding) → i < length reasons
-    → ((raw : Data) → IsSubschema raw v → IsTrue false ↔ ExplainedBy v r raw (finding k (get_or reasons i d)))
-    → AddsFindings v r (findings_at k (take i reasons)) old mid → AddsFindings v r (findings_at k (take (i + 1) reasons)) old mid
-passed_reason v r k reasons i d old mid within is h =
-    subst (λ fs. AddsFindings v r fs old mid) (sym (more_findings k reasons i d within))
+pub passed_reason : (profile : Profile) (v : Subschema) (r : Rule) (k : List ℕ) (reasons : List Reason) (i : ℕ) (d : Reason) (old mid : List Finding) → i < length reasons
+    → ((raw : Data) → IsSubschema raw v → IsTrue false ↔ ExplainedBy profile v r raw (finding k (get_or reasons i d)))
+    → AddsFindings profile v r (findings_at k (take i reasons)) old mid → AddsFindings profile v r (findings_at k (take (i + 1) reasons)) old mid
+passed_reason profile v r k reasons i d old mid within is h =
+    subst (λ fs. AddsFindings profile v r fs old mid) (sym (more_findings k reasons i d within))
     (adds_join (findings_at k (take i reasons)) (finding k (get_or reasons i d) ∷ []) old mid mid (λ raw known. known) h
     (adds_nothing (finding k (get_or reasons i d)) mid (λ raw known holds. let never : false ≡ true = (is raw known).1 holds in cc)))
 
-pub found_member : (v : Subschema) (r : Rule) (members : List Member) (i : ℕ) (m : Member) (mid new : List Finding) → i < length members → m ≡ get_or members i m
-    → AddsFindings v r (findings_at m.name all_reasons) mid new
-    → AddsFindings v r (findings_among (take i members)) [] mid → AddsFindings v r (findings_among (take (i + 1) members)) [] new
-found_member v r members i m mid new within at here h =
+pub found_member : (profile : Profile) (v : Subschema) (r : Rule) (members : List Member) (i : ℕ) (m : Member) (mid new : List Finding) → i < length members → m ≡ get_or members i m
+    → AddsFindings profile v r (findings_at m.name all_reasons) mid new
+    → AddsFindings profile v r (findings_among (take i members)) [] mid → AddsFindings profile v r (findings_among (take (i + 1) members)) [] new
+found_member profile v r members i m mid new within at here h =
     let cands = λ (n : Member). findings_at n.name all_reasons in
     let more : take (i + 1) members ≡ take i members ++ (m ∷ []) = take_more members i m within ∙ ap (λ n. take i members ++ (n ∷ [])) (sym at) in
     let split : findings_among (take (i + 1) members) ≡ findings_among (take i members) ++ cands m =
     ap findings_among more ∙ flat_map-append cands (take i members) (m ∷ []) ∙ ap (λ fs. findings_among (take i members) ++ fs) (append-nil (cands m)) in
-    subst (λ fs. AddsFindings v r fs [] new) (sym split) (adds_join (findings_among (take i members)) (cands m) [] mid new (λ raw known. known) h here)
+    subst (λ fs. AddsFindings profile v r fs [] new) (sym split) (adds_join (findings_among (take i members)) (cands m) [] mid new (λ raw known. known) h here)
 
 -- ---- the table of the reasons
 
@@ -196,27 +198,27 @@ among_rising (n ∷ members) are =
 
 -- ---- all reasons of a rule at a place
 
-pub findings_are : (v : Subschema) (r : Rule) (members : List Member) (findings : List Finding) → AreMembers v.schema.now → members_of members ≡ v.schema.now
-    → AddsFindings v r (findings_among members) [] findings → (raw : Data) → IsSubschema raw v → AreFindings raw (place_of v.place.items) r findings
-findings_are v r members findings are whole h raw is =
+pub findings_are : (profile : Profile) (v : Subschema) (r : Rule) (members : List Member) (findings : List Finding) → AreMembers v.schema.now → members_of members ≡ v.schema.now
+    → AddsFindings profile v r (findings_among members) [] findings → (raw : Data) → IsSubschema raw v → AreFindings (raw_by profile raw) (place_of v.place.items) r findings
+findings_are profile v r members findings are whole h raw is =
     let p = place_of v.place.items in
     let s = object v.schema.now in
-    let P = ExplainedBy v r raw in
+    let P = ExplainedBy profile v r raw in
     let cands = findings_among members in
     let taken : Taken P Same cands findings = subst (Taken P Same cands) (sym h.grown) (h.are raw is) in
     let there = λ (k : List ℕ). subst (λ ms. is_some (member_at k ms) ≡ true) whole in
     record {
-      each = each_of (λ f. HasReason raw p r f.keyword f.reason) findings (λ f a.
+      each = each_of (λ f. HasReason (raw_by profile raw) p r f.keyword f.reason) findings (λ f a.
           let x = same_each P cands findings f taken a in
           let m = from_among members f x.0 in
-          let explains : Explains raw p s r m.0.name m.1 = subst P (sym m.3) x.1 in
-          subst (λ g. HasReason raw p r g.keyword g.reason) m.3 (s, is.is, (there m.0.name (member_there members m.0 m.2), explains)));
+          let explains : Explains (raw_by profile raw) p s r m.0.name m.1 = subst P (sym m.3) x.1 in
+          subst (λ g. HasReason (raw_by profile raw) p r g.keyword g.reason) m.3 (s, is.is, (there m.0.name (member_there members m.0 m.2), explains)));
       all = λ k c reason.
           let (t, at, (has_it, explains)) = reason in
           let same : t ≡ s = same_Some t s (sym at ∙ is.is) in
           let own : has s k ≡ true = subst (λ u. has u k ≡ true) same has_it in
           let m = there_member members k (subst (λ ms. is_some (member_at k ms) ≡ true) (sym whole) own) in
           let cand : Among cands (finding k c) = subst (λ l. Among cands (finding l c)) m.2 (to_among members m.0 c m.1) in
-          contains findings (finding k c) (same_all P cands findings (finding k c) taken cand (subst (λ u. Explains raw p u r k c) same explains));
+          contains findings (finding k c) (same_all P cands findings (finding k c) taken cand (subst (λ u. Explains (raw_by profile raw) p u r k c) same explains));
       ascending = all_pairs IsBefore findings (same_rising P IsBefore cands findings taken (among_rising members (subst AreMembers (sym whole) are)));
     }

@@ -22,9 +22,11 @@ use Rattle.schema.specs.declared.violation.Rule.{Rule}
 use Rattle.schema.specs.declared.violation.Rule.TheVariants.{V01, V02, V03, V04, V05, V06, V07, V08, V09, V10, V11, V12, V13, V15, V16, V17}
 use Rattle.schema.specs.declared.violation.Violation.{Violation}
 use Rattle.jtree.specs.Internal.Rising.{Among, Rising, contains, each_of, all_pairs, among_left, among_right, among_parts, rising_join}
+use Rattle.schema.specs.Document.Raw.{Raw, raw_by}
 use Rattle.schema.proofs.LimitLemmas.{path_total}
 use Rattle.schema.proofs.EventLemmas.{schema_events_are}
 use Rattle.schema.proofs.TakenLemmas.{Chained, chain_first, chain_tail, same_each, same_all, same_rising, taken_split, adds_join, adds_one, adds_nothing}
+use Rattle.schema.specs.declared.profile.Profile.{Profile}
 
 -- ---- one more rule, and one more place
 
@@ -32,39 +34,39 @@ more_pairs : (p : Place) (rules : List Rule) (i : ℕ) (d : Rule) → i < length
     → pairs_at p (take (i + 1) rules) ≡ pairs_at p (take i rules) ++ (pair p (get_or rules i d) ∷ [])
 more_pairs p rules i d within = ap (pairs_at p) (take_more rules i d within) ∙ map-append (pair p) (take i rules) (get_or rules i d ∷ [])
 
-pub found_rule : {Y : Type 0} (T : Data → Break → Y → Type 0) (v : Subschema) (rules : List Rule) (i : ℕ) (d : Rule) (old mid : List Y) (y : Y) → i < length rules
-    → ((raw : Data) → IsSubschema raw v → T raw (pair (place_of v.place.items) (get_or rules i d)) y)
-    → ((raw : Data) → IsSubschema raw v → IsTrue true ↔ Broken raw (place_of v.place.items) (get_or rules i d))
-    → AddsBreaks T (λ raw. IsSubschema raw v) (pairs_at (place_of v.place.items) (take i rules)) old mid
-    → AddsBreaks T (λ raw. IsSubschema raw v) (pairs_at (place_of v.place.items) (take (i + 1) rules)) old (mid ++ (y ∷ []))
-found_rule T v rules i d old mid y within reports is f =
+pub found_rule : (profile : Profile) → {Y : Type 0} (T : Raw → Break → Y → Type 0) (v : Subschema) (rules : List Rule) (i : ℕ) (d : Rule) (old mid : List Y) (y : Y) → i < length rules
+    → ((raw : Data) → IsSubschema raw v → T (raw_by profile raw) (pair (place_of v.place.items) (get_or rules i d)) y)
+    → ((raw : Data) → IsSubschema raw v → IsTrue true ↔ Broken (raw_by profile raw) (place_of v.place.items) (get_or rules i d))
+    → AddsBreaks profile T (λ raw. IsSubschema raw v) (pairs_at (place_of v.place.items) (take i rules)) old mid
+    → AddsBreaks profile T (λ raw. IsSubschema raw v) (pairs_at (place_of v.place.items) (take (i + 1) rules)) old (mid ++ (y ∷ []))
+found_rule profile T v rules i d old mid y within reports is f =
     let p = place_of v.place.items in
     let b = pair p (get_or rules i d) in
-    subst (λ ps. AddsBreaks T (λ raw. IsSubschema raw v) ps old (mid ++ (y ∷ []))) (sym (more_pairs p rules i d within))
+    subst (λ ps. AddsBreaks profile T (λ raw. IsSubschema raw v) ps old (mid ++ (y ∷ []))) (sym (more_pairs p rules i d within))
     (adds_join (pairs_at p (take i rules)) (b ∷ []) old mid (mid ++ (y ∷ [])) (λ raw known. known) f
     (adds_one b y mid (λ raw known. ((is raw known).0 refl, reports raw known))))
 
-pub kept_rule : {Y : Type 0} (T : Data → Break → Y → Type 0) (v : Subschema) (rules : List Rule) (i : ℕ) (d : Rule) (old mid : List Y) → i < length rules
-    → ((raw : Data) → IsSubschema raw v → IsTrue false ↔ Broken raw (place_of v.place.items) (get_or rules i d))
-    → AddsBreaks T (λ raw. IsSubschema raw v) (pairs_at (place_of v.place.items) (take i rules)) old mid
-    → AddsBreaks T (λ raw. IsSubschema raw v) (pairs_at (place_of v.place.items) (take (i + 1) rules)) old mid
-kept_rule T v rules i d old mid within is f =
+pub kept_rule : (profile : Profile) → {Y : Type 0} (T : Raw → Break → Y → Type 0) (v : Subschema) (rules : List Rule) (i : ℕ) (d : Rule) (old mid : List Y) → i < length rules
+    → ((raw : Data) → IsSubschema raw v → IsTrue false ↔ Broken (raw_by profile raw) (place_of v.place.items) (get_or rules i d))
+    → AddsBreaks profile T (λ raw. IsSubschema raw v) (pairs_at (place_of v.place.items) (take i rules)) old mid
+    → AddsBreaks profile T (λ raw. IsSubschema raw v) (pairs_at (place_of v.place.items) (take (i + 1) rules)) old mid
+kept_rule profile T v rules i d old mid within is f =
     let p = place_of v.place.items in
     let b = pair p (get_or rules i d) in
-    subst (λ ps. AddsBreaks T (λ raw. IsSubschema raw v) ps old mid) (sym (more_pairs p rules i d within))
+    subst (λ ps. AddsBreaks profile T (λ raw. IsSubschema raw v) ps old mid) (sym (more_pairs p rules i d within))
     (adds_join (pairs_at p (take i rules)) (b ∷ []) old mid mid (λ raw known. known) f
     (adds_nothing b mid (λ raw known h. let never : false ≡ true = (is raw known).1 h in cc)))
 
-pub found_subschema : {Y : Type 0} (T : Data → Break → Y → Type 0) (subschemas : List Subschema) (i : ℕ) (v : Subschema) (mid new : List Y) → i < length subschemas
-    → v ≡ get_or subschemas i v → AddsBreaks T (λ raw. IsSubschema raw v) (pairs_at (place_of v.place.items) judged) mid new
-    → AddsBreaks T (λ raw. All (IsSubschema raw) subschemas) (pairs_of (take i subschemas)) [] mid
-    → AddsBreaks T (λ raw. All (IsSubschema raw) subschemas) (pairs_of (take (i + 1) subschemas)) [] new
-found_subschema T subschemas i v mid new within at here f =
+pub found_subschema : (profile : Profile) → {Y : Type 0} (T : Raw → Break → Y → Type 0) (subschemas : List Subschema) (i : ℕ) (v : Subschema) (mid new : List Y) → i < length subschemas
+    → v ≡ get_or subschemas i v → AddsBreaks profile T (λ raw. IsSubschema raw v) (pairs_at (place_of v.place.items) judged) mid new
+    → AddsBreaks profile T (λ raw. All (IsSubschema raw) subschemas) (pairs_of (take i subschemas)) [] mid
+    → AddsBreaks profile T (λ raw. All (IsSubschema raw) subschemas) (pairs_of (take (i + 1) subschemas)) [] new
+found_subschema profile T subschemas i v mid new within at here f =
     let pairs = λ (w : Subschema). pairs_at (place_of w.place.items) judged in
     let more : take (i + 1) subschemas ≡ take i subschemas ++ (v ∷ []) = take_more subschemas i v within ∙ ap (λ w. take i subschemas ++ (w ∷ [])) (sym at) in
     let split : pairs_of (take (i + 1) subschemas) ≡ pairs_of (take i subschemas) ++ pairs v =
     ap pairs_of more ∙ flat_map-append pairs (take i subschemas) (v ∷ []) ∙ ap (λ ps. pairs_of (take i subschemas) ++ ps) (append-nil (pairs v)) in
-    subst (λ ps. AddsBreaks T (λ raw. All (IsSubschema raw) subschemas) ps [] new) (sym split)
+    subst (λ ps. AddsBreaks profile T (λ raw. All (IsSubschema raw) subschemas) ps [] new) (sym split)
     (adds_join (pairs_of (take i subschemas)) (pairs v) [] mid new (λ raw all. subst (IsSubschema raw) (sym at) (all i v within)) f here)
 
 abbrev IsLess : Break → Break → Type 0
@@ -72,48 +74,48 @@ IsLess b c = break_cmp b c ≡ Less
 
 -- ---- each rule that is broken is judged, at a place
 
-is_judged : (raw : Data) (p : Place) (r : Rule) → Broken raw p r → Among judged r
-is_judged raw p V01 h = inl refl
-is_judged raw p V02 h = inr (inl refl)
-is_judged raw p V03 h = inr (inr (inl refl))
-is_judged raw p V04 h = inr (inr (inr (inl refl)))
-is_judged raw p V05 h = inr (inr (inr (inr (inl refl))))
-is_judged raw p V06 h = inr (inr (inr (inr (inr (inl refl)))))
-is_judged raw p V07 h = inr (inr (inr (inr (inr (inr (inl refl))))))
-is_judged raw p V08 h = inr (inr (inr (inr (inr (inr (inr (inl refl)))))))
-is_judged raw p V09 h = inr (inr (inr (inr (inr (inr (inr (inr (inl refl))))))))
-is_judged raw p V10 h = inr (inr (inr (inr (inr (inr (inr (inr (inr (inl refl)))))))))
-is_judged raw p V11 h = inr (inr (inr (inr (inr (inr (inr (inr (inr (inr (inl refl))))))))))
-is_judged raw p V12 h = inr (inr (inr (inr (inr (inr (inr (inr (inr (inr (inr (inl refl)))))))))))
-is_judged raw p V13 h = inr (inr (inr (inr (inr (inr (inr (inr (inr (inr (inr (inr (inl refl))))))))))))
-is_judged raw p V15 h = inr (inr (inr (inr (inr (inr (inr (inr (inr (inr (inr (inr (inr (inl refl)))))))))))))
-is_judged raw p V16 h = inr (inr (inr (inr (inr (inr (inr (inr (inr (inr (inr (inr (inr (inr (inl refl))))))))))))))
-is_judged raw p V17 h = inr (inr (inr (inr (inr (inr (inr (inr (inr (inr (inr (inr (inr (inr (inr (inl refl)))))))))))))))
-is_judged raw p _ h = absurd h
+is_judged : (profile : Profile) (raw : Data) (p : Place) (r : Rule) → Broken (raw_by profile raw) p r → Among judged r
+is_judged profile raw p V01 h = inl refl
+is_judged profile raw p V02 h = inr (inl refl)
+is_judged profile raw p V03 h = inr (inr (inl refl))
+is_judged profile raw p V04 h = inr (inr (inr (inl refl)))
+is_judged profile raw p V05 h = inr (inr (inr (inr (inl refl))))
+is_judged profile raw p V06 h = inr (inr (inr (inr (inr (inl refl)))))
+is_judged profile raw p V07 h = inr (inr (inr (inr (inr (inr (inl refl))))))
+is_judged profile raw p V08 h = inr (inr (inr (inr (inr (inr (inr (inl refl)))))))
+is_judged profile raw p V09 h = inr (inr (inr (inr (inr (inr (inr (inr (inl refl))))))))
+is_judged profile raw p V10 h = inr (inr (inr (inr (inr (inr (inr (inr (inr (inl refl)))))))))
+is_judged profile raw p V11 h = inr (inr (inr (inr (inr (inr (inr (inr (inr (inr (inl refl))))))))))
+is_judged profile raw p V12 h = inr (inr (inr (inr (inr (inr (inr (inr (inr (inr (inr (inl refl)))))))))))
+is_judged profile raw p V13 h = inr (inr (inr (inr (inr (inr (inr (inr (inr (inr (inr (inr (inl refl))))))))))))
+is_judged profile raw p V15 h = inr (inr (inr (inr (inr (inr (inr (inr (inr (inr (inr (inr (inr (inl refl)))))))))))))
+is_judged profile raw p V16 h = inr (inr (inr (inr (inr (inr (inr (inr (inr (inr (inr (inr (inr (inr (inl refl))))))))))))))
+is_judged profile raw p V17 h = inr (inr (inr (inr (inr (inr (inr (inr (inr (inr (inr (inr (inr (inr (inr (inl refl)))))))))))))))
+is_judged profile raw p _ h = absurd h
 
-restricted_place : (raw : Data) (p : Place) → Broken raw p V04 → IsPlace raw p
-restricted_place raw p (metadata_keyword r at) = (at.0, at.1)
-restricted_place raw p (metadata_type r at) = (at.0, at.1)
-restricted_place raw p (metadata_field r k at n) = at
+restricted_place : (profile : Profile) (raw : Data) (p : Place) → Broken (raw_by profile raw) p V04 → IsPlace raw p
+restricted_place profile raw p (metadata_keyword r at) = (at.0, at.1)
+restricted_place profile raw p (metadata_type r at) = (at.0, at.1)
+restricted_place profile raw p (metadata_field r k at n) = at
 
-at_place : (raw : Data) (p : Place) (r : Rule) → Broken raw p r → IsPlace raw p
-at_place raw p V01 h = (h.1.0, h.1.1)
-at_place raw p V02 h = h.1
-at_place raw p V03 h = (h.1.0, h.1.1)
-at_place raw p V04 h = restricted_place raw p h
-at_place raw p V05 h = (h.0, h.1)
-at_place raw p V06 h = (h.0, h.1)
-at_place raw p V07 h = (h.0, h.1)
-at_place raw p V08 h = (h.0, h.1)
-at_place raw p V09 h = (h.1.0, h.1.1)
-at_place raw p V10 h = (h.1.0, h.1.1)
-at_place raw p V11 h = (h.1.0, h.1.1)
-at_place raw p V12 h = (h.1.0, h.1.1)
-at_place raw p V13 h = (h.1.0, h.1.1)
-at_place raw p V15 h = (h.1.0, h.1.1)
-at_place raw p V16 h = (h.0, h.1)
-at_place raw p V17 h = (h.1.0, h.1.1)
-at_place raw p _ h = absurd h
+at_place : (profile : Profile) (raw : Data) (p : Place) (r : Rule) → Broken (raw_by profile raw) p r → IsPlace raw p
+at_place profile raw p V01 h = (h.1.0, h.1.1)
+at_place profile raw p V02 h = h.1
+at_place profile raw p V03 h = (h.1.0, h.1.1)
+at_place profile raw p V04 h = restricted_place profile raw p h
+at_place profile raw p V05 h = (h.0, h.1)
+at_place profile raw p V06 h = (h.0, h.1)
+at_place profile raw p V07 h = (h.0, h.1)
+at_place profile raw p V08 h = (h.0, h.1)
+at_place profile raw p V09 h = (h.1.0, h.1.1)
+at_place profile raw p V10 h = (h.1.0, h.1.1)
+at_place profile raw p V11 h = (h.1.0, h.1.1)
+at_place profile raw p V12 h = (h.1.0, h.1.1)
+at_place profile raw p V13 h = (h.1.0, h.1.1)
+at_place profile raw p V15 h = (h.1.0, h.1.1)
+at_place profile raw p V16 h = (h.0, h.1)
+at_place profile raw p V17 h = (h.1.0, h.1.1)
+at_place profile raw p _ h = absurd h
 
 -- ---- the pairs of the places are in order, and all are there
 
@@ -220,34 +222,34 @@ subschemas_earlier : (ms : Members) (subschemas : List Subschema) → AreMembers
 subschemas_earlier ms subschemas o are = subschemas_rising subschemas (subst Ascend (sym are.whole) (subschemas_ascend (schema_events [] ms) (schema_events_are ms o).ascending))
 
 -- what is reported of the pairs are the breaks, one by one
-pub breaks_reported : {Y : Type 0} (T : Data → Break → Y → Type 0) (ms : Members) (subschemas : List Subschema) (ys : List Y) → AreMembers ms → AreSubschemas ms subschemas
-    → AddsBreaks T (λ raw. All (IsSubschema raw) subschemas) (pairs_of subschemas) [] ys
-    → (breaks : List Break) × AreBreaks (Broken (object ms)) breaks × OneByOne (T (object ms)) breaks ys
-breaks_reported T ms subschemas ys o are f =
+pub breaks_reported : (profile : Profile) → {Y : Type 0} (T : Raw → Break → Y → Type 0) (ms : Members) (subschemas : List Subschema) (ys : List Y) → AreMembers ms → AreSubschemas ms subschemas
+    → AddsBreaks profile T (λ raw. All (IsSubschema raw) subschemas) (pairs_of subschemas) [] ys
+    → (breaks : List Break) × AreBreaks (Broken (raw_by profile (object ms))) breaks × OneByOne (T (raw_by profile (object ms))) breaks ys
+breaks_reported profile T ms subschemas ys o are f =
     let raw = object ms in
-    let P = λ (b : Break). Broken raw b.place b.rule in
-    let split = taken_split P (T raw) (pairs_of subschemas) f.more (f.are raw are.each) in
+    let P = λ (b : Break). Broken (raw_by profile raw) b.place b.rule in
+    let split = taken_split P (T (raw_by profile raw)) (pairs_of subschemas) f.more (f.are raw are.each) in
     let breaks = split.0 in (
       breaks,
       record {
         each = each_of P breaks (λ b a. (same_each P (pairs_of subschemas) breaks b split.1 a).1);
         all = λ p r h.
-            let v = place_entered ms subschemas o are p (at_place raw p r h) in
-            let here : Among (pairs_of subschemas) (pair p r) = subst (λ q. Among (pairs_of subschemas) (pair q r)) v.2 (among_all subschemas v.0 r v.1 (is_judged raw p r h)) in
+            let v = place_entered ms subschemas o are p (at_place profile raw p r h) in
+            let here : Among (pairs_of subschemas) (pair p r) = subst (λ q. Among (pairs_of subschemas) (pair q r)) v.2 (among_all subschemas v.0 r v.1 (is_judged profile raw p r h)) in
             contains breaks (pair p r) (same_all P (pairs_of subschemas) breaks (pair p r) split.1 here h);
         ascending = all_pairs IsLess breaks (same_rising P IsLess (pairs_of subschemas) breaks split.1 (all_rising subschemas (subschemas_earlier ms subschemas o are)));
       },
-      subst (OneByOne (T raw) breaks) (sym f.grown) split.2,
+      subst (OneByOne (T (raw_by profile raw)) breaks) (sym f.grown) split.2,
     )
 
-reported_one_by_one : (raw : Data) (breaks : List Break) (violations : List Violation) → OneByOne (IsReported raw) breaks violations → map reported violations ≡ map reported_of breaks
-reported_one_by_one raw [] [] h = refl
-reported_one_by_one raw (b ∷ breaks) (v ∷ violations) h = ap (λ t. t ∷ map reported violations) h.0 ∙ ap (λ ts. reported_of b ∷ ts) (reported_one_by_one raw breaks violations h.1)
-reported_one_by_one raw [] (v ∷ violations) h = absurd h
-reported_one_by_one raw (b ∷ breaks) [] h = absurd h
+reported_one_by_one : (profile : Profile) (raw : Data) (breaks : List Break) (violations : List Violation) → OneByOne (IsReported (raw_by profile raw)) breaks violations → map reported violations ≡ map reported_of breaks
+reported_one_by_one profile raw [] [] h = refl
+reported_one_by_one profile raw (b ∷ breaks) (v ∷ violations) h = ap (λ t. t ∷ map reported violations) h.0 ∙ ap (λ ts. reported_of b ∷ ts) (reported_one_by_one profile raw breaks violations h.1)
+reported_one_by_one profile raw [] (v ∷ violations) h = absurd h
+reported_one_by_one profile raw (b ∷ breaks) [] h = absurd h
 
-pub violations_of : (ms : Members) (subschemas : List Subschema) (violations : List Violation) → AreMembers ms → AreSubschemas ms subschemas
-    → AddsBreaks IsReported (λ raw. All (IsSubschema raw) subschemas) (pairs_of subschemas) [] violations → AreViolations (Broken (object ms)) violations
-violations_of ms subschemas violations o are f =
-    let b = breaks_reported IsReported ms subschemas violations o are f in
-    (b.0, b.1, reported_one_by_one (object ms) b.0 violations b.2)
+pub violations_of : (profile : Profile) (ms : Members) (subschemas : List Subschema) (violations : List Violation) → AreMembers ms → AreSubschemas ms subschemas
+    → AddsBreaks profile IsReported (λ raw. All (IsSubschema raw) subschemas) (pairs_of subschemas) [] violations → AreViolations (Broken (raw_by profile (object ms))) violations
+violations_of profile ms subschemas violations o are f =
+    let b = breaks_reported profile IsReported ms subschemas violations o are f in
+    (b.0, b.1, reported_one_by_one profile (object ms) b.0 violations b.2)

@@ -10,6 +10,7 @@ use Rattle.jtree.specs.Path.{name, under, member_at, item_at}
 use Rattle.jtree.specs.Internal.Lookups.{bool_cases, option_cases}
 use Rattle.jtree.specs.Internal.Rising.{Among, contained, each_of, among_parts}
 use Rattle.schema.specs.Document.Places.{Step, Place, property, map_value, items, all_of, any_of, one_of, negation, schema_by, schema_at, is_inside, is_junctor, core, is_envelope_name}
+use Rattle.schema.specs.Document.Raw.{Raw, raw_by}
 use Rattle.schema.specs.Rules.Keywords.{texts_of, items_in, items_under, texts_under, members_in, members_under, any_item, has, has_keyword}
 use Rattle.schema.specs.Rules.Kinds as kinds
 use Rattle.schema.specs.Rules.Kinds.{kind_of}
@@ -27,6 +28,8 @@ use Rattle.schema.proofs.ItemLemmas.{HaveForms, schema_of}
 use Rattle.schema.proofs.NamedLemmas.{text_among, IsNamed, step_named, all_among}
 use Rattle.schema.proofs.OneNode.{here, found_node, node_of_below}
 use Rattle.schema.proofs.ReasonWords.{holds_at, some_keyword, keyword_found}
+use Rattle.schema.specs.declared.profile.Profile.{Profile}
+use Rattle.schema.specs.declared.profile.Profile.TheVariants.{Core, Cluster}
 
 -- ---- places joined
 
@@ -138,24 +141,24 @@ junctors_named in_branch all any one negated s k in_all in_any in_one in_negated
 ]
 
 mutual
-  validations_named : (c : Validations) (s : Data) (k : List ℕ) → AreValidationsOf c s → Among (names_in c) k → IsNamed true s k
-  validations_named (validations t all any one negated) s k h a = elim (among_parts t.required (names_of all ++ (names_of any ++ (names_of one ++ names_of negated))) k a) [
+  validations_named : (profile : Profile) (c : Validations) (s : Data) (k : List ℕ) → AreValidationsOf profile c s → Among (names_in c) k → IsNamed true s k
+  validations_named profile (validations t all any one negated) s k h a = elim (among_parts t.required (names_of all ++ (names_of any ++ (names_of one ++ names_of negated))) k a) [
     | inl own ↦ record { place = []; alone = refl; inside = refl; schema = s; at = refl; required = subst (λ ks. Among ks k) h.0.required own }
-    | inr b ↦ junctors_named true all any one negated s k (branches_named all _ k h.1) (branches_named any _ k h.2) (branches_named one _ k h.3) (branches_named negated _ k h.4) b
+    | inr b ↦ junctors_named true all any one negated s k (branches_named profile all _ k h.1) (branches_named profile any _ k h.2) (branches_named profile one _ k h.3) (branches_named profile negated _ k h.4) b
   ]
 
-  branches_named : (cs : Branches) (ds : Items) (k : List ℕ) → AreBranchesOf cs ds → Among (names_of cs) k → ItemNamed ds k
-  branches_named no_branches ds k h a = absurd a
-  branches_named (branch c cs) no_items k h a = absurd h
-  branches_named (branch c cs) (item d ds) k h a = elim (among_parts (names_in c) (names_of cs) k a) [
-    | inl l ↦ (0, d, refl, validations_named c d k h.0 l)
-    | inr l ↦ let r = branches_named cs ds k h.1 l in (suc r.0, r.1, r.2, r.3)
+  branches_named : (profile : Profile) (cs : Branches) (ds : Items) (k : List ℕ) → AreBranchesOf profile cs ds → Among (names_of cs) k → ItemNamed ds k
+  branches_named profile no_branches ds k h a = absurd a
+  branches_named profile (branch c cs) no_items k h a = absurd h
+  branches_named profile (branch c cs) (item d ds) k h a = elim (among_parts (names_in c) (names_of cs) k a) [
+    | inl l ↦ (0, d, refl, validations_named profile c d k h.0 l)
+    | inr l ↦ let r = branches_named profile cs ds k h.1 l in (suc r.0, r.1, r.2, r.3)
   ]
 
 object_named : (cs : Validations) (s : Data) (k : List ℕ) → AreObjectJunctorsOf cs s → Among (names_in cs) k → IsNamed false s k
 object_named (validations t all any one negated) s k h a = elim (among_parts t.required (names_of all ++ (names_of any ++ (names_of one ++ names_of negated))) k a) [
   | inl own ↦ let none : t.required ≡ [] = ap (λ u. u.required) h.0 in absurd (rw none at own)
-  | inr b ↦ junctors_named false all any one negated s k (branches_named all _ k h.1) (branches_named any _ k h.2) (branches_named one _ k h.3) (branches_named negated _ k h.4) b
+  | inr b ↦ junctors_named false all any one negated s k (branches_named Core all _ k h.1) (branches_named Core any _ k h.2) (branches_named Core one _ k h.3) (branches_named Core negated _ k h.4) b
 ]
 
 -- ---- named fields are declared
@@ -167,11 +170,12 @@ any_text test (item (text l) ds) k (inr a) is = or_right (test (text l)) _ (any_
 any_text test (item d ds) k a is = or_right (test d) _ (any_text test ds k a is)
 
 -- a member of `properties` is a place
-property_place : (s d : Data) (k : List ℕ) → HaveForms s → (o : Option Data) → under s (codes "properties") ≡ o → member_at k (members_in o) ≡ Some d
+property_place : (profile : Profile) (s d : Data) (k : List ℕ) → HaveForms profile s → (o : Option Data) → under s (codes "properties") ≡ o → member_at k (members_in o) ≡ Some d
     → (e : Data) × (schema_by s (property k) ≡ Some e)
-property_place s (object ms) k forms (Some (object ns)) is at = (object ms, rw (is, at) refl)
-property_place s d k forms (Some (object ns)) is at = absurd (forms (codes "properties") (name k ∷ []) (d, rw (is, at) refl, refl))
-property_place s d k forms o is at = absurd (cc)
+property_place profile s (object ms) k forms (Some (object ns)) is at = (object ms, rw (is, at) refl)
+property_place Core s d k forms (Some (object ns)) is at = absurd (forms (codes "properties") (name k ∷ []) (d, rw (is, at) refl, refl))
+property_place Cluster s d k forms (Some (object ns)) is at = absurd (forms (codes "properties") (name k ∷ []) (d, rw (is, at) refl, refl))
+property_place profile s d k forms o is at = absurd (cc)
 
 -- ---- what branches ask besides
 
@@ -204,7 +208,7 @@ absent test s w none is = elim (option_cases (under s w)) [
   | inr some ↦ let found = keyword_found test s w (rw some.1 refl) is in cc
 ]
 
-constraints_alone : (t : Constraints) (s : Data) → AreConstraintsOf t s → has_keyword (λ k. not (is_presence_keyword k)) s ≡ false → t ≡ presence t.required
+constraints_alone : (t : Constraints) (s : Data) → AreConstraintsOf Core t s → has_keyword (λ k. not (is_presence_keyword k)) s ≡ false → t ≡ presence t.required
 constraints_alone t s are none =
     let no = λ (w : List ℕ) (is : not (is_presence_keyword w) ≡ true). absent (λ k. not (is_presence_keyword k)) s w none is in
     let choices : t.choices ≡ None = are.choices ∙ rw (no (codes "enum") refl) refl in
@@ -221,11 +225,12 @@ constraints_alone t s are none =
       exclusive_minimum = above i;
       exclusive_maximum = below i;
       lengths = record { least = least i; most = most i };
+      written = are.written i;
       required = t.required;
     }
 
 mutual
-  validations_alone : (c : Validations) (s : Data) → AreValidationsOf c s → AsksNoMore true s → AsksPresence c
+  validations_alone : (c : Validations) (s : Data) → AreValidationsOf Core c s → AsksNoMore true s → AsksPresence c
   validations_alone (validations t all any one negated) s h only = (
     constraints_alone t s h.0 (only [] refl refl s refl),
     branches_alone all _ h.1 (asked_below true s _ (all_in s) only),
@@ -234,7 +239,7 @@ mutual
     branches_alone negated _ h.4 (asked_below true s _ (negated_in s) only),
   )
 
-  branches_alone : (cs : Branches) (ds : Items) → AreBranchesOf cs ds → ((i : ℕ) (e : Data) → item_at i ds ≡ Some e → AsksNoMore true e) → AskPresence cs
+  branches_alone : (cs : Branches) (ds : Items) → AreBranchesOf Core cs ds → ((i : ℕ) (e : Data) → item_at i ds ≡ Some e → AsksNoMore true e) → AskPresence cs
   branches_alone no_branches ds h each = tt
   branches_alone (branch c cs) no_items h each = absurd h
   branches_alone (branch c cs) (item d ds) h each = (validations_alone c d h.0 (each 0 d refl), branches_alone cs ds h.1 (λ i e at. each (suc i) e at))
@@ -254,24 +259,24 @@ required_there : (o : Option Data) (k : List ℕ) → Among (texts_of (items_in 
 required_there (Some d) k a = refl
 required_there None k a = absurd a
 
-module _ (raw : Data) (root : Node) (is : IsRootOf root raw) (p : Place) (s : Data) (at : schema_at raw p ≡ Some s) (out : is_inside p ≡ false) where
+module _ (profile : Profile) (raw : Data) (root : Node) (is : IsRootOf root (raw_by profile raw)) (p : Place) (s : Data) (at : schema_at raw p ≡ Some s) (out : is_inside p ≡ false) where
   -- nothing is wrong with a branch
-  good_branch : (q : Place) → is_inside q ≡ true → core q ≡ [] → (t : Data) → schema_at s q ≡ Some t → BreaksJunctors (p ++ q) (Some s) t → ⊥
+  good_branch : (q : Place) → is_inside q ≡ true → core q ≡ [] → (t : Data) → schema_at s q ≡ Some t → BreaksJunctors profile (p ++ q) (Some s) t → ⊥
   good_branch q into alone t there bad =
       let outer : schema_at raw (core (p ++ q)) ≡ Some s = ap (schema_at raw) (core_joined p q out alone) ∙ at in
-      is.unbroken (p ++ q) V16 (t, schema_joined p q raw s t at there, subst (λ o. BreaksJunctors (p ++ q) o t) (sym outer) bad)
+      is.unbroken (p ++ q) V16 (t, schema_joined p q raw s t at there, subst (λ o. BreaksJunctors profile (p ++ q) o t) (sym outer) bad)
 
-  good_presence : kind_of s ≡ Some kinds.object → (q : Place) → is_inside q ≡ true → core q ≡ [] → (t : Data) → schema_at s q ≡ Some t
+  good_presence : kind_of profile s ≡ Some kinds.object → (q : Place) → is_inside q ≡ true → core q ≡ [] → (t : Data) → schema_at s q ≡ Some t
       → (has_keyword (λ k. not (is_presence_keyword k)) t || requires_no_field (p ++ q) (Some s) t) ≡ false
   good_presence kind q into alone t there = elim (bool_cases (has_keyword (λ k. not (is_presence_keyword k)) t || requires_no_field (p ++ q) (Some s) t)) [
     | inl bad ↦ absurd (good_branch q into alone t there (inr (inr (inl (rw (inside_joined p q out ∙ into, kind) bad)))))
     | inr good ↦ good
   ]
 
-  asks_no_more : kind_of s ≡ Some kinds.object → AsksNoMore false s
+  asks_no_more : kind_of profile s ≡ Some kinds.object → AsksNoMore false s
   asks_no_more kind q into alone t there = (or_parts (has_keyword (λ k. not (is_presence_keyword k)) t) _ (good_presence kind q into alone t there)).0
 
-  is_field : kind_of s ≡ Some kinds.object → (k : List ℕ) → IsNamed false s k → is_no_field (is_root p) false (members_under s (codes "properties")) (text k) ≡ false
+  is_field : kind_of profile s ≡ Some kinds.object → (k : List ℕ) → IsNamed false s k → is_no_field (is_root p) false (members_under s (codes "properties")) (text k) ≡ false
   is_field kind k n =
       let good = (or_parts (has_keyword (λ k. not (is_presence_keyword k)) n.schema) _ (good_presence kind n.place n.inside n.alone n.schema n.at)).1 in
       let declared : any_item (is_no_field (is_root p) false (members_under s (codes "properties"))) (items_under n.schema (codes "required")) ≡ false =
@@ -281,14 +286,14 @@ module _ (raw : Data) (root : Node) (is : IsRootOf root raw) (p : Place) (s : Da
         | inr f ↦ f
       ]
 
-  few_names : kind_of s ≡ Some kinds.object → (ks : List (List ℕ)) → AllPairs (λ k l. k ≢ l) ks → All (NamesField s) ks → length ks ≤ most_named
+  few_names : kind_of profile s ≡ Some kinds.object → (ks : List (List ℕ)) → AllPairs (λ k l. k ≢ l) ks → All (NamesField s) ks → length ks ≤ most_named
   few_names kind ks apart named = elim (bool_cases (nat_lt most_named (length ks))) [
     | inl t ↦ absurd (is.unbroken p V16 (s, at, inr (inl (out, rw kind refl, (ks, apart, named, ltb-true most_named (length ks) t)))))
     | inr f ↦ ltb-false most_named (length ks) f
   ]
 
   -- a scalar requires no field, and nor do its branches
-  scalar_names_none : (j : ScalarKind) → kind_of s ≡ Some (kinds.scalar j) → (k : List ℕ) → IsNamed true s k → ⊥
+  scalar_names_none : (j : ScalarKind) → kind_of profile s ≡ Some (kinds.scalar j) → (k : List ℕ) → IsNamed true s k → ⊥
   scalar_names_none j kind k n =
       let there = required_there (under n.schema (codes "required")) k n.required in
       elim (bool_cases (is_inside n.place)) [
@@ -297,8 +302,8 @@ module _ (raw : Data) (root : Node) (is : IsRootOf root raw) (p : Place) (s : Da
         | inr outside ↦
             let here : schema_at s [] ≡ Some n.schema = subst (λ q. schema_at s q ≡ Some n.schema) (sym (core_outside n.place outside) ∙ n.alone) n.at in
             let own : has s (codes "required") ≡ true = subst (λ t. has t (codes "required") ≡ true) (sym (same_Some s n.schema here)) there in
-            let foreign : is_foreign (kind_of s) (codes "required") ≡ true = rw kind refl in
-            is.unbroken p V17 (out, (s, at, holds_at (profile_tests (is_root p) s) 4 (keyword_found (is_foreign (kind_of s)) s (codes "required") own foreign)))
+            let foreign : is_foreign (kind_of profile s) (codes "required") ≡ true = rw kind refl in
+            is.unbroken p V17 (out, (s, at, holds_at (profile_tests profile (is_root p) s) 4 (keyword_found (is_foreign (kind_of profile s)) s (codes "required") own foreign)))
       ]
 
 -- a property that is no name of the envelope at the root
@@ -320,31 +325,31 @@ no_names : (ks : List (List ℕ)) → ((k : List ℕ) → Among ks k → ⊥) �
 no_names [] none = refl
 no_names (k ∷ ks) none = absurd (none k (inl refl))
 
-sound_junctors : (M : Node) (raw : Data) (root : Node) → IsRootOf root raw → (p : Place) (s : Data) → schema_at raw p ≡ Some s → is_inside p ≡ false → HaveForms s
-    → AreNodesOf (is_root p && true) M s → HasSoundJunctors M
-sound_junctors (node n x (object_node fs pr t b cs)) raw root is p s at out forms h =
-    let reported = (here (is_root p && true) _ s h).0 in
+sound_junctors : (profile : Profile) (M : Node) (raw : Data) (root : Node) → IsRootOf root (raw_by profile raw) → (p : Place) (s : Data) → schema_at raw p ≡ Some s → is_inside p ≡ false → HaveForms profile s
+    → AreNodesOf (is_root p && true) M (raw_by profile s) → HasSoundJunctors M
+sound_junctors profile (node n x (object_node fs pr t b cs)) raw root is p s at out forms h =
+    let reported = (here profile (is_root p && true) _ s h).0 in
     let kind = reported.2.is in
     let junctors = reported.3.3 in
     let named = λ (k : List ℕ) (c : Contains (names_in cs) k). object_named cs s k junctors (contained (names_in cs) k c) in
     record {
       declared = λ k c.
-          let no = property_outside _ _ (is_field raw root is p s at out kind k (named k c)) in
+          let no = property_outside _ _ (is_field profile raw root is p s at out kind k (named k c)) in
           let d = some_value (member_at k (members_under s (codes "properties"))) no.0 in
-          let e = property_place s d.0 k forms (under s (codes "properties")) refl d.1 in
-          let N = node_of_below (is_root p && true) _ s e.0 (property k) h (refl, not_both (is_root p) (is_envelope_name k) no.1) e.1 in
+          let e = property_place profile s d.0 k forms (under s (codes "properties")) refl d.1 in
+          let N = node_of_below profile (is_root p && true) _ s e.0 (property k) h (refl, not_both (is_root p) (is_envelope_name k) no.1) e.1 in
           let f = found_node (field_at k fs) N.0 N.1 in
           rw f.1 (refl {a = true});
-      few = λ ks apart all. few_names raw root is p s at out kind ks apart (each_of (NamesField s) ks (λ k a.
+      few = λ ks apart all. few_names profile raw root is p s at out kind ks apart (each_of (NamesField s) ks (λ k a.
           let i = named k (all_among (Contains (names_in cs)) ks all k a) in (i.place, i.inside, i.alone, i.schema, i.at, text_among k _ i.required)));
-      alone = object_alone cs s junctors (asks_no_more raw root is p s at out kind);
+      alone = object_alone cs s junctors (asks_no_more profile raw root is p s at out kind);
     }
-sound_junctors (node n x (scalar j cs)) raw root is p s at out forms h =
-    let reported = (here (is_root p && true) _ s h).0 in
-    no_names (names_in cs) (λ k a. scalar_names_none raw root is p s at out j reported.2.is k (validations_named cs s k reported.3 a))
-sound_junctors M raw root is p s at out forms h = tt
+sound_junctors profile (node n x (scalar j cs)) raw root is p s at out forms h =
+    let reported = (here profile (is_root p && true) _ s h).0 in
+    no_names (names_in cs) (λ k a. scalar_names_none profile raw root is p s at out j reported.2.is k (validations_named profile cs s k reported.3 a))
+sound_junctors profile M raw root is p s at out forms h = tt
 
-pub sound_junctors_at : (raw : Data) (root : Node) → IsRootOf root raw → (p : Place) (M : Node) → node_at root p ≡ Some M → HasSoundJunctors M
+pub sound_junctors_at : (raw : Raw) (root : Node) → IsRootOf root raw → (p : Place) (M : Node) → node_at root p ≡ Some M → HasSoundJunctors M
 sound_junctors_at raw root is p M at =
-    let s = schema_of p true root M raw is.nodes (λ k path. is.forms (name k ∷ path)) at in
-    sound_junctors M raw root is p s.0 s.1 (is.nodes.only p M at).0.0 s.2 s.3
+    let s = schema_of raw.profile p true root M raw.tree is.nodes (λ k path. is.forms (name k ∷ path)) at in
+    sound_junctors raw.profile M raw.tree root is p s.0 s.1 (is.nodes.only p M at).0.0 s.2 s.3

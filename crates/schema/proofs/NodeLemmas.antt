@@ -10,6 +10,7 @@ use Rattle.jtree.specs.declared.value.Tree.{Tree}
 use Rattle.schema.specs.Nodes.View.{validations_of, branches_of}
 use Rattle.schema.specs.Nodes.Validations.{AreValidationsOf, AreBranchesOf}
 use Rattle.schema.specs.declared.node.Validations.{Validations}
+use Rattle.schema.specs.declared.profile.Profile.{Profile}
 
 pub member_decreases : (k : List ℕ) (ms : Members) (d : Data) → member_at k ms ≡ Some d → depth d ≤ members_depth ms
 member_decreases k no_members d at = cc
@@ -22,9 +23,9 @@ pub under_decreases : (d : Data) (k : List ℕ) (e : Data) → under d k ≡ Som
 under_decreases (object ms) k e at = let h = member_decreases k ms e at in omega arith
 under_decreases _ k e at = cc
 
-pub push_branches : (cs : List Validations) (c : Validations) (ts : List Tree) (t : Tree) → AreBranchesOf (branches_of cs) (items_of ts)
-    → AreValidationsOf (validations_of c) (data_of t) → AreBranchesOf (branches_of (cs ++ c ∷ [])) (items_of (ts ++ t ∷ []))
-push_branches [] c [] t h new = (new, tt)
-push_branches [] c (u ∷ ts) t h new = absurd h
-push_branches (b ∷ cs) c [] t h new = absurd h
-push_branches (b ∷ cs) c (u ∷ ts) t h new = (h.0, push_branches cs c ts t h.1 new)
+pub push_branches : (profile : Profile) (cs : List Validations) (c : Validations) (ts : List Tree) (t : Tree) → AreBranchesOf profile (branches_of cs) (items_of ts)
+    → AreValidationsOf profile (validations_of c) (data_of t) → AreBranchesOf profile (branches_of (cs ++ c ∷ [])) (items_of (ts ++ t ∷ []))
+push_branches profile [] c [] t h new = (new, tt)
+push_branches profile [] c (u ∷ ts) t h new = absurd h
+push_branches profile (b ∷ cs) c [] t h new = absurd h
+push_branches profile (b ∷ cs) c (u ∷ ts) t h new = (h.0, push_branches profile cs c ts t h.1 new)

@@ -16,6 +16,7 @@ use Rattle.schema.specs.Rules.Reasons.{is_profile_reason, makes_no_object, makes
 use Rattle.schema.specs.declared.reason.Reason.{Reason}
 use Rattle.schema.specs.declared.reason.Reason.TheVariants.{NoItems, EmptyEnum, EnumOfOtherKind, UndeclaredField, RootNotObject, NotAtRoot, UnknownType, NotWithPreserving, NotOfScalars, NotOfLists, NotOfObjects, NotOfOpenPlaces, AdditionalPropertiesTrue}
 use Rattle.schema.proofs.ReasonWords.{Found, cases, holds_at, flag_there, listed_there, empty_there, some_keyword, keyword_found}
+use Rattle.schema.specs.declared.profile.Profile.{Profile}
 
 -- ---- what a condition says of a keyword that is there
 
@@ -87,9 +88,9 @@ preserving_from k s there h =
 
 -- ---- kinds
 
-list_typed : (s : Data) (o : Option Data) → under s (codes "type") ≡ o → is_list_kind (kind_of s) ≡ true → is_some o ≡ true
-list_typed s (Some d) at h = refl
-list_typed s None at h = elim (bool_cases (is_int_or_string s)) [
+list_typed : (profile : Profile) (s : Data) (o : Option Data) → under s (codes "type") ≡ o → is_list_kind (kind_of profile s) ≡ true → is_some o ≡ true
+list_typed profile s (Some d) at h = refl
+list_typed profile s None at h = elim (bool_cases (is_int_or_string s)) [
   | inl single ↦ absurd (let never : false ≡ true = rw single at h in cc)
   | inr several ↦ elim (bool_cases (preserves s)) [
     | inl kept ↦ absurd (let never : false ≡ true = rw (several, at, kept) at h in cc)
@@ -98,13 +99,13 @@ list_typed s None at h = elim (bool_cases (is_int_or_string s)) [
 ]
 
 -- each kind has its reason
-of_kind : (root : Bool) (s : Data) (k : List ℕ) (o : Option Kind) → kind_of s ≡ o → is_foreign o k ≡ true → (c : Reason) × (is_profile_reason root c k s ≡ true)
-of_kind root s k (Some (scalar j)) is h = (NotOfScalars, rw is h)
-of_kind root s k (Some kinds.list) is h = (NotOfLists, rw is h)
-of_kind root s k (Some kinds.map) is h = (NotOfObjects, rw is h)
-of_kind root s k (Some kinds.object) is h = (NotOfObjects, rw is h)
-of_kind root s k (Some open_) is h = (NotOfOpenPlaces, rw is h)
-of_kind root s k None is h = absurd (cc)
+of_kind : (profile : Profile) (root : Bool) (s : Data) (k : List ℕ) (o : Option Kind) → kind_of profile s ≡ o → is_foreign o k ≡ true → (c : Reason) × (is_profile_reason profile root c k s ≡ true)
+of_kind profile root s k (Some (scalar j)) is h = (NotOfScalars, rw is h)
+of_kind profile root s k (Some kinds.list) is h = (NotOfLists, rw is h)
+of_kind profile root s k (Some kinds.map) is h = (NotOfObjects, rw is h)
+of_kind profile root s k (Some kinds.object) is h = (NotOfObjects, rw is h)
+of_kind profile root s k (Some open_) is h = (NotOfOpenPlaces, rw is h)
+of_kind profile root s k None is h = absurd (cc)
 
 no_choice_there : (o : Option Kind) (s : Data) → has_no_choice o s ≡ true → has s (codes "enum") ≡ true
 no_choice_there (Some (scalar k)) s h = empty_there s h
@@ -118,47 +119,47 @@ other_choice_there None s h = absurd (cc)
 
 -- ---- each of the nine has a reason
 
-abbrev HasProfileReason : Bool → Data → Type 0
-HasProfileReason root s = Found (is_profile_reason root) s
+abbrev HasProfileReason : (profile : Profile) → Bool → Data → Type 0
+HasProfileReason profile root s = Found (is_profile_reason profile root) s
 
-foreign_keyword : (root : Bool) (s : Data) → has_foreign_keyword s ≡ true → HasProfileReason root s
-foreign_keyword root s h =
-    let f = some_keyword (is_foreign (kind_of s)) s h in
-    let c = of_kind root s f.0 (kind_of s) refl f.2 in
+foreign_keyword : (profile : Profile) (root : Bool) (s : Data) → has_foreign_keyword profile s ≡ true → HasProfileReason profile root s
+foreign_keyword profile root s h =
+    let f = some_keyword (is_foreign (kind_of profile s)) s h in
+    let c = of_kind profile root s f.0 (kind_of profile s) refl f.2 in
     (f.0, c.0, f.1, c.1)
 
-bad_choices : (root : Bool) (s : Data) → has_bad_choices s ≡ true → HasProfileReason root s
-bad_choices root s h = elim (or_cases (has_no_choice (kind_of s) s) _ h) [
-  | inl empty ↦ (codes "enum", EmptyEnum, no_choice_there (kind_of s) s empty, empty)
-  | inr other ↦ (codes "enum", EnumOfOtherKind, other_choice_there (kind_of s) s other, other)
+bad_choices : (profile : Profile) (root : Bool) (s : Data) → has_bad_choices profile s ≡ true → HasProfileReason profile root s
+bad_choices profile root s h = elim (or_cases (has_no_choice (kind_of profile s) s) _ h) [
+  | inl empty ↦ (codes "enum", EmptyEnum, no_choice_there (kind_of profile s) s empty, empty)
+  | inr other ↦ (codes "enum", EnumOfOtherKind, other_choice_there (kind_of profile s) s other, other)
 ]
 
-profile_to : (root : Bool) (s : Data) → is_outside_profile root s ≡ true → HasProfileReason root s
-profile_to root s h =
-    cases (profile_tests root s) (HasProfileReason root s) h
+profile_to : (profile : Profile) (root : Bool) (s : Data) → is_outside_profile profile root s ≡ true → HasProfileReason profile root s
+profile_to profile root s h =
+    cases (profile_tests profile root s) (HasProfileReason profile root s) h
     (λ other. let f = other_root_to root s other in (f.0, RootNotObject, f.1, f.2))
     (λ none. let f = root_keyword_to root s none in (f.0, NotAtRoot, f.1, f.2))
     (λ other. (codes "type", UnknownType, (and_parts (has s (codes "type")) _ other).0, other))
     (λ bad. let f = preserving_to s bad in (f.0, NotWithPreserving, f.1, f.2))
-    (foreign_keyword root s)
-    (λ lacks. (codes "type", NoItems, list_typed s _ refl (and_parts (is_list_kind (kind_of s)) _ lacks).0, lacks))
+    (foreign_keyword profile root s)
+    (λ lacks. (codes "type", NoItems, list_typed profile s _ refl (and_parts (is_list_kind (kind_of profile s)) _ lacks).0, lacks))
     (λ undeclared. (codes "required", UndeclaredField, listed_there _ (under s (codes "required")) undeclared, undeclared))
-    (bad_choices root s)
+    (bad_choices profile root s)
     (λ any. (codes "additionalProperties", AdditionalPropertiesTrue, flag_there _ any, any))
 
 -- ---- and back
 
-profile_from : (root : Bool) (c : Reason) (k : List ℕ) (s : Data) → has s k ≡ true → is_profile_reason root c k s ≡ true → is_outside_profile root s ≡ true
-profile_from root RootNotObject k s there h = holds_at (profile_tests root s) 0 (other_root_from root k s h)
-profile_from root NotAtRoot k s there h = holds_at (profile_tests root s) 1 (root_keyword_from root k s there h)
-profile_from root UnknownType k s there h = holds_at (profile_tests root s) 2 (and_parts (bytes_eq k (codes "type")) _ h).1
-profile_from root NotWithPreserving k s there h = holds_at (profile_tests root s) 3 (preserving_from k s there h)
-profile_from root NoItems k s there h = holds_at (profile_tests root s) 5 (and_parts (bytes_eq k (codes "type")) _ h).1
-profile_from root UndeclaredField k s there h = holds_at (profile_tests root s) 6 (and_parts (bytes_eq k (codes "required")) _ h).1
-profile_from root EmptyEnum k s there h = holds_at (profile_tests root s) 7 (or_left (has_no_choice (kind_of s) s) _ (and_parts (bytes_eq k (codes "enum")) _ h).1)
-profile_from root EnumOfOtherKind k s there h = holds_at (profile_tests root s) 7 (or_right (has_no_choice (kind_of s) s) _ (and_parts (bytes_eq k (codes "enum")) _ h).1)
-profile_from root AdditionalPropertiesTrue k s there h = holds_at (profile_tests root s) 8 (and_parts (bytes_eq k (codes "additionalProperties")) _ h).1
-profile_from root c k s there h = holds_at (profile_tests root s) 4 (keyword_found (is_foreign (kind_of s)) s k there (and_parts (is_about_kind c (kind_of s)) _ h).1)
+profile_from : (profile : Profile) (root : Bool) (c : Reason) (k : List ℕ) (s : Data) → has s k ≡ true → is_profile_reason profile root c k s ≡ true → is_outside_profile profile root s ≡ true
+profile_from profile root RootNotObject k s there h = holds_at (profile_tests profile root s) 0 (other_root_from root k s h)
+profile_from profile root NotAtRoot k s there h = holds_at (profile_tests profile root s) 1 (root_keyword_from root k s there h)
+profile_from profile root UnknownType k s there h = holds_at (profile_tests profile root s) 2 (and_parts (bytes_eq k (codes "type")) _ h).1
+profile_from profile root NotWithPreserving k s there h = holds_at (profile_tests profile root s) 3 (preserving_from k s there h)
+profile_from profile root NoItems k s there h = holds_at (profile_tests profile root s) 5 (and_parts (bytes_eq k (codes "type")) _ h).1
+profile_from profile root UndeclaredField k s there h = holds_at (profile_tests profile root s) 6 (and_parts (bytes_eq k (codes "required")) _ h).1
+profile_from profile root EmptyEnum k s there h = holds_at (profile_tests profile root s) 7 (or_left (has_no_choice (kind_of profile s) s) _ (and_parts (bytes_eq k (codes "enum")) _ h).1)
+profile_from profile root EnumOfOtherKind k s there h = holds_at (profile_tests profile root s) 7 (or_right (has_no_choice (kind_of profile s) s) _ (and_parts (bytes_eq k (codes "enum")) _ h).1)
+profile_from profile root AdditionalPropertiesTrue k s there h = holds_at (profile_tests profile root s) 8 (and_parts (bytes_eq k (codes "additionalProperties")) _ h).1
+profile_from profile root c k s there h = holds_at (profile_tests profile root s) 4 (keyword_found (is_foreign (kind_of profile s)) s k there (and_parts (is_about_kind c (kind_of profile s)) _ h).1)
 
-pub profile_reasons : (root : Bool) (s : Data) → is_outside_profile root s ≡ true ↔ Found (is_profile_reason root) s
-profile_reasons root s = (profile_to root s, λ f. profile_from root f.1 f.0 s f.2 f.3)
+pub profile_reasons : (profile : Profile) (root : Bool) (s : Data) → is_outside_profile profile root s ≡ true ↔ Found (is_profile_reason profile root) s
+profile_reasons profile root s = (profile_to profile root s, λ f. profile_from profile root f.1 f.0 s f.2 f.3)

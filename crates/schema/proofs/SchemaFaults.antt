@@ -24,6 +24,9 @@ use Rattle.schema.specs.declared.refusal.Refusal.{Refusal}
 use Rattle.schema.specs.declared.refusal.Refusal.TheVariants as refusal
 use Rattle.schema.specs.Document.ReadFault.{IsSchemaFaultOf, HasSchema, IsReadFaultOf}
 use Rattle.schema.specs.declared.fault.SFault.{SFault}
+use Rattle.schema.specs.declared.profile.Profile.{Profile}
+use Rattle.schema.specs.declared.profile.Profile.TheVariants.{Core, Cluster}
+use Rattle.schema.specs.Document.Raw.{raw_by}
 use Rattle.schema.specs.declared.fault.SFault.TheVariants.{KeywordForm, TooLarge, NoMemory}
 use Rattle.schema.specs.declared.limits.Limits.{Limits}
 use Rattle.schema.specs.declared.listing.Unlisted.{Unlisted}
@@ -96,15 +99,16 @@ module _ (f : Form) (limits : Limits) (d : Data) (version : List ℕ) (raw : Dat
   document_read (Err e) h = tt
 
 -- a schema whose keywords have their forms is an object
-pub no_object : (raw : Data) → HasForms raw → has_form object raw ≡ false → ⊥
-no_object raw forms other = forms [] (raw, refl, other)
+pub no_object : (profile : Profile) (raw : Data) → HasForms (raw_by profile raw) → has_form object raw ≡ false → ⊥
+no_object Core raw forms other = forms [] (raw, refl, other)
+no_object Cluster raw forms other = forms [] (raw, refl, other)
 
 other_tree : (t : Tree) → ((ms : TreeMembers) → t ≡ code.Object ms → ⊥) → has_form object (data_of t) ≡ false
 other_tree (code.Object ms) h = absurd (h ms refl)
 other_tree _ h = refl
 
-pub no_other : (t : Tree) → HasForms (data_of t) → ((ms : TreeMembers) → t ≡ code.Object ms → ⊥) → ⊥
-no_other t forms h = no_object (data_of t) forms (other_tree t h)
+pub no_other : (profile : Profile) (t : Tree) → HasForms (raw_by profile (data_of t)) → ((ms : TreeMembers) → t ≡ code.Object ms → ⊥) → ⊥
+no_other profile t forms h = no_object profile (data_of t) forms (other_tree t h)
 
 -- an object is no other tree
 pub is_no_other : (t : Tree) → IsObject (data_of t) → ((ms : TreeMembers) → t ≡ code.Object ms → ⊥) → ⊥

@@ -17,9 +17,10 @@ use Rattle.schema.specs.Document.Texts.{is_among}
 use Rattle.schema.specs.Rules.Kinds as kinds
 use Rattle.schema.specs.Rules.Keywords.{has_other_text, members_in, members_under, texts_under}
 use Rattle.schema.specs.Rules.Kinds.{Kind, IsOfKind, kind_of}
-use Rattle.schema.specs.Rules.Profile.{types, is_root, profile_tests, is_outside_profile}
+use Rattle.schema.specs.Rules.Profile.{types_of, is_root, profile_tests, is_outside_profile}
 use Rattle.schema.specs.Rules.Breaks.{BreaksNone}
 use Rattle.schema.specs.Document.Places.{Step, Place, property, map_value, items, schema_by, schema_at, is_junctor, is_inside, IsEnvelopeName, IsEnvelope}
+use Rattle.schema.specs.Document.Raw.{Raw, raw_by}
 use Rattle.schema.specs.Nodes.Node.{Node, node, Sort, object, map, list, Fields, no_fields, field, IsNode, IsSort, IsBeforeFields, AreOrdered}
 use Rattle.schema.specs.Nodes.View.{node_of, fields_of}
 use Rattle.schema.specs.Nodes.ByPlace.{IsNodePlace}
@@ -30,32 +31,33 @@ use Rattle.schema.proofs.KindLemmas.{map_has_object, kind_none}
 use Rattle.schema.proofs.ReasonWords.{holds_at}
 use Rattle.schema.specs.declared.node.Field.{Field}
 use Rattle.schema.proofs.EventPlaces.{under_tree}
+use Rattle.schema.specs.declared.profile.Profile.{Profile}
 
 -- ---- where no rule is broken each place has a node
 
-other_type : (root : Bool) (s : Data) → has_other_text types s (codes "type") ≡ true → is_outside_profile root s ≡ true
-other_type root s h = holds_at (profile_tests root s) 2 h
+other_type : (profile : Profile) (root : Bool) (s : Data) → has_other_text (types_of profile) s (codes "type") ≡ true → is_outside_profile profile root s ≡ true
+other_type profile root s h = holds_at (profile_tests profile root s) 2 h
 
-no_items : (root : Bool) (s : Data) → IsOfKind s kinds.list → schema_by s items ≡ None → is_outside_profile root s ≡ true
-no_items root s kind none = holds_at (profile_tests root s) 5 (rw (kind.is, none) refl)
+no_items : (profile : Profile) (root : Bool) (s : Data) → IsOfKind profile s kinds.list → schema_by s items ≡ None → is_outside_profile profile root s ≡ true
+no_items profile root s kind none = holds_at (profile_tests profile root s) 5 (rw (kind.is, none) refl)
 
-no_kind : (raw : Data) → BreaksNone raw → (p : Place) (s : Data) → is_inside p ≡ false → schema_at raw p ≡ Some s → kind_of s ≡ None → ⊥
-no_kind raw none p s outside at untyped = elim (kind_none s untyped) [
+no_kind : (profile : Profile) (raw : Data) → BreaksNone (raw_by profile raw) → (p : Place) (s : Data) → is_inside p ≡ false → schema_at raw p ≡ Some s → kind_of profile s ≡ None → ⊥
+no_kind profile raw none p s outside at untyped = elim (kind_none profile s untyped) [
   | inl lacks ↦ none p V01 (outside, (s, at, lacks))
-  | inr typed ↦ none p V17 (outside, (s, at, other_type (is_root p) s typed))
+  | inr typed ↦ none p V17 (outside, (s, at, other_type profile (is_root p) s typed))
 ]
 
 kind_or_none : (o : Option Kind) → (o ≡ None → ⊥) → (k : Kind) × (o ≡ Some k)
 kind_or_none None some = absurd (some refl)
 kind_or_none (Some k) some = (k, refl)
 
-pub some_kind : (raw : Data) → BreaksNone raw → (p : Place) (s : Data) → is_inside p ≡ false → schema_at raw p ≡ Some s → (k : Kind) × (kind_of s ≡ Some k)
-some_kind raw none p s outside at = kind_or_none (kind_of s) (no_kind raw none p s outside at)
+pub some_kind : (profile : Profile) (raw : Data) → BreaksNone (raw_by profile raw) → (p : Place) (s : Data) → is_inside p ≡ false → schema_at raw p ≡ Some s → (k : Kind) × (kind_of profile s ≡ Some k)
+some_kind profile raw none p s outside at = kind_or_none (kind_of profile s) (no_kind profile raw none p s outside at)
 
-pub all_have_nodes : (raw : Data) → BreaksNone raw → HasNodes true raw
-all_have_nodes raw none p place at = elim at.2 [
-  | inl untyped ↦ no_kind raw none p at.0 place.0 at.1 untyped
-  | inr empty ↦ none p V17 (place.0, (at.0, at.1, no_items (is_root p) at.0 empty.0 empty.1))
+pub all_have_nodes : (profile : Profile) (raw : Data) → BreaksNone (raw_by profile raw) → HasNodes profile true raw
+all_have_nodes profile raw none p place at = elim at.2 [
+  | inl untyped ↦ no_kind profile raw none p at.0 place.0 at.1 untyped
+  | inr empty ↦ none p V17 (place.0, (at.0, at.1, no_items profile (is_root p) at.0 empty.0 empty.1))
 ]
 
 -- ---- places one step below
@@ -73,32 +75,32 @@ place_first root step p h = (rw ((or_parts (is_junctor step) (is_inside p) h.0).
 pub place_rest : (root : Bool) (step : Step) (p : Place) → IsNodePlace root (step ∷ p) → IsNodePlace false p
 place_rest root step p h = ((or_parts (is_junctor step) (is_inside p) h.0).1, λ is e. cc)
 
-pub has_node : (root : Bool) (s : Data) → HasNodes root s → HasNoNode s → ⊥
-has_node root s h lacks = h [] (refl, λ is e. absurd (cc)) (s, refl, lacks)
+pub has_node : (profile : Profile) (root : Bool) (s : Data) → HasNodes profile root s → HasNoNode profile s → ⊥
+has_node profile root s h lacks = h [] (refl, λ is e. absurd (cc)) (s, refl, lacks)
 
-nodes_below : (root : Bool) (s d : Data) (step : Step) → HasNodes root s → IsNodePlace root (step ∷ []) → schema_by s step ≡ Some d → HasNodes false d
-nodes_below root s d step h first by p place at =
+nodes_below : (profile : Profile) (root : Bool) (s d : Data) (step : Step) → HasNodes profile root s → IsNodePlace root (step ∷ []) → schema_by s step ≡ Some d → HasNodes profile false d
+nodes_below profile root s d step h first by p place at =
     h (step ∷ p) (place_more root step p first place) (at.0, ap (option_and_then (λ t. schema_at t p)) by ∙ at.1, at.2)
 
 -- ---- the items of a list
 
-pub list_has_items : (root : Bool) (s : Data) → HasNodes root s → IsOfKind s kinds.list → under s (codes "items") ≡ None → ⊥
-list_has_items root s h kind none = has_node root s h (inr (kind, rw none refl))
+pub list_has_items : (profile : Profile) (root : Bool) (s : Data) → HasNodes profile root s → IsOfKind profile s kinds.list → under s (codes "items") ≡ None → ⊥
+list_has_items profile root s h kind none = has_node profile root s h (inr (kind, rw none refl))
 
-pub list_nodes : (root : Bool) (s d : Data) → HasNodes root s → IsOfKind s kinds.list → under s (codes "items") ≡ Some d → HasNodes false d
-list_nodes root s (tree.object ms) h kind at = nodes_below root s (tree.object ms) items h (refl, λ is e. absurd (cc)) (rw at refl)
-list_nodes root s _ h kind at = absurd (has_node root s h (inr (kind, rw at refl)))
+pub list_nodes : (profile : Profile) (root : Bool) (s d : Data) → HasNodes profile root s → IsOfKind profile s kinds.list → under s (codes "items") ≡ Some d → HasNodes profile false d
+list_nodes profile root s (tree.object ms) h kind at = nodes_below profile root s (tree.object ms) items h (refl, λ is e. absurd (cc)) (rw at refl)
+list_nodes profile root s _ h kind at = absurd (has_node profile root s h (inr (kind, rw at refl)))
 
 -- ---- the values of a map
 
-pub map_has_values : (s : Data) → IsOfKind s kinds.map → under s (codes "additionalProperties") ≡ None → ⊥
-map_has_values s kind none = let some = (map_has_object s kind.is).1 in cc
+pub map_has_values : (profile : Profile) (s : Data) → IsOfKind profile s kinds.map → under s (codes "additionalProperties") ≡ None → ⊥
+map_has_values profile s kind none = let some = (map_has_object profile s kind.is).1 in cc
 
-pub map_nodes : (root : Bool) (s d : Data) → HasNodes root s → IsOfKind s kinds.map → under s (codes "additionalProperties") ≡ Some d → HasNodes false d
-map_nodes root s d h kind at =
-    let o = map_has_object s kind.is in
+pub map_nodes : (profile : Profile) (root : Bool) (s d : Data) → HasNodes profile root s → IsOfKind profile s kinds.map → under s (codes "additionalProperties") ≡ Some d → HasNodes profile false d
+map_nodes profile root s d h kind at =
+    let o = map_has_object profile s kind.is in
     let same : d ≡ tree.object o.0 = same_Some d (tree.object o.0) (sym at ∙ o.1) in
-    subst (HasNodes false) (sym same) (nodes_below root s (tree.object o.0) map_value h (refl, λ is e. absurd (cc)) (rw o.1 refl))
+    subst (HasNodes profile false) (sym same) (nodes_below profile root s (tree.object o.0) map_value h (refl, λ is e. absurd (cc)) (rw o.1 refl))
 
 -- ---- the properties of an object
 
@@ -113,12 +115,12 @@ declared_is_other true k d is at e = elim (bool_cases (is_object d)) [
   | inr f ↦ let h = rw f at is in cc
 ]
 
-pub property_nodes : (root : Bool) (s : Data) (ms : Members) → HasNodes root s → under s (codes "properties") ≡ Some (tree.object ms) → HaveNodes root ms
-property_nodes root s ms h at k d there is =
+pub property_nodes : (profile : Profile) (root : Bool) (s : Data) (ms : Members) → HasNodes profile root s → under s (codes "properties") ≡ Some (tree.object ms) → HaveNodes profile root ms
+property_nodes profile root s ms h at k d there is =
     let o = declared_is_object root k d is in
     let found : member_at k ms ≡ Some (tree.object o.0) = there ∙ ap Some o.1 in
     let by : schema_by s (property k) ≡ Some (tree.object o.0) = rw (at, found) refl in
-    subst (HasNodes false) (sym o.1) (nodes_below root s (tree.object o.0) (property k) h (refl, declared_is_other root k d is) by)
+    subst (HasNodes profile false) (sym o.1) (nodes_below profile root s (tree.object o.0) (property k) h (refl, declared_is_other root k d is) by)
 
 -- ---- fields
 
@@ -127,15 +129,15 @@ ended : Members → List ℕ → Data → Members
 ended no_members k d = member k d no_members
 ended (member l e ms) k d = member l e (ended ms k d)
 
-end_fields : (fs : List Field) (f : Field) (names : List (List ℕ)) (ms : Members) (k : List ℕ) (d : Data) → AreFieldsOf (fields_of fs) names ms → f.name ≡ k
-    → IsNodeOf false (node_of f.node) d → f.required ≡ is_among k names → option_map data_of f.default ≡ under d (codes "default")
-    → AreFieldsOf (fields_of (fs ++ f ∷ [])) names (ended ms k d)
+end_fields : (profile : Profile) (fs : List Field) (f : Field) (names : List (List ℕ)) (ms : Members) (k : List ℕ) (d : Data) → AreFieldsOf profile (fields_of fs) names ms → f.name ≡ k
+    → IsNodeOf profile false (node_of f.node) d → f.required ≡ is_among k names → option_map data_of f.default ≡ under d (codes "default")
+    → AreFieldsOf profile (fields_of (fs ++ f ∷ [])) names (ended ms k d)
 unfolding ended
-end_fields [] f names no_members k d h name is_node required default = (name, is_node, required, default, tt)
-end_fields [] f names (member l e ms) k d h name is_node required default = absurd h
-end_fields (g ∷ fs) f names no_members k d h name is_node required default = absurd h
-end_fields (g ∷ fs) f names (member l e ms) k d h name is_node required default =
-    (h.0, h.1, h.2, h.3, end_fields fs f names ms k d h.4 name is_node required default)
+end_fields profile [] f names no_members k d h name is_node required default = (name, is_node, required, default, tt)
+end_fields profile [] f names (member l e ms) k d h name is_node required default = absurd h
+end_fields profile (g ∷ fs) f names no_members k d h name is_node required default = absurd h
+end_fields profile (g ∷ fs) f names (member l e ms) k d h name is_node required default =
+    (h.0, h.1, h.2, h.3, end_fields profile fs f names ms k d h.4 name is_node required default)
 
 declared_ended : (root : Bool) (xs : List Member) (m : Member) → is_declared root m.name (data_of m.tree) ≡ true
     → declared_of root (members_of (xs ++ m ∷ [])) ≡ ended (declared_of root (members_of xs)) m.name (data_of m.tree)
@@ -155,13 +157,13 @@ declared_dropped root (x ∷ xs) m is = elim (bool_cases (is_declared root x.nam
   | inr f ↦ rw f (declared_dropped root xs m is)
 ]
 
-pub push_field : (root : Bool) (fs : List Field) (f : Field) (names : List (List ℕ)) (xs : List Member) (m : Member) → is_declared root m.name (data_of m.tree) ≡ true
-    → AreFieldsOf (fields_of fs) names (declared_of root (members_of xs)) → f.name ≡ m.name → IsNodeOf false (node_of f.node) (data_of m.tree)
+pub push_field : (profile : Profile) (root : Bool) (fs : List Field) (f : Field) (names : List (List ℕ)) (xs : List Member) (m : Member) → is_declared root m.name (data_of m.tree) ≡ true
+    → AreFieldsOf profile (fields_of fs) names (declared_of root (members_of xs)) → f.name ≡ m.name → IsNodeOf profile false (node_of f.node) (data_of m.tree)
     → f.required ≡ is_among m.name names → option_map data_of f.default ≡ under (data_of m.tree) (codes "default")
-    → AreFieldsOf (fields_of (fs ++ f ∷ [])) names (declared_of root (members_of (xs ++ m ∷ [])))
-push_field root fs f names xs m is h name is_node required default =
-    subst (AreFieldsOf (fields_of (fs ++ f ∷ [])) names) (sym (declared_ended root xs m is))
-    (end_fields fs f names (declared_of root (members_of xs)) m.name (data_of m.tree) h name is_node required default)
+    → AreFieldsOf profile (fields_of (fs ++ f ∷ [])) names (declared_of root (members_of (xs ++ m ∷ [])))
+push_field profile root fs f names xs m is h name is_node required default =
+    subst (AreFieldsOf profile (fields_of (fs ++ f ∷ [])) names) (sym (declared_ended root xs m is))
+    (end_fields profile fs f names (declared_of root (members_of xs)) m.name (data_of m.tree) h name is_node required default)
 
 declared_before : (root : Bool) (k : List ℕ) (ms : Members) → IsNameBefore k ms → AreMembers ms → IsNameBefore k (declared_of root ms)
 declared_before root k no_members before o = tt
@@ -177,11 +179,11 @@ declared_object root (member k d ms) o = elim (bool_cases (is_declared root k d)
   | inr f ↦ rw f (declared_object root ms o.2)
 ]
 
-fields_before : (k l : List ℕ) (fs : Fields) (names : List (List ℕ)) (ms : Members) → k ≡ l → AreFieldsOf fs names ms → IsNameBefore l ms → IsBeforeFields k fs
-fields_before k l no_fields names no_members same h before = tt
-fields_before k l no_fields names (member m d ms) same h before = absurd h
-fields_before k l (field n N r e fs) names no_members same h before = absurd h
-fields_before k l (field n N r e fs) names (member m d ms) same h before = subst (λ x. text_cmp x n ≡ Less) (sym same) (subst (λ x. text_cmp l x ≡ Less) (sym h.0) before)
+fields_before : (profile : Profile) (k l : List ℕ) (fs : Fields) (names : List (List ℕ)) (ms : Members) → k ≡ l → AreFieldsOf profile fs names ms → IsNameBefore l ms → IsBeforeFields k fs
+fields_before profile k l no_fields names no_members same h before = tt
+fields_before profile k l no_fields names (member m d ms) same h before = absurd h
+fields_before profile k l (field n N r e fs) names no_members same h before = absurd h
+fields_before profile k l (field n N r e fs) names (member m d ms) same h before = subst (λ x. text_cmp x n ≡ Less) (sym same) (subst (λ x. text_cmp l x ≡ Less) (sym h.0) before)
 
 members_tree : (o : Option Data) → ((d : Data) → o ≡ Some d → IsTree d) → AreMembers (members_in o)
 members_tree (Some (tree.object ms)) h = h (tree.object ms) refl
@@ -191,21 +193,21 @@ pub properties_tree : (s : Data) → IsTree s → AreMembers (members_under s (c
 properties_tree s o = members_tree (under s (codes "properties")) (λ d is. under_tree s (codes "properties") d o is)
 
 mutual
-  pub node_ordered : (N : Node) (root : Bool) (s : Data) → IsTree s → IsNodeOf root N s → IsNode N
-  node_ordered (node nullable description sort) root s o is = sort_ordered sort root s o is.1
+  pub node_ordered : (profile : Profile) (N : Node) (root : Bool) (s : Data) → IsTree s → IsNodeOf profile root N s → IsNode N
+  node_ordered profile (node nullable description sort) root s o is = sort_ordered profile sort root s o is.1
 
-  sort_ordered : (A : Sort) (root : Bool) (s : Data) → IsTree s → AreBelow root A s → IsSort A
-  sort_ordered (object fs preserves type bounds cs) root s o below =
-      fields_ordered fs (texts_under s (codes "required")) (declared_of root (members_under s (codes "properties"))) below (declared_object root (members_under s (codes "properties")) (properties_tree s o))
-  sort_ordered (map N type bounds) root s o below = node_ordered N false below.0 (under_tree s (codes "additionalProperties") below.0 o below.1) below.2
-  sort_ordered (list N type keys bounds) root s o below = node_ordered N false below.0 (under_tree s (codes "items") below.0 o below.1) below.2
-  sort_ordered _ root s o below = tt
+  sort_ordered : (profile : Profile) (A : Sort) (root : Bool) (s : Data) → IsTree s → AreBelow profile root A s → IsSort A
+  sort_ordered profile (object fs preserves type bounds cs) root s o below =
+      fields_ordered profile fs (texts_under s (codes "required")) (declared_of root (members_under s (codes "properties"))) below (declared_object root (members_under s (codes "properties")) (properties_tree s o))
+  sort_ordered profile (map N type bounds) root s o below = node_ordered profile N false below.0 (under_tree s (codes "additionalProperties") below.0 o below.1) below.2
+  sort_ordered profile (list N type keys bounds) root s o below = node_ordered profile N false below.0 (under_tree s (codes "items") below.0 o below.1) below.2
+  sort_ordered profile _ root s o below = tt
 
-  pub fields_ordered : (fs : Fields) (names : List (List ℕ)) (ms : Members) → AreFieldsOf fs names ms → AreMembers ms → AreOrdered fs
-  fields_ordered no_fields names no_members h o = tt
-  fields_ordered no_fields names (member l d ms) h o = absurd h
-  fields_ordered (field k N r e fs) names no_members h o = absurd h
-  fields_ordered (field k N r e fs) names (member l d ms) h o = (node_ordered N false d o.0 h.1, fields_before k l fs names ms h.0 h.4 o.1, fields_ordered fs names ms h.4 o.2)
+  pub fields_ordered : (profile : Profile) (fs : Fields) (names : List (List ℕ)) (ms : Members) → AreFieldsOf profile fs names ms → AreMembers ms → AreOrdered fs
+  fields_ordered profile no_fields names no_members h o = tt
+  fields_ordered profile no_fields names (member l d ms) h o = absurd h
+  fields_ordered profile (field k N r e fs) names no_members h o = absurd h
+  fields_ordered profile (field k N r e fs) names (member l d ms) h o = (node_ordered profile N false d o.0 h.1, fields_before profile k l fs names ms h.0 h.4 o.1, fields_ordered profile fs names ms h.4 o.2)
 
 -- ---- members and texts by their places
 

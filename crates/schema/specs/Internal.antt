@@ -17,5 +17,6 @@ pub mod Judged
 pub mod Findings
 pub mod NodeOf
 pub mod Building
+pub mod RawCode
 pub mod NodeCode
 pub mod NodeMeasures

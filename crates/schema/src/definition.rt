@@ -6,17 +6,19 @@ ghost use Rattle.jtree.specs.View.{data_of};
 ghost use Rattle.schema.specs.Document.Crd.{IsRead, IsSchemaOf, IsObject, HasHeader, IsHead};
 ghost use Rattle.schema.specs.Internal.Faults.{IsUnfound};
 ghost use Rattle.schema.specs.Document.Refusal.{IsWrongPart, IsGiven, form_view};
-ghost use Rattle.schema.specs.Document.Forms.{HasForms, HasFormsOf};
+ghost use Rattle.schema.specs.Document.Forms.{form_by, HasForms, HasFormsOf};
 ghost use Rattle.schema.specs.Document.Limits.{standard, IsWithinLimits};
 ghost use Rattle.schema.specs.Document.ReadFault.{IsReadFault, IsReadFaultOf, IsSchemaFaultOf};
 ghost use Rattle.jtree.specs.Path.{under2, under3};
+ghost use Rattle.schema.specs.declared.profile.Profile.TheVariants.{Core};
 
 use crate::fault::SFault;
 use crate::forms::{Form, check_schema_forms};
 use crate::laws;
 use crate::limits::Limits;
 use crate::listing::list_places;
-use crate::raw::RawSchema;
+use crate::profile::Profile;
+use crate::raw::{RawSchema, Reading};
 use crate::refusal::Part;
 use crate::versions::select;
 use jtree::{Items, Text, Tree};
@@ -52,7 +54,7 @@ pub(crate) struct Definition<'a> {
 }
 
 /// Reads the group, the kind and the schema of one version of a CustomResourceDefinition
-/// (apiextensions.k8s.io/v1): the schema is the object at `schema.openAPIV3Schema` of the version.
+/// (apiextensions.k8s.io/v1): the schema is the object at `schema.openAPIV3Schema` of the version. It is to be judged by `Profile::Core`.
 ///
 /// `NotACrd` where the document is no CustomResourceDefinition: an object with `apiVersion`
 /// `apiextensions.k8s.io/v1`, `kind` `CustomResourceDefinition`, non-empty strings `spec.group` and `spec.names.kind`, and
@@ -62,10 +64,11 @@ pub(crate) struct Definition<'a> {
 /// passed. `NoMemory` where an allocation fails. They are decided in this order. The document is gone through a bounded number of
 /// times.
 pub fn read_crd(alloc: Global, document: &Tree, version: &str) -> Result<Crd, SFault>
-    ensures ok { IfOk result (λ c. IsRead (data_of document.now) version.now c.group c.kind c.raw) }
+    ensures ok { IfOk result (λ c. IsRead (data_of document.now) version.now c.group c.kind c.raw.tree) }
     ensures version { IfOk result (λ c. c.version ≡ version.now) }
+    ensures profile { IfOk result (λ c. c.raw.profile ≡ Core) }
     ensures forms { IfOk result (λ c. HasForms c.raw) }
-    ensures within { IfOk result (λ c. IsWithinLimits standard c.raw) }
+    ensures within { IfOk result (λ c. IsWithinLimits standard c.raw.tree) }
     ensures err { IfErr result (IsReadFault standard (data_of document.now) version.now) }
 {
     laws::limits_by_name();
@@ -79,13 +82,34 @@ pub fn read_crd_within(
     version: &str,
     limits: Limits,
 ) -> Result<Crd, SFault>
-    ensures ok { IfOk result (λ c. IsRead (data_of document.now) version.now c.group c.kind c.raw) }
+    ensures ok { IfOk result (λ c. IsRead (data_of document.now) version.now c.group c.kind c.raw.tree) }
     ensures version { IfOk result (λ c. c.version ≡ version.now) }
+    ensures profile { IfOk result (λ c. c.raw.profile ≡ Core) }
     ensures forms { IfOk result (λ c. HasForms c.raw) }
-    ensures within { IfOk result (λ c. IsWithinLimits limits c.raw) }
+    ensures within { IfOk result (λ c. IsWithinLimits limits c.raw.tree) }
     ensures err { IfErr result (IsReadFault limits (data_of document.now) version.now) }
 {
-    let definition = match checked_definition(alloc, Form::Object, document, version, limits) {
+    let profile = Profile::Core;
+    read_crd_by(alloc, document, version, Reading { profile, limits })
+}
+
+/// As `read_crd`, but the schema is to be judged by this profile, `KeywordForm` where a keyword has not the form that it has by the
+/// profile, and `TooLarge` where one of these limits is passed.
+pub fn read_crd_by(
+    alloc: Global,
+    document: &Tree,
+    version: &str,
+    reading: Reading,
+) -> Result<Crd, SFault>
+    ensures ok { IfOk result (λ c. IsRead (data_of document.now) version.now c.group c.kind c.raw.tree) }
+    ensures version { IfOk result (λ c. c.version ≡ version.now) }
+    ensures profile { IfOk result (λ c. c.raw.profile ≡ reading.profile) }
+    ensures forms { IfOk result (λ c. HasForms c.raw) }
+    ensures within { IfOk result (λ c. IsWithinLimits reading.limits c.raw.tree) }
+    ensures err { IfErr result (IsReadFaultOf (form_by reading.profile) reading.limits (data_of document.now) version.now) }
+{
+    let form = form_by(reading.profile);
+    let definition = match checked_definition(alloc, form, document, version, reading.limits) {
         Ok(definition) => definition,
         Err(fault) => return Err(fault),
     };
@@ -93,8 +117,18 @@ pub fn read_crd_within(
         group: Text::from_str(alloc, definition.group)?,
         kind: Text::from_str(alloc, definition.kind)?,
         version: Text::from_str(alloc, version)?,
-        raw: RawSchema::new(definition.schema.try_clone(alloc)?, limits),
+        raw: RawSchema::new(definition.schema.try_clone(alloc)?, reading),
     })
+}
+
+/// The form of a schema, by the profile.
+fn form_by(profile: Profile) -> Form
+    ensures { form_view result ≡ form_by profile }
+{
+    match profile {
+        Profile::Core => Form::Object,
+        Profile::Cluster => Form::WrittenSchema,
+    }
 }
 
 /// The definition that a document is, where its schema has this form and passes no limit.

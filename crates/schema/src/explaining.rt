@@ -1,6 +1,7 @@
 //! All breaks of the rules, each with its reasons.
 ghost use Rattle.std.specs.Prelude.{◌≡◌, OnOk, IfOk, IfErr};
 ghost use Rattle.jtree.specs.Data.{Data};
+ghost use Rattle.schema.specs.Document.Raw.{raw_by};
 ghost use Rattle.schema.specs.Internal.PlaceView.{place_of};
 ghost use Rattle.schema.specs.Internal.Subschemas.{IsSubschema};
 ghost use Rattle.schema.specs.Internal.ReasonParts.{AreFacts};
@@ -13,6 +14,7 @@ ghost use Rattle.schema.specs.declared.fault.SFault.TheVariants.{NoMemory};
 use crate::fault::SFault;
 use crate::judging::{Report, reports_of, subschemas_of};
 use crate::listing::Subschema;
+use crate::profile::Profile;
 use crate::raw::RawSchema;
 use crate::reason::{Explained, Finding, Reason};
 use crate::reasons::{PlaceFacts, facts_of, is_reason};
@@ -27,7 +29,7 @@ pub fn explained(alloc: Global, raw: &RawSchema) -> Result<Vec<Explained>, SFaul
     ensures err { IfErr result (λ e. e ≡ NoMemory) }
 {
     match subschemas_of(alloc, raw) {
-        Ok(subschemas) => Ok(reports_of(alloc, subschemas.as_slice())?),
+        Ok(subschemas) => Ok(reports_of(alloc, raw.profile(), subschemas.as_slice())?),
         Err(fault) => Err(fault),
     }
 }
@@ -38,12 +40,13 @@ impl Report for Explained {
 
     fn of_break(
         alloc: Global,
+        profile: Profile,
         subschema: &Subschema<'_>,
         rule: Rule,
     ) -> Result<Explained, AllocError> {
         Ok(Explained {
-            violation: Violation::of_break(alloc, subschema, rule)?,
-            findings: findings_of(alloc, subschema, rule)?,
+            violation: Violation::of_break(alloc, profile, subschema, rule)?,
+            findings: findings_of(alloc, profile, subschema, rule)?,
         })
     }
 }
@@ -51,14 +54,15 @@ impl Report for Explained {
 /// All reasons for which a rule is broken at a place.
 fn findings_of(
     alloc: Global,
+    profile: Profile,
     subschema: &Subschema<'_>,
     rule: Rule,
 ) -> Result<Vec<Finding>, AllocError>
-    ensures { IfOk result (λ found. (raw : Data) → IsSubschema raw subschema.now → AreFindings raw (place_of subschema.now.place.items) rule found.items) }
+    ensures { IfOk result (λ found. (raw : Data) → IsSubschema raw subschema.now → AreFindings (raw_by profile raw) (place_of subschema.now.place.items) rule found.items) }
 {
     let schema = subschema.schema;
     schema.reveal_invariant();
-    let facts = facts_of(subschema);
+    let facts = facts_of(profile, subschema);
     let mut findings = Vec::new(alloc);
     for member in &schema.members {
         let keyword = member.name.as_str();
@@ -125,7 +129,7 @@ fn find(
     findings: &mut Vec<Finding>,
 ) -> Result<(), AllocError>
     requires { AreFacts facts.now subschema.now }
-    ensures { OnOk result (AddsFindings subschema.now rule (findings_at keyword.now reasons.now) findings.old.items findings.new.items) }
+    ensures { OnOk result (AddsFindings facts.now.profile subschema.now rule (findings_at keyword.now reasons.now) findings.old.items findings.new.items) }
 {
     for reason in reasons {
         if is_reason(subschema, facts, rule, keyword, *reason) {

@@ -12,6 +12,7 @@ ghost use Rattle.schema.specs.declared.fault.SFault.TheVariants.{NoMemory};
 use crate::fault::SFault;
 use crate::listing::{Subschema, list_places};
 use crate::places::pointer_of;
+use crate::profile::Profile;
 use crate::raw::RawSchema;
 use crate::rules::is_broken;
 use crate::violation::{Rule, Violation};
@@ -26,7 +27,7 @@ pub fn breaks(alloc: Global, raw: &RawSchema) -> Result<Vec<Violation>, SFault>
     ensures err { IfErr result (λ e. e ≡ NoMemory) }
 {
     match subschemas_of(alloc, raw) {
-        Ok(subschemas) => Ok(reports_of(alloc, subschemas.as_slice())?),
+        Ok(subschemas) => Ok(reports_of(alloc, raw.profile(), subschemas.as_slice())?),
         Err(fault) => Err(fault),
     }
 }
@@ -36,7 +37,7 @@ pub(crate) fn subschemas_of<'a>(
     alloc: Global,
     raw: &'a RawSchema,
 ) -> Result<Vec<Subschema<'a>>, SFault>
-    ensures subschemas { IfOk result (λ v. (ms : Trees.Members) × (raw.now ≡ object ms) × AreMembers ms × AreSubschemas ms v.items) }
+    ensures subschemas { IfOk result (λ v. (ms : Trees.Members) × (raw.now.tree ≡ object ms) × AreMembers ms × AreSubschemas ms v.items) }
     ensures err { IfErr result (λ e. e ≡ NoMemory) }
 {
     match raw.tree() {
@@ -52,30 +53,38 @@ pub(crate) fn subschemas_of<'a>(
 /// What is answered of a break.
 pub(crate) trait Report: Drop {
     ghost use Rattle.std.specs.Prelude.{IfOk};
+    ghost use Rattle.std.specs.Prelude.{◌≡◌};
     ghost use Rattle.jtree.specs.Data.{Data};
+    ghost use Rattle.schema.specs.Document.Raw.{Raw, raw_by};
     ghost use Rattle.schema.specs.Internal.PlaceView.{place_of};
     ghost use Rattle.schema.specs.Internal.Subschemas.{IsSubschema};
     ghost use Rattle.schema.specs.Internal.Judged.{pair};
     ghost use Rattle.schema.specs.Rules.Breaks.{Break};
 
     // of this break in this schema
-    ghost reports: { Data → Break → Self → Type 0 };
+    ghost reports: { Raw → Break → Self → Type 0 };
 
     /// What is answered of the break of a rule at a place.
-    fn of_break(alloc: Global, subschema: &Subschema<'_>, rule: Rule) -> Result<Self, AllocError>
-        ensures { IfOk result (λ report. (raw : Data) → IsSubschema raw subschema.now → reports raw (pair (place_of subschema.now.place.items) rule) report) };
+    fn of_break(
+        alloc: Global,
+        profile: Profile,
+        subschema: &Subschema<'_>,
+        rule: Rule,
+    ) -> Result<Self, AllocError>
+        ensures { IfOk result (λ report. (raw : Data) → IsSubschema raw subschema.now → reports (raw_by profile raw) (pair (place_of subschema.now.place.items) rule) report) };
 }
 
 /// Of all breaks of the rules at these places, in their order and then by number.
 pub(crate) fn reports_of<R: Report>(
     alloc: Global,
+    profile: Profile,
     subschemas: &[Subschema<'_>],
 ) -> Result<Vec<R>, AllocError>
-    ensures { IfOk result (λ found. AddsBreaks R.reports (λ raw. All (IsSubschema raw) subschemas.now) (pairs_of subschemas.now) [] found.items) }
+    ensures { IfOk result (λ found. AddsBreaks profile R.reports (λ raw. All (IsSubschema raw) subschemas.now) (pairs_of subschemas.now) [] found.items) }
 {
     let mut reports = Vec::new(alloc);
     for subschema in subschemas {
-        judge(alloc, subschema, &judged_rules(), &mut reports)?;
+        judge(alloc, profile, subschema, &judged_rules(), &mut reports)?;
     }
     Ok(reports)
 }
@@ -107,15 +116,16 @@ fn judged_rules() -> [Rule; 16]
 /// Adds what is answered of the breaks of these rules at a place.
 fn judge<R: Report>(
     alloc: Global,
+    profile: Profile,
     subschema: &Subschema<'_>,
     rules: &[Rule],
     reports: &mut Vec<R>,
 ) -> Result<(), AllocError>
-    ensures { OnOk result (AddsBreaks R.reports (λ raw. IsSubschema raw subschema.now) (pairs_at (place_of subschema.now.place.items) rules.now) reports.old.items reports.new.items) }
+    ensures { OnOk result (AddsBreaks profile R.reports (λ raw. IsSubschema raw subschema.now) (pairs_at (place_of subschema.now.place.items) rules.now) reports.old.items reports.new.items) }
 {
     for rule in rules {
-        if is_broken(subschema, *rule) {
-            reports.push(R::of_break(alloc, subschema, *rule)?)?;
+        if is_broken(profile, subschema, *rule) {
+            reports.push(R::of_break(alloc, profile, subschema, *rule)?)?;
         }
     }
     Ok(())
@@ -126,6 +136,7 @@ impl Report for Violation {
 
     fn of_break(
         alloc: Global,
+        _profile: Profile,
         subschema: &Subschema<'_>,
         rule: Rule,
     ) -> Result<Violation, AllocError> {

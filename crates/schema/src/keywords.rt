@@ -8,7 +8,7 @@ ghost use Rattle.schema.specs.Document.Texts.{is_among};
 ghost use Rattle.schema.specs.Internal.KindView;
 ghost use Rattle.schema.specs.Internal.KindView.{kind_view};
 ghost use Rattle.schema.specs.Rules.Broken.{metadata_keywords};
-ghost use Rattle.schema.specs.Rules.Profile;
+ghost use Rattle.schema.specs.Rules.Profile as ProfileSpec;
 ghost use Rattle.schema.specs.Rules.Profile.{not_at_root, own_keywords, keywords_of_all, junctor_keywords, outside_keywords, unsupported_keywords};
 ghost use Rattle.schema.specs.Rules.Profile.{keywords_of_scalars, keywords_of_objects, keywords_of_lists};
 ghost use Rattle.schema.specs.Rules.Junctors as JunctorsSpec;
@@ -120,7 +120,7 @@ fn is_judged_elsewhere(keyword: &str) -> bool
 
 /// Whether a place of the kind may not have the keyword; where it is of none it may.
 pub(crate) fn is_foreign(kind: Option<Kind>, keyword: &str) -> bool
-    ensures { result ≡ Profile.is_foreign (option_map kind_view kind) keyword.now }
+    ensures { result ≡ ProfileSpec.is_foreign (option_map kind_view kind) keyword.now }
 {
     match kind {
         Some(kind) => !(is_common_keyword(keyword) || is_own_keyword(keyword, kind)),
@@ -129,7 +129,7 @@ pub(crate) fn is_foreign(kind: Option<Kind>, keyword: &str) -> bool
 }
 
 fn is_common_keyword(keyword: &str) -> bool
-    ensures { result ≡ Profile.is_common_keyword keyword.now }
+    ensures { result ≡ ProfileSpec.is_common_keyword keyword.now }
 {
     is_keyword_of_all(keyword) || (is_junctor_keyword(keyword) || is_unsupported_keyword(keyword))
 }

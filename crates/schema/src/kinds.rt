@@ -9,6 +9,7 @@ ghost use Rattle.schema.specs.Internal.KindView.{kind_view};
 
 use crate::keywords::has_true;
 use crate::node::ScalarKind;
+use crate::profile::Profile;
 use jtree::{Members, Tree};
 
 /// The kind of a place that is in no branch of a junctor.
@@ -23,24 +24,24 @@ pub(crate) enum Kind {
 }
 
 /// The kind of a schema, the first that fits; none where none does, and for what is no object.
-pub(crate) fn kind_of(schema: &Tree) -> Option<Kind>
-    ensures { option_map kind_view result ≡ Kinds.kind_of (data_of schema.now) }
+pub(crate) fn kind_of(profile: Profile, schema: &Tree) -> Option<Kind>
+    ensures { option_map kind_view result ≡ Kinds.kind_of profile (data_of schema.now) }
 {
     match schema {
-        Tree::Object(members) => kind_of_members(members),
+        Tree::Object(members) => kind_of_members(profile, members),
         _ => None,
     }
 }
 
 /// The kind of a schema that is an object.
-pub(crate) fn kind_of_members(schema: &Members) -> Option<Kind>
-    ensures { option_map kind_view result ≡ Kinds.kind_of (object schema.now) }
+pub(crate) fn kind_of_members(profile: Profile, schema: &Members) -> Option<Kind>
+    ensures { option_map kind_view result ≡ Kinds.kind_of profile (object schema.now) }
 {
     if has_true(schema, "x-kubernetes-int-or-string") {
         return Some(Kind::Scalar(ScalarKind::IntOrString));
     }
     match schema.get("type") {
-        Some(Tree::Text(text)) => named_kind(schema, text.as_str()),
+        Some(Tree::Text(text)) => named_kind(profile, schema, text.as_str()),
         Some(_) => None,
         None => untyped_kind(schema),
     }
@@ -58,8 +59,8 @@ fn untyped_kind(schema: &Members) -> Option<Kind>
 }
 
 /// The kind of a schema by the string of its type.
-fn named_kind(schema: &Members, name: &str) -> Option<Kind>
-    ensures { option_map kind_view result ≡ Kinds.named_kind (object schema.now) name.now }
+fn named_kind(profile: Profile, schema: &Members, name: &str) -> Option<Kind>
+    ensures { option_map kind_view result ≡ Kinds.named_kind profile (object schema.now) name.now }
 {
     match name {
         "" => untyped_kind(schema),
@@ -68,7 +69,18 @@ fn named_kind(schema: &Members, name: &str) -> Option<Kind>
         "boolean" => Some(Kind::Scalar(ScalarKind::Boolean)),
         "array" => Some(Kind::List),
         "object" => Some(object_kind(schema)),
+        "number" => number_kind(profile),
         _ => None,
+    }
+}
+
+/// The kind of numbers, which is one of a cluster alone.
+fn number_kind(profile: Profile) -> Option<Kind>
+    ensures { option_map kind_view result ≡ Kinds.number_kind profile }
+{
+    match profile {
+        Profile::Core => None,
+        Profile::Cluster => Some(Kind::Scalar(ScalarKind::Number)),
     }
 }
 
@@ -83,30 +95,30 @@ fn object_kind(schema: &Members) -> Kind
 }
 
 /// Whether a schema is of a scalar kind.
-pub(crate) fn is_scalar(schema: &Members) -> bool
-    ensures { result ≡ Kinds.is_scalar_kind (Kinds.kind_of (object schema.now)) }
+pub(crate) fn is_scalar(profile: Profile, schema: &Members) -> bool
+    ensures { result ≡ Kinds.is_scalar_kind (Kinds.kind_of profile (object schema.now)) }
 {
-    is_scalar_kind(kind_of_members(schema))
+    is_scalar_kind(kind_of_members(profile, schema))
 }
 
-pub(crate) fn is_list(schema: &Members) -> bool
-    ensures { result ≡ Kinds.is_list_kind (Kinds.kind_of (object schema.now)) }
+pub(crate) fn is_list(profile: Profile, schema: &Members) -> bool
+    ensures { result ≡ Kinds.is_list_kind (Kinds.kind_of profile (object schema.now)) }
 {
-    is_list_kind(kind_of_members(schema))
+    is_list_kind(kind_of_members(profile, schema))
 }
 
 /// Whether a schema is of an object, maps among them.
-pub(crate) fn is_object(schema: &Members) -> bool
-    ensures { result ≡ Kinds.is_object_kind (Kinds.kind_of (object schema.now)) }
+pub(crate) fn is_object(profile: Profile, schema: &Members) -> bool
+    ensures { result ≡ Kinds.is_object_kind (Kinds.kind_of profile (object schema.now)) }
 {
-    is_object_kind(kind_of_members(schema))
+    is_object_kind(kind_of_members(profile, schema))
 }
 
 /// Whether a schema is of an object with declared fields, and no map.
-pub(crate) fn declares_fields(schema: &Members) -> bool
-    ensures { result ≡ Junctors.declares_fields (Kinds.kind_of (object schema.now)) }
+pub(crate) fn declares_fields(profile: Profile, schema: &Members) -> bool
+    ensures { result ≡ Junctors.declares_fields (Kinds.kind_of profile (object schema.now)) }
 {
-    match kind_of_members(schema) {
+    match kind_of_members(profile, schema) {
         Some(Kind::Object) => true,
         _ => false,
     }

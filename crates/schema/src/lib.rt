@@ -29,6 +29,7 @@ mod listing;
 mod names;
 mod node;
 mod places;
+mod profile;
 mod raw;
 mod reading;
 mod reason;
@@ -43,7 +44,7 @@ mod versions;
 mod violation;
 mod written;
 
-pub use definition::{Crd, read_crd, read_crd_within};
+pub use definition::{Crd, read_crd, read_crd_by, read_crd_within};
 pub use explaining::explained;
 pub use fault::SFault;
 pub use forms::Form;
@@ -54,7 +55,8 @@ pub use node::{
     Below, Bounds, Branches, Constraints, Field, Fields, ListNode, ListType, MapNode, MapType,
     Node, ObjectNode, ScalarKind, ScalarNode, Sort, Validations,
 };
-pub use raw::RawSchema;
+pub use profile::Profile;
+pub use raw::{RawSchema, Reading};
 pub use reason::{Explained, Finding, Reason};
 pub use refusal::{BrokenForm, Part, Refusal};
 pub use refused::Refused;

@@ -1,6 +1,6 @@
 //! The nodes of a schema.
 use crate::names::Names;
-use jtree::{Items, Text, Tree};
+use jtree::{Equality, Items, Members, Text, Tree};
 use std::marker::Model;
 
 /// The kinds of value that a scalar node accepts: booleans, integers, strings, or both integers and strings.
@@ -8,16 +8,19 @@ use std::marker::Model;
 pub enum ScalarKind {
     Boolean,
     Integer,
+    /// Integers and other numbers.
+    Number,
     String,
     IntOrString,
 }
 
-/// How the items of a list merge, and which may be in one list (`x-kubernetes-list-type`).
+/// How the items of a list merge, and which may be in one list (`x-kubernetes-list-type`): of a set no two that count as the same, of
+/// a map list no two with keys that do.
 #[derive(Clone, Copy, Debug, PartialEq, Eq, Drop)]
 pub enum ListType {
     Atomic,
-    Set,
-    Map,
+    Set(Equality),
+    Map(Equality),
 }
 
 /// How the members of an object or a map merge (`x-kubernetes-map-type`).
@@ -45,6 +48,8 @@ pub struct Constraints {
     pub exclusive_minimum: bool,
     pub exclusive_maximum: bool,
     pub lengths: Bounds,
+    /// The schema as it is written, where a cluster asks by it: then what stands above is not asked.
+    pub written: Option<Members>,
     /// The names of the members that must be there (`required`).
     pub required: Names,
 }

@@ -1,6 +1,7 @@
 //! For which reasons a rule is broken at a place.
 ghost use Rattle.std.specs.Prelude.{◌≡◌, ◌↔◌, IsTrue};
 ghost use Rattle.jtree.specs.Data.{Data, object};
+ghost use Rattle.schema.specs.Document.Raw.{raw_by};
 ghost use Rattle.schema.specs.Internal.PlaceView.{place_of};
 ghost use Rattle.schema.specs.Internal.Subschemas.{IsSubschema};
 ghost use Rattle.schema.specs.Internal.ReasonParts.{AreFacts, IsOutsideReason};
@@ -14,6 +15,7 @@ mod profile;
 use crate::keywords::{is_outside_keyword, is_unsupported_keyword};
 use crate::kinds::{Kind, kind_of_members};
 use crate::listing::Subschema;
+use crate::profile::Profile;
 use crate::reason::Reason;
 use crate::reasons::branches::breaks_junctors_by;
 use crate::reasons::keys::{is_keys_reason, is_set_reason};
@@ -26,6 +28,8 @@ use crate::violation::Rule;
 /// alone, which a place has once.
 #[derive(Drop)]
 pub(crate) struct PlaceFacts {
+    /// The profile that the place is judged by.
+    pub profile: Profile,
     /// Whether a step of the place is into a branch.
     pub is_inside: bool,
     pub kind: Option<Kind>,
@@ -33,14 +37,16 @@ pub(crate) struct PlaceFacts {
     pub asks_presence: bool,
 }
 
-pub(crate) fn facts_of(subschema: &Subschema<'_>) -> PlaceFacts
-    ensures { AreFacts result subschema.now }
+pub(crate) fn facts_of(profile: Profile, subschema: &Subschema<'_>) -> PlaceFacts
+    ensures facts { AreFacts result subschema.now }
+    ensures profile { result.profile ≡ profile }
 {
     let place = subschema.place.as_slice();
     PlaceFacts {
+        profile,
         is_inside: is_inside(place),
-        kind: kind_of_members(subschema.schema),
-        asks_presence: asks_presence(place, subschema.outer),
+        kind: kind_of_members(profile, subschema.schema),
+        asks_presence: asks_presence(profile, place, subschema.outer),
     }
 }
 
@@ -53,19 +59,26 @@ pub(crate) fn is_reason(
     reason: Reason,
 ) -> bool
     requires { AreFacts facts.now subschema.now }
-    ensures { (raw : Data) → IsSubschema raw subschema.now → IsTrue result ↔ Explains raw (place_of subschema.now.place.items) (object subschema.now.schema.now) rule keyword.now reason }
+    ensures { (raw : Data) → IsSubschema raw subschema.now → IsTrue result ↔ Explains (raw_by facts.now.profile raw) (place_of subschema.now.place.items) (object subschema.now.schema.now) rule keyword.now reason }
 {
     let place = subschema.place.as_slice();
     let schema = subschema.schema;
     match rule {
         Rule::V03 => is_outside_reason(subschema, facts, keyword, reason),
         Rule::V05 => is_support_reason(keyword, reason),
-        Rule::V11 => !facts.is_inside && is_keys_reason(schema, keyword, reason),
-        Rule::V12 => !facts.is_inside && is_set_reason(schema, keyword, reason),
+        Rule::V11 => !facts.is_inside && is_keys_reason(facts.profile, schema, keyword, reason),
+        Rule::V12 => !facts.is_inside && is_set_reason(facts.profile, schema, keyword, reason),
         Rule::V16 => breaks_junctors_by(subschema, facts, keyword, reason),
         Rule::V17 => {
             !facts.is_inside
-                && is_profile_reason(is_root(place), facts.kind, schema, keyword, reason)
+                && is_profile_reason(
+                    facts.profile,
+                    is_root(place),
+                    facts.kind,
+                    schema,
+                    keyword,
+                    reason,
+                )
         }
         _ => false,
     }

@@ -6,8 +6,10 @@ ghost use Rattle.jtree.specs.View.{data_of};
 ghost use Rattle.schema.specs.Document.Forms.{HasForms, HasFormsOf, HasWrittenForms};
 ghost use Rattle.schema.specs.Document.Crd.{IsObject};
 ghost use Rattle.schema.specs.Document.Limits.{IsWithinLimits};
+ghost use Rattle.schema.specs.Document.Raw.{raw_by};
 ghost use Rattle.schema.specs.Document.ReadFault.{HasSchema, IsReadFault, IsReadFaultOf, IsWrittenFault};
 ghost use Rattle.schema.specs.Document.Refusal as Refusals;
+ghost use Rattle.schema.specs.declared.profile.Profile.TheVariants.{Core};
 ghost use Rattle.schema.specs.Document.Refusal.{IsRefusal, IsRefusalOf, IsWrittenRefusal, fault_of, form_view};
 
 use crate::definition::{Unfound, find_definition};
@@ -65,7 +67,7 @@ impl<'a> Refusal<'a> {
     ) -> Result<Option<Refusal<'a>>, AllocError>
         ensures refused { IfOk result (λ o. IfSome o (IsRefusal limits (data_of document.now) version.now)) }
         ensures fault { IfOk result (λ o. IfSome o (λ r. IsReadFault limits (data_of document.now) version.now (fault_of r))) }
-        ensures read { IfOk result (λ o. o ≡ None → (raw : Data) × HasSchema (data_of document.now) version.now raw × HasForms raw × IsWithinLimits limits raw) }
+        ensures read { IfOk result (λ o. o ≡ None → (raw : Data) × HasSchema (data_of document.now) version.now raw × HasForms (raw_by Core raw) × IsWithinLimits limits raw) }
     {
         refusal_of(alloc, Form::Object, document, version, limits)
     }

@@ -1,13 +1,14 @@
 //! Which rules a place breaks.
 ghost use Rattle.std.specs.Prelude.{◌≡◌, ◌↔◌, IsTrue};
 ghost use Rattle.jtree.specs.Data.{Data, object};
+ghost use Rattle.schema.specs.Document.Raw.{raw_by};
 ghost use Rattle.schema.specs.Document.Places;
 ghost use Rattle.schema.specs.Document.Places.{property, ends_with};
 ghost use Rattle.schema.specs.Internal.PlaceView.{step_of, place_of};
 ghost use Rattle.schema.specs.Rules.Broken as BrokenSpec;
 ghost use Rattle.schema.specs.Rules.Broken.{Broken, metadata, metadata_names};
 ghost use Rattle.schema.specs.Rules.Lists.{has_bad_list_type, has_bad_keys, has_bad_set_items, has_bad_map_type};
-ghost use Rattle.schema.specs.Rules.Profile;
+ghost use Rattle.schema.specs.Rules.Profile as ProfileSpec;
 ghost use Rattle.schema.specs.Document.Texts.{is_among};
 ghost use Rattle.schema.specs.Internal.RuleParts.{IsOtherName, IsOtherField, IsUnspecified, HasOutsideKeyword, Restricts};
 ghost use Rattle.schema.specs.Internal.Subschemas.{IsSubschema};
@@ -21,6 +22,7 @@ use crate::keywords::{Keywords, has, has_false, has_keyword, has_other_text, has
 use crate::kinds::lacks_type;
 use crate::listing::Subschema;
 use crate::places::{Step, is_envelope, is_junctor};
+use crate::profile::Profile;
 use crate::rules::junctors::breaks_junctors;
 use crate::rules::lists::{bad_keys, bad_list_type, bad_map_type, bad_set_items};
 use crate::rules::profile::is_outside_profile;
@@ -28,8 +30,8 @@ use crate::violation::Rule;
 use jtree::Members;
 
 /// Whether a place breaks a rule.
-pub(crate) fn is_broken(subschema: &Subschema<'_>, rule: Rule) -> bool
-    ensures { (raw : Data) → IsSubschema raw subschema.now → IsTrue result ↔ Broken raw (place_of subschema.now.place.items) rule }
+pub(crate) fn is_broken(profile: Profile, subschema: &Subschema<'_>, rule: Rule) -> bool
+    ensures { (raw : Data) → IsSubschema raw subschema.now → IsTrue result ↔ Broken (raw_by profile raw) (place_of subschema.now.place.items) rule }
 {
     let place = subschema.place.as_slice();
     match rule {
@@ -47,14 +49,15 @@ pub(crate) fn is_broken(subschema: &Subschema<'_>, rule: Rule) -> bool
                 && has_true(subschema.schema, "x-kubernetes-int-or-string")
                 && has(subschema.schema, "type")
         }
-        Rule::V10 => !is_inside(place) && bad_list_type(subschema.schema),
-        Rule::V11 => !is_inside(place) && bad_keys(subschema.schema),
-        Rule::V12 => !is_inside(place) && bad_set_items(subschema.schema),
-        Rule::V13 => !is_inside(place) && bad_map_type(subschema.schema),
+        Rule::V10 => !is_inside(place) && bad_list_type(profile, subschema.schema),
+        Rule::V11 => !is_inside(place) && bad_keys(profile, subschema.schema),
+        Rule::V12 => !is_inside(place) && bad_set_items(profile, subschema.schema),
+        Rule::V13 => !is_inside(place) && bad_map_type(profile, subschema.schema),
         Rule::V14 => false,
         Rule::V15 => !is_inside(place) && has_misplaced_default(place, subschema.schema),
-        Rule::V16 => breaks_junctors(place, subschema.outer, subschema.schema),
-        Rule::V17 => !is_inside(place) && is_outside_profile(is_root(place), subschema.schema),
+        Rule::V16 => breaks_junctors(profile, place, subschema.outer, subschema.schema),
+        Rule::V17 => !is_inside(place)
+            && is_outside_profile(profile, is_root(place), subschema.schema),
     }
 }
 
@@ -89,7 +92,7 @@ fn restricts_metadata(subschema: &Subschema<'_>) -> bool
 
 /// V15: a default is where no field of the body is.
 fn has_misplaced_default(place: &[Step<'_>], schema: &Members) -> bool
-    ensures { result ≡ Profile.has_misplaced_default (place_of place.now) (object schema.now) }
+    ensures { result ≡ ProfileSpec.has_misplaced_default (place_of place.now) (object schema.now) }
 {
     has(schema, "default") && (!ends_in_property(place) || is_envelope(place))
 }
@@ -107,7 +110,7 @@ pub(crate) fn is_inside(place: &[Step<'_>]) -> bool
 }
 
 pub(crate) fn is_root(place: &[Step<'_>]) -> bool
-    ensures { result ≡ Profile.is_root (place_of place.now) }
+    ensures { result ≡ ProfileSpec.is_root (place_of place.now) }
 {
     match place {
         [] => true,
@@ -127,7 +130,7 @@ fn ends_in_field(place: &[Step<'_>]) -> bool
 
 /// Whether the last step is to a property.
 fn ends_in_property(place: &[Step<'_>]) -> bool
-    ensures { result ≡ ends_with Profile.is_property (place_of place.now) }
+    ensures { result ≡ ends_with ProfileSpec.is_property (place_of place.now) }
 {
     match place.last() {
         Some(step) => is_property_step(*step),
@@ -136,7 +139,7 @@ fn ends_in_property(place: &[Step<'_>]) -> bool
 }
 
 fn is_property_step(step: Step<'_>) -> bool
-    ensures { result ≡ Profile.is_property (step_of step.entry) }
+    ensures { result ≡ ProfileSpec.is_property (step_of step.entry) }
 {
     match step {
         Step::Property(_) => true,

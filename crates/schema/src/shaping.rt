@@ -10,7 +10,7 @@ ghost use Rattle.schema.specs.Document.Places.{Place};
 ghost use Rattle.schema.specs.Rules.Breaks.{BreaksNone};
 ghost use Rattle.schema.specs.Rules.Keywords.{text_under, texts_under, members_under};
 ghost use Rattle.schema.specs.Nodes.View.{node_of, sort_of, object_of, map_of, list_of};
-ghost use Rattle.schema.specs.Nodes.ByPlace.{AreNodesOf, list_type_named, map_type_named};
+ghost use Rattle.schema.specs.Nodes.ByPlace.{AreNodesOf, equality_of, list_type_named, map_type_named};
 ghost use Rattle.schema.specs.Nodes.Shape.{IsRootOf, IsShapeRefusal};
 ghost use Rattle.schema.specs.Internal.NodeOf;
 ghost use Rattle.schema.specs.Internal.NodeOf.{IsNodeOf, IsSortOf, AreFieldsOf, declared_of};
@@ -23,6 +23,7 @@ use crate::node::{
     Below, Field, Fields, ListNode, ListType, MapNode, MapType, Node, ObjectNode, ScalarNode, Sort,
 };
 use crate::places::is_envelope_name;
+use crate::profile::Profile;
 use crate::raw::RawSchema;
 use crate::reading::{bounds, copy_text, copy_texts, flag, text};
 use crate::refused::Refused;
@@ -64,7 +65,7 @@ fn read_root(alloc: Global, raw: &RawSchema) -> Result<Node, AllocError>
 {
     let schema = raw.tree();
     schema.reveal_invariant();
-    Ok(read_node(alloc, schema, true)?)
+    Ok(read_node(alloc, raw.profile(), schema, true)?)
 }
 
 /// Whether a schema breaks no rule.
@@ -81,45 +82,50 @@ fn check_rules(alloc: Global, raw: &RawSchema) -> Result<(), Refused>
 
 /// The node of a schema, at the root of the whole or below it.
 #[cycle(read)]
-fn read_node(alloc: Global, schema: &Tree, root: bool) -> Result<Node, AllocError>
-    requires { HasNodes root (data_of schema.now) }
-    ensures { IfOk result (λ n. IsNodeOf root (node_of n) (data_of schema.now)) }
+fn read_node(alloc: Global, profile: Profile, schema: &Tree, root: bool) -> Result<Node, AllocError>
+    requires { HasNodes profile root (data_of schema.now) }
+    ensures { IfOk result (λ n. IsNodeOf profile root (node_of n) (data_of schema.now)) }
 {
     let description = copy_text(alloc, schema, "description")?;
     Ok(Node {
         nullable: flag(schema, "nullable"),
         description,
-        sort: read_sort(alloc, schema, root)?,
+        sort: read_sort(alloc, profile, schema, root)?,
     })
 }
 
 /// What the node of a schema accepts besides null.
 #[cycle(read)]
-fn read_sort(alloc: Global, schema: &Tree, root: bool) -> Result<Sort, AllocError>
-    requires { HasNodes root (data_of schema.now) }
-    ensures { IfOk result (λ s. IsSortOf root (sort_of s) (data_of schema.now)) }
+fn read_sort(alloc: Global, profile: Profile, schema: &Tree, root: bool) -> Result<Sort, AllocError>
+    requires { HasNodes profile root (data_of schema.now) }
+    ensures { IfOk result (λ s. IsSortOf profile root (sort_of s) (data_of schema.now)) }
 {
-    match kind_of(schema) {
+    match kind_of(profile, schema) {
         Some(Kind::Scalar(kind)) => {
-            let validations = read_validations(alloc, schema)?;
+            let validations = read_validations(alloc, profile, schema)?;
             Ok(Sort::Scalar(ScalarNode { kind, validations }))
         }
-        Some(Kind::Object) => Ok(Sort::Object(read_object(alloc, schema, root)?)),
-        Some(Kind::Map) => Ok(Sort::Map(read_map(alloc, schema, root)?)),
-        Some(Kind::List) => Ok(Sort::List(read_list(alloc, schema, root)?)),
+        Some(Kind::Object) => Ok(Sort::Object(read_object(alloc, profile, schema, root)?)),
+        Some(Kind::Map) => Ok(Sort::Map(read_map(alloc, profile, schema, root)?)),
+        Some(Kind::List) => Ok(Sort::List(read_list(alloc, profile, schema, root)?)),
         Some(Kind::Open) => Ok(Sort::Open),
         None => unreachable!(),
     }
 }
 
 #[cycle(read)]
-fn read_object(alloc: Global, schema: &Tree, root: bool) -> Result<ObjectNode, AllocError>
-    requires nodes { HasNodes root (data_of schema.now) }
-    requires kind { IsOfKind (data_of schema.now) Kinds.object }
-    ensures { IfOk result (λ n. IsSortOf root (object_of n) (data_of schema.now)) }
+fn read_object(
+    alloc: Global,
+    profile: Profile,
+    schema: &Tree,
+    root: bool,
+) -> Result<ObjectNode, AllocError>
+    requires nodes { HasNodes profile root (data_of schema.now) }
+    requires kind { IsOfKind profile (data_of schema.now) Kinds.object }
+    ensures { IfOk result (λ n. IsSortOf profile root (object_of n) (data_of schema.now)) }
 {
     Ok(ObjectNode {
-        fields: read_properties(alloc, schema, root)?,
+        fields: read_properties(alloc, profile, schema, root)?,
         preserves: flag(schema, "x-kubernetes-preserve-unknown-fields"),
         map_type: map_type(schema),
         bounds: bounds(schema, "minProperties", "maxProperties"),
@@ -129,12 +135,17 @@ fn read_object(alloc: Global, schema: &Tree, root: bool) -> Result<ObjectNode, A
 
 /// The fields of an object.
 #[cycle(read)]
-fn read_properties(alloc: Global, schema: &Tree, root: bool) -> Result<Fields, AllocError>
-    requires { HasNodes root (data_of schema.now) }
-    ensures { IfOk result (λ fs. AreFieldsOf fs (texts_under (data_of schema.now) (codes "required")) (declared_of root (members_under (data_of schema.now) (codes "properties")))) }
+fn read_properties(
+    alloc: Global,
+    profile: Profile,
+    schema: &Tree,
+    root: bool,
+) -> Result<Fields, AllocError>
+    requires { HasNodes profile root (data_of schema.now) }
+    ensures { IfOk result (λ fs. AreFieldsOf profile fs (texts_under (data_of schema.now) (codes "required")) (declared_of root (members_under (data_of schema.now) (codes "properties")))) }
 {
     match schema.get("properties") {
-        Some(Tree::Object(properties)) => read_fields(alloc, schema, properties, root),
+        Some(Tree::Object(properties)) => read_fields(alloc, profile, schema, properties, root),
         _ => Ok(Fields {
             fields: Vec::new(alloc),
         }),
@@ -142,14 +153,19 @@ fn read_properties(alloc: Global, schema: &Tree, root: bool) -> Result<Fields, A
 }
 
 #[cycle(read)]
-fn read_map(alloc: Global, schema: &Tree, root: bool) -> Result<MapNode, AllocError>
-    requires nodes { HasNodes root (data_of schema.now) }
-    requires kind { IsOfKind (data_of schema.now) Kinds.map }
-    ensures { IfOk result (λ n. IsSortOf root (map_of n) (data_of schema.now)) }
+fn read_map(
+    alloc: Global,
+    profile: Profile,
+    schema: &Tree,
+    root: bool,
+) -> Result<MapNode, AllocError>
+    requires nodes { HasNodes profile root (data_of schema.now) }
+    requires kind { IsOfKind profile (data_of schema.now) Kinds.map }
+    ensures { IfOk result (λ n. IsSortOf profile root (map_of n) (data_of schema.now)) }
 {
     match schema.get("additionalProperties") {
         Some(below) => Ok(MapNode {
-            value: read_below(alloc, below)?,
+            value: read_below(alloc, profile, below)?,
             map_type: map_type(schema),
             bounds: bounds(schema, "minProperties", "maxProperties"),
         }),
@@ -158,15 +174,20 @@ fn read_map(alloc: Global, schema: &Tree, root: bool) -> Result<MapNode, AllocEr
 }
 
 #[cycle(read)]
-fn read_list(alloc: Global, schema: &Tree, root: bool) -> Result<ListNode, AllocError>
-    requires nodes { HasNodes root (data_of schema.now) }
-    requires kind { IsOfKind (data_of schema.now) Kinds.list }
-    ensures { IfOk result (λ n. IsSortOf root (list_of n) (data_of schema.now)) }
+fn read_list(
+    alloc: Global,
+    profile: Profile,
+    schema: &Tree,
+    root: bool,
+) -> Result<ListNode, AllocError>
+    requires nodes { HasNodes profile root (data_of schema.now) }
+    requires kind { IsOfKind profile (data_of schema.now) Kinds.list }
+    ensures { IfOk result (λ n. IsSortOf profile root (list_of n) (data_of schema.now)) }
 {
     match schema.get("items") {
         Some(below) => Ok(ListNode {
-            item: read_below(alloc, below)?,
-            list_type: list_type(schema),
+            item: read_below(alloc, profile, below)?,
+            list_type: list_type(profile, schema),
             keys: copy_texts(alloc, schema, "x-kubernetes-list-map-keys")?,
             bounds: bounds(schema, "minItems", "maxItems"),
         }),
@@ -176,11 +197,11 @@ fn read_list(alloc: Global, schema: &Tree, root: bool) -> Result<ListNode, Alloc
 
 /// The node of the items of a list, or of the values of a map.
 #[cycle(read)]
-fn read_below(alloc: Global, schema: &Tree) -> Result<Below, AllocError>
-    requires { HasNodes false (data_of schema.now) }
-    ensures { IfOk result (λ b. IsNodeOf false b (data_of schema.now)) }
+fn read_below(alloc: Global, profile: Profile, schema: &Tree) -> Result<Below, AllocError>
+    requires { HasNodes profile false (data_of schema.now) }
+    ensures { IfOk result (λ b. IsNodeOf profile false b (data_of schema.now)) }
 {
-    let node = read_node(alloc, schema, false)?;
+    let node = read_node(alloc, profile, schema, false)?;
     node.reveal_invariant();
     Ok(Below {
         node: Box::new(alloc, node)?,
@@ -191,12 +212,13 @@ fn read_below(alloc: Global, schema: &Tree) -> Result<Below, AllocError>
 #[cycle(read)]
 fn read_fields(
     alloc: Global,
+    profile: Profile,
     schema: &Tree,
     properties: &Members,
     root: bool,
 ) -> Result<Fields, AllocError>
-    requires { HaveNodes root properties.now }
-    ensures { IfOk result (λ fs. AreFieldsOf fs (texts_under (data_of schema.now) (codes "required")) (declared_of root properties.now)) }
+    requires { HaveNodes profile root properties.now }
+    ensures { IfOk result (λ fs. AreFieldsOf profile fs (texts_under (data_of schema.now) (codes "required")) (declared_of root properties.now)) }
 {
     properties.reveal_invariant();
     let mut fields = Vec::new(alloc);
@@ -204,22 +226,27 @@ fn read_fields(
         if !is_declared(property, root) {
             continue;
         }
-        fields.push(read_field(alloc, schema, property)?)?;
+        fields.push(read_field(alloc, profile, schema, property)?)?;
     }
     Ok(Fields { fields })
 }
 
 /// The field of a property.
 #[cycle(read)]
-fn read_field(alloc: Global, schema: &Tree, property: &Member) -> Result<Field, AllocError>
-    requires { HasNodes false (data_of property.now.tree) }
-    ensures { IfOk result (λ f. IsFieldOf f (data_of schema.now) property.now) }
+fn read_field(
+    alloc: Global,
+    profile: Profile,
+    schema: &Tree,
+    property: &Member,
+) -> Result<Field, AllocError>
+    requires { HasNodes profile false (data_of property.now.tree) }
+    ensures { IfOk result (λ f. IsFieldOf profile f (data_of schema.now) property.now) }
 {
     let name = property.name.copy(alloc)?;
     let default = copy_default(alloc, &property.tree)?;
     Ok(Field {
         name,
-        node: read_node(alloc, &property.tree, false)?,
+        node: read_node(alloc, profile, &property.tree, false)?,
         required: is_required(schema, property.name.as_str()),
         default,
     })
@@ -254,12 +281,12 @@ fn copy_default(alloc: Global, property: &Tree) -> Result<Option<Tree>, AllocErr
     }
 }
 
-fn list_type(schema: &Tree) -> ListType
-    ensures { result ≡ list_type_named (text_under (data_of schema.now) (codes "x-kubernetes-list-type")) }
+fn list_type(profile: Profile, schema: &Tree) -> ListType
+    ensures { result ≡ list_type_named (equality_of profile) (text_under (data_of schema.now) (codes "x-kubernetes-list-type")) }
 {
     match text(schema, "x-kubernetes-list-type") {
-        Some("set") => ListType::Set,
-        Some("map") => ListType::Map,
+        Some("set") => ListType::Set(profile.equality()),
+        Some("map") => ListType::Map(profile.equality()),
         _ => ListType::Atomic,
     }
 }

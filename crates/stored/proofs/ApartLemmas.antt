@@ -4,16 +4,17 @@ use Rattle.std.proofs.Common.{refl, sym, ap, subst, ◌∙◌, inl, inr}
 use Rattle.std.specs.Str.{bytes_eq}
 use Rattle.std.specs.declared.cmp.Ordering.TheVariants.{Less}
 use Rattle.std.proofs.lemmas.Bool.{not-true, and_parts, or_right}
-use Rattle.std.proofs.lemmas.Cmp.{tied_itself}
 use Rattle.std.proofs.lemmas.Option.{same_Some}
 use Rattle.std.proofs.lemmas.List.Elements.{All-contains}
 use Rattle.jtree.specs.Data.{Data, Items, no_items, item, Members, no_members, member, IsTree, AreMembers, AreTrees}
 use Rattle.jtree.specs.Data as tree
 use Rattle.jtree.specs.Path.{Step, name, index, Path, part_by, member_at, item_at}
 use Rattle.jtree.specs.PathOrder.{path_cmp}
+use Rattle.jtree.specs.Equality.{equal_by}
 use Rattle.jtree.specs.Text.{compact}
+use Rattle.jtree.specs.declared.equality.Equality.{Equality}
 use Rattle.jtree.specs.Internal.Lookups.{bool_cases, same_name, own_name}
-use Rattle.jtree.specs.Internal.OrderLaws.{tree_total}
+use Rattle.jtree.specs.Internal.EqualityLaws.{equal_itself}
 use Rattle.jtree.specs.Internal.PathLaws.{same_step}
 use Rattle.jtree.specs.Internal.Rising.{Among, Rising, rising, all_pairs, contains}
 use Rattle.schema.specs.Document.Places.{Place, property, map_value, items}
@@ -26,7 +27,6 @@ use Rattle.schema.specs.declared.node.Bounds.{Bounds}
 use Rattle.schema.specs.declared.node.ListType.{ListType}
 use Rattle.schema.specs.declared.node.ListType.TheVariants as list_type
 use Rattle.stored.specs.Objects.Parts.{Part, at, free, value_of, pair, node_by, leads}
-use Rattle.stored.specs.Objects.Tests.{is_same}
 use Rattle.stored.specs.Objects.Fault.{agree_at, agree, are_alike, IsValid}
 use Rattle.stored.specs.Objects.StoredByParts.{IsValidHere, are_apart}
 use Rattle.stored.specs.Objects.Leaves.{is_divided, members_among, item_element, element, leaf_at, LeafAt, AreLeaves, BeginsNone, AreApart}
@@ -44,12 +44,9 @@ TextsAreUnique = (u v : Data) → IsTree u → IsTree v → compact u ≡ compac
 
 -- ---- items that can be distinguished
 
-same_itself : (v : Data) → is_same v v ≡ true
-same_itself v = let tied = tied_itself tree_total v in rw tied refl
-
-agrees_itself : (o : Option Data) → agree_at o o ≡ true
-agrees_itself None = refl
-agrees_itself (Some v) = same_itself v
+agrees_itself : (a : Equality) (o : Option Data) → agree_at a o o ≡ true
+agrees_itself a None = refl
+agrees_itself a (Some v) = equal_itself a v
 
 kept : (keys : List (List ℕ)) (k : List ℕ) (ms : Members) → is_among k keys ≡ true → member_at k (members_among keys ms) ≡ member_at k ms
 kept keys k no_members e = refl
@@ -61,12 +58,12 @@ kept keys k (member l d ms) e = elim (bool_cases (bytes_eq k l)) [
   ])
 ]
 
-agree_on : (ks keys : List (List ℕ)) (ms ns : Members) → ((k : List ℕ) → is_among k ks ≡ true → is_among k keys ≡ true) → members_among keys ms ≡ members_among keys ns → agree ks ms ns ≡ true
-agree_on [] keys ms ns h e = refl
-agree_on (k ∷ ks) keys ms ns h e =
+agree_on : (a : Equality) (ks keys : List (List ℕ)) (ms ns : Members) → ((k : List ℕ) → is_among k ks ≡ true → is_among k keys ≡ true) → members_among keys ms ≡ members_among keys ns → agree a ks ms ns ≡ true
+agree_on a [] keys ms ns h e = refl
+agree_on a (k ∷ ks) keys ms ns h e =
     let there : is_among k keys ≡ true = h k (rw own_name refl) in
     let same : member_at k ms ≡ member_at k ns = sym (kept keys k ms there) ∙ (ap (member_at k) e ∙ kept keys k ns there) in
-    rw (same, agrees_itself (member_at k ns)) (agree_on ks keys ms ns (λ l a. h l (or_right (bytes_eq l k) (is_among l ks) a)) e)
+    rw (same, agrees_itself a (member_at k ns)) (agree_on a ks keys ms ns (λ l b. h l (or_right (bytes_eq l k) (is_among l ks) b)) e)
 
 -- an item of a map list is an object
 keyed_object : (N : Node) (keys : List (List ℕ)) (v : Data) → HasKeys N keys → IsValidHere N v → (ms : Members) × (v ≡ tree.object ms)
@@ -79,10 +76,10 @@ keyed_object _ keys v h here = elim h [ ]
 alike_by_element : TextsAreUnique → (type : ListType) (keys : List (List ℕ)) (N : Node) (v w : Data) → (type ≡ list_type.Atomic → ⊥) → AreDistinct type keys N
     → IsValidHere N v → IsValidHere N w → IsTree v → IsTree w → item_element type keys v ≡ item_element type keys w → are_alike type keys v w ≡ true
 alike_by_element same list_type.Atomic keys N v w other reported hv hw tv tw e = absurd (other refl)
-alike_by_element same list_type.Set keys N v w other reported hv hw tv tw e =
+alike_by_element same (list_type.Set a) keys N v w other reported hv hw tv tw e =
     let texts : compact v ≡ compact w = cc in
-    subst (λ u. is_same v u ≡ true) (same v w tv tw texts) (same_itself v)
-alike_by_element same list_type.Map keys N v w other reported hv hw tv tw e =
+    subst (λ u. equal_by a v u ≡ true) (same v w tv tw texts) (equal_itself a v)
+alike_by_element same (list_type.Map a) keys N v w other reported hv hw tv tw e =
     let ms = keyed_object N keys v reported hv in
     let ns = keyed_object N keys w reported hw in
     let mv : AreMembers ms.0 = subst IsTree ms.1 tv in
@@ -92,7 +89,7 @@ alike_by_element same list_type.Map keys N v w other reported hv hw tv tw e =
     let trees : tree.object (members_among keys ms.0) ≡ tree.object (members_among keys ns.0) =
     same (tree.object (members_among keys ms.0)) (tree.object (members_among keys ns.0)) (members_of_some keys ms.0 mv) (members_of_some keys ns.0 mw) texts in
     let members : members_among keys ms.0 ≡ members_among keys ns.0 = cc in
-    rw (ms.1, ns.1) (agree_on keys keys ms.0 ns.0 (λ k a. a) members)
+    rw (ms.1, ns.1) (agree_on a keys keys ms.0 ns.0 (λ k b. b) members)
 
 -- items that are alike are one
 one_item : (alike : Data → Data → Bool) (ds : Items) (i j : ℕ) (v w : Data) → are_apart alike ds ≡ true → item_at i ds ≡ Some v → item_at j ds ≡ Some w

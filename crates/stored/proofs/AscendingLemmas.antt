@@ -1,5 +1,5 @@
 -- Items that are alike tie in the order of what distinguishes items, so items that ascend are apart.
-use Rattle.std.specs.Prelude.{◌≡◌, ℕ, List, [], ◌∷◌, map, true, false, Option, Some, None, not, ◌&&◌}
+use Rattle.std.specs.Prelude.{◌≡◌, ℕ, List, [], ◌∷◌, map, true, false, Option, Some, None, option_map, not, ◌&&◌}
 use Rattle.std.proofs.Common.{refl, sym, ap, ◌∙◌}
 use Rattle.std.specs.Cmp.{IsTotalOrder, on_total}
 use Rattle.std.specs.Cmp.Lexicographic.{lists_total, options_total}
@@ -11,37 +11,41 @@ use Rattle.std.proofs.Math.Bool.{and-true}
 use Rattle.std.proofs.lemmas.Bool.{and_parts, and_from, or_from}
 use Rattle.jtree.specs.Data.{Data, Items, no_items, item, Members}
 use Rattle.jtree.specs.Data as tree
-use Rattle.jtree.specs.Order.{tree_cmp}
+use Rattle.jtree.specs.Equality.{equal_by, keyed_cmp}
 use Rattle.jtree.specs.Path.{member_at}
-use Rattle.jtree.specs.Internal.OrderLaws.{tree_total}
+use Rattle.jtree.specs.Internal.EqualityLaws.{keyed_total, keyed_ties}
+use Rattle.jtree.specs.declared.equality.Equality.{Equality}
 use Rattle.schema.specs.Rules.Keywords.{any_item}
 use Rattle.schema.specs.declared.node.ListType.{ListType}
 use Rattle.schema.specs.declared.node.ListType.TheVariants.{Atomic, Set, Map}
-use Rattle.stored.specs.Objects.Tests.{is_same}
 use Rattle.stored.specs.Objects.Fault.{agree_at, agree, are_alike}
 use Rattle.stored.specs.Objects.StoredByParts.{are_apart}
-use Rattle.stored.specs.Internal.ItemKeys.{ItemKey, item_key, values_cmp, item_cmp, has_key, passes, is_before_first, ascend, are_ordered}
+use Rattle.stored.specs.Internal.ItemKeys.{ItemKey, value_at, item_key, values_cmp, item_cmp, has_key, passes, is_before_first, ascend, are_ordered}
 
 -- ---- items that are alike
 
 item_total : (type : ListType) (keys : List (List ℕ)) → IsTotalOrder (item_cmp type keys)
-item_total type keys = on_total (item_key type keys) (options_total (lists_total (options_total tree_total)))
+item_total type keys = on_total (item_key type keys) (options_total (lists_total (options_total keyed_total)))
 
 both_equal : (a b : Ordering) → (is_eq a && is_eq b) ≡ is_eq (ordering_then a b)
 both_equal Less b = refl
 both_equal Equal b = refl
 both_equal Greater b = refl
 
-values_agree : (o p : Option Data) (b : Ordering) → (agree_at o p && is_eq b) ≡ is_eq (ordering_then (option_cmp tree_cmp o p) b)
-values_agree None None b = refl
-values_agree None (Some w) b = refl
-values_agree (Some v) None b = refl
-values_agree (Some v) (Some w) b = both_equal (tree_cmp v w) b
+equal_then : (e : Equality) (v w : Data) (b : Ordering) → (equal_by e v w && is_eq b) ≡ is_eq (ordering_then (keyed_cmp (e, v) (e, w)) b)
+equal_then e v w b = ap (λ c. c && is_eq b) (keyed_ties e v w) ∙ both_equal (keyed_cmp (e, v) (e, w)) b
 
-agree_by_key : (keys : List (List ℕ)) (ms ns : Members) → agree keys ms ns ≡ is_eq (values_cmp (map (λ k. member_at k ms) keys) (map (λ k. member_at k ns) keys))
-agree_by_key [] ms ns = refl
-agree_by_key (k ∷ keys) ms ns = ap (λ b. agree_at (member_at k ms) (member_at k ns) && b) (agree_by_key keys ms ns)
-    ∙ values_agree (member_at k ms) (member_at k ns) (values_cmp (map (λ k. member_at k ms) keys) (map (λ k. member_at k ns) keys))
+values_agree : (e : Equality) (o p : Option Data) (b : Ordering)
+    → (agree_at e o p && is_eq b) ≡ is_eq (ordering_then (option_cmp keyed_cmp (option_map (λ d. (e, d)) o) (option_map (λ d. (e, d)) p)) b)
+values_agree e None None b = refl
+values_agree e None (Some w) b = refl
+values_agree e (Some v) None b = refl
+values_agree e (Some v) (Some w) b = equal_then e v w b
+
+agree_by_key : (e : Equality) (keys : List (List ℕ)) (ms ns : Members) → agree e keys ms ns ≡ is_eq (values_cmp (map (value_at e ms) keys) (map (value_at e ns) keys))
+agree_by_key e [] ms ns = refl
+agree_by_key e (k ∷ keys) ms ns = ap (λ b. agree_at e (member_at k ms) (member_at k ns) && b) (agree_by_key e keys ms ns)
+    ∙ values_agree e (member_at k ms) (member_at k ns) (values_cmp (map (value_at e ms) keys) (map (value_at e ns) keys))
 
 no_key : (o : Option ItemKey) → false ≡ passes (has_key None) o
 no_key None = refl
@@ -49,10 +53,10 @@ no_key (Some k) = refl
 
 -- two items are alike where they have the same key
 pub alike_by_key : (type : ListType) (keys : List (List ℕ)) (v w : Data) → are_alike type keys v w ≡ passes (has_key (item_key type keys v)) (item_key type keys w)
-alike_by_key Set keys v w = sym (and-true (is_same v w)) ∙ both_equal (tree_cmp v w) Equal
-alike_by_key Map keys (tree.object ms) (tree.object ns) = agree_by_key keys ms ns
-alike_by_key Map keys (tree.object ms) _ = refl
-alike_by_key Map keys _ w = no_key (item_key Map keys w)
+alike_by_key (Set e) keys v w = sym (and-true (equal_by e v w)) ∙ equal_then e v w Equal
+alike_by_key (Map e) keys (tree.object ms) (tree.object ns) = agree_by_key e keys ms ns
+alike_by_key (Map e) keys (tree.object ms) _ = refl
+alike_by_key (Map e) keys _ w = no_key (item_key (Map e) keys w)
 alike_by_key Atomic keys v w = refl
 
 less_other : (o p : Option ItemKey) → option_cmp values_cmp o p ≡ Less → passes (has_key o) p ≡ false
@@ -95,5 +99,5 @@ all_apart keys (item d ds) = and_from _ _ (ap not (none_alike keys d ds)) (all_a
 
 pub ordered_apart : (type : ListType) (keys : List (List ℕ)) (ds : Items) → are_ordered type keys ds ≡ true → are_apart (are_alike type keys) ds ≡ true
 ordered_apart Atomic keys ds h = all_apart keys ds
-ordered_apart Set keys ds h = ascend_apart Set keys ds h
-ordered_apart Map keys ds h = ascend_apart Map keys ds h
+ordered_apart (Set e) keys ds h = ascend_apart (Set e) keys ds h
+ordered_apart (Map e) keys ds h = ascend_apart (Map e) keys ds h

@@ -11,6 +11,7 @@ use Rattle.jtree.specs.PathOrder.{path_cmp}
 use Rattle.jtree.specs.Internal.Lookups.{bool_cases, option_cases, same_name, own_name}
 use Rattle.jtree.specs.Internal.PathLaws.{same_step}
 use Rattle.jtree.specs.Internal.Rising.{Among, Rising, among_left, among_right, among_parts, rising_join, each_of, contains, all_pairs}
+use Rattle.schema.specs.Document.Raw.{Raw}
 use Rattle.schema.specs.Document.Places.{Step, Place, property, map_value, items, all_of, any_of, one_of, negation, step_path, place_path, place_pointer}
 use Rattle.schema.specs.Nodes.Node.{Node, node, scalar, object, map as map_node, list, open_, Fields, no_fields, field, IsNode, AreOrdered, IsBeforeFields}
 use Rattle.schema.specs.Nodes.ByPlace.{Declared, field_at, node_below, node_at, AreNodesOf}
@@ -263,7 +264,7 @@ earlier_break : (x y : Default) → IsEarlier x y → break_cmp (break_of x) (br
 earlier_break x y e = rw e refl
 
 -- the bad defaults are all that is broken where none of the sixteen other rules is
-bad_violations : (raw : Data) (N : Node) (bad : List Default) (found : List Violation) → BreaksNone raw → AreNodesOf true N raw
+bad_violations : (raw : Raw) (N : Node) (bad : List Default) (found : List Violation) → BreaksNone raw → AreNodesOf true N raw
     → ((M : Node) → AreNodesOf true M raw → M ≡ N) → AreBadOf (defaults_of N) bad → map reported found ≡ reported_below [] bad → AreViolations (IsBroken raw) found
 bad_violations raw N bad found unbroken nodes only are_bad is = (
   map break_of bad,
@@ -291,7 +292,7 @@ bad_violations raw N bad found unbroken nodes only are_bad is = (
 )
 
 -- where none is bad, the schema is accepted
-none_bad : (raw : Data) (N : Node) → HasForms raw → BreaksNone raw → AreNodesOf true N raw → ((M : Node) → AreNodesOf true M raw → M ≡ N)
+none_bad : (raw : Raw) (N : Node) → HasForms raw → BreaksNone raw → AreNodesOf true N raw → ((M : Node) → AreNodesOf true M raw → M ≡ N)
     → AreBadOf (defaults_of N) [] → IsRootOf N raw
 none_bad raw N forms unbroken nodes only none =
     let good : HasGoodDefaults N = λ p M d h. all_good (defaults_of N) none (record { place = p; node = M; value = d }) (all_listed N p M d h) in
@@ -306,7 +307,7 @@ none_bad raw N forms unbroken nodes only none =
     }
 
 -- where one of the sixteen is broken, V14 is not asked
-pub other_breaks : (raw : Data) (b : Break) (breaks : List Break) → AreBreaks (Broken raw) (b ∷ breaks) → AreBreaks (IsBroken raw) (b ∷ breaks)
+pub other_breaks : (raw : Raw) (b : Break) (breaks : List Break) → AreBreaks (Broken raw) (b ∷ breaks) → AreBreaks (IsBroken raw) (b ∷ breaks)
 other_breaks raw b breaks are = record {
   each = λ k d within. inl (are.each k d within);
   all = λ p r broken. elim broken [
@@ -316,12 +317,12 @@ other_breaks raw b breaks are = record {
   ascending = are.ascending;
 }
 
-other_violations : (raw : Data) (found : List Violation) → AreViolations (Broken raw) found → found ≢ [] → AreViolations (IsBroken raw) found
+other_violations : (raw : Raw) (found : List Violation) → AreViolations (Broken raw) found → found ≢ [] → AreViolations (IsBroken raw) found
 other_violations raw [] v some = absurd (some refl)
 other_violations raw (w ∷ found) ([], are, is) some = cc
 other_violations raw (w ∷ found) (b ∷ breaks, are, is) some = (b ∷ breaks, other_breaks raw b breaks are, is)
 
-pub nothing_broken : (raw : Data) (N : Node) → IsRootOf N raw → AreViolations (IsBroken raw) []
+pub nothing_broken : (raw : Raw) (N : Node) → IsRootOf N raw → AreViolations (IsBroken raw) []
 nothing_broken raw N root = ([], record { each = λ k d within. absurd (omega arith); all = λ p r b. absurd (root.unbroken p r b); ascending = λ i j d lt within. absurd (omega arith) }, refl)
 
 -- ---- what is answered
@@ -330,15 +331,15 @@ empty_bad : (bad : List Default) (found : List Violation) → found ≡ [] → m
 empty_bad [] found none is = refl
 empty_bad (x ∷ bad) found none is = let e = rw none at is in cc
 
-pub is_accepted : (raw : Data) (N : Node) (found : List Violation) → HasForms raw → BreaksNone raw → AreNodesOf true N raw → ((M : Node) → AreNodesOf true M raw → M ≡ N)
+pub is_accepted : (raw : Raw) (N : Node) (found : List Violation) → HasForms raw → BreaksNone raw → AreNodesOf true N raw → ((M : Node) → AreNodesOf true M raw → M ≡ N)
     → AreAdded [] (defaults_of N) [] (map reported found) → found ≡ [] → IsRootOf N raw
 is_accepted raw N found forms unbroken nodes only a none =
     none_bad raw N forms unbroken nodes only (subst (AreBadOf (defaults_of N)) (empty_bad a.bad found none a.reported) a.are_bad)
 
-pub is_refused : (raw : Data) (N : Node) (found : List Violation) → BreaksNone raw → AreNodesOf true N raw → ((M : Node) → AreNodesOf true M raw → M ≡ N)
+pub is_refused : (raw : Raw) (N : Node) (found : List Violation) → BreaksNone raw → AreNodesOf true N raw → ((M : Node) → AreNodesOf true M raw → M ≡ N)
     → AreAdded [] (defaults_of N) [] (map reported found) → AreViolations (IsBroken raw) found
 is_refused raw N found unbroken nodes only a = bad_violations raw N a.bad found unbroken nodes only a.are_bad a.reported
 
-pub refusal_from : (raw : Data) (r : Refused) → IsShapeRefusal raw r → IsRefusal raw r
+pub refusal_from : (raw : Raw) (r : Refused) → IsShapeRefusal raw r → IsRefusal raw r
 refusal_from raw (Violations vs) h = (other_violations raw vs.items h.0 h.1, h.1)
 refusal_from raw NoMemory h = tt

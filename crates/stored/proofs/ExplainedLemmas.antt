@@ -4,6 +4,7 @@ use Rattle.std.specs.Prelude.{map, All, IfOk, Result, Ok, Err}
 use Rattle.std.proofs.lemmas.List.Elements.{All-head, All-tail}
 use Rattle.jtree.specs.Data.{Data}
 use Rattle.jtree.specs.Internal.Rising.{contained}
+use Rattle.schema.specs.Document.Raw.{Raw}
 use Rattle.schema.specs.Rules.Breaks.{Break, AreViolations, reported, reported_of, BreaksNone}
 use Rattle.schema.specs.Rules.Broken.{Broken}
 use Rattle.schema.specs.Rules.Explained.{IsExplained, AreExplained, OneByOne}
@@ -16,17 +17,17 @@ abbrev IsWithoutReasons : Explained → Type 0
 IsWithoutReasons e = e.findings.items ≡ []
 
 -- where a rule of the sixteen is broken, V14 is not asked
-pub others_explained : (raw : Data) (found : List Explained) → found ≢ [] → AreExplained (Broken raw) raw found → AreExplained (IsBroken raw) raw found
+pub others_explained : (raw : Raw) (found : List Explained) → found ≢ [] → AreExplained (Broken raw) raw found → AreExplained (IsBroken raw) raw found
 others_explained raw [] some (breaks, are, each) = absurd (some refl)
 others_explained raw (e ∷ found) some ([], are, each) = absurd each
 others_explained raw (e ∷ found) some (b ∷ breaks, are, each) = (b ∷ breaks, other_breaks raw b breaks are, each)
 
-pub none_explained : (raw : Data) → AreExplained (Broken raw) raw [] → BreaksNone raw
+pub none_explained : (raw : Raw) → AreExplained (Broken raw) raw [] → BreaksNone raw
 none_explained raw ([], are, each) = λ p r broken. contained [] _ (are.all p r broken)
 none_explained raw (b ∷ breaks, are, each) = absurd each
 
 -- V14 has no reasons
-explained_default : (raw : Data) (b : Break) (e : Explained) → BreaksNone raw → IsBroken raw b.place b.rule → IsWithoutReasons e → reported e.violation ≡ reported_of b → IsExplained raw b e
+explained_default : (raw : Raw) (b : Break) (e : Explained) → BreaksNone raw → IsBroken raw b.place b.rule → IsWithoutReasons e → reported e.violation ≡ reported_of b → IsExplained raw b e
 explained_default raw b e unbroken (inl other) none is = absurd (unbroken b.place b.rule other)
 explained_default raw b e unbroken (inr own) none is = (
   is,
@@ -34,7 +35,7 @@ explained_default raw b e unbroken (inr own) none is = (
 )
 
 -- so the breaks are explained one by one
-defaults_explained : (raw : Data) (breaks : List Break) (found : List Explained) → BreaksNone raw → All (λ b. IsBroken raw b.place b.rule) breaks → All IsWithoutReasons found
+defaults_explained : (raw : Raw) (breaks : List Break) (found : List Explained) → BreaksNone raw → All (λ b. IsBroken raw b.place b.rule) breaks → All IsWithoutReasons found
     → map (λ e. reported e.violation) found ≡ map reported_of breaks → OneByOne (IsExplained raw) breaks found
 defaults_explained raw [] [] unbroken each none is = tt
 defaults_explained raw [] (e ∷ found) unbroken each none is = cc
@@ -45,7 +46,7 @@ defaults_explained raw (b ∷ breaks) (e ∷ found) unbroken each none is = (
 )
 
 -- violations of V14 alone, and what is made of them, if it is made
-pub violations_explained : {V E : Type 0} (items : V → List Explained) (raw : Data) (violations : List Violation) (r : Result V E) → BreaksNone raw → AreViolations (IsBroken raw) violations
+pub violations_explained : {V E : Type 0} (items : V → List Explained) (raw : Raw) (violations : List Violation) (r : Result V E) → BreaksNone raw → AreViolations (IsBroken raw) violations
     → IfOk r (λ v. map (λ e. reported e.violation) (items v) ≡ map reported violations) → IfOk r (λ v. All IsWithoutReasons (items v)) → IfOk r (λ v. AreExplained (IsBroken raw) raw (items v))
 violations_explained items raw violations (Ok v) unbroken (breaks, are, reported_so) is none =
     (breaks, are, defaults_explained raw breaks (items v) unbroken are.each none (is ∙ reported_so))

@@ -21,12 +21,12 @@ pub divides_counted : (ms : List Member) → not (length ms == 0) ≡ divides_ob
 divides_counted [] = refl
 divides_counted (m ∷ ms) = grind (arith, nat_tests)
 
-pub list_divides_counted : (type : ListType) (ts : List Tree) → (type ≡ list_type.Set) ⊎ (type ≡ list_type.Map) → not (length ts == 0) ≡ divides_list type (items_of ts)
-list_divides_counted list_type.Atomic ts h = elim h [ inl e ↦ cc | inr e ↦ cc ]
-list_divides_counted list_type.Set [] h = refl
-list_divides_counted list_type.Set (t ∷ ts) h = grind (arith, nat_tests)
-list_divides_counted list_type.Map [] h = refl
-list_divides_counted list_type.Map (t ∷ ts) h = grind (arith, nat_tests)
+pub list_divides_counted : (type : ListType) (ts : List Tree) → (type ≡ list_type.Atomic → ⊥) → not (length ts == 0) ≡ divides_list type (items_of ts)
+list_divides_counted list_type.Atomic ts h = absurd (h refl)
+list_divides_counted (list_type.Set e) [] h = refl
+list_divides_counted (list_type.Set e) (t ∷ ts) h = grind (arith, nat_tests)
+list_divides_counted (list_type.Map e) [] h = refl
+list_divides_counted (list_type.Map e) (t ∷ ts) h = grind (arith, nat_tests)
 
 -- ---- the keys of an item
 

@@ -56,8 +56,8 @@ rising_below s e (l ∷ ls) r = (
 pub undivided : (N : Node) (v : Data) → pair N v ≡ whole_value → is_divided N v ≡ true → ⊥
 undivided (node n t (object fs preserves map_type.Granular bounds cs)) (tree.object ms) e divided = cc
 undivided (node n t (map_of M map_type.Granular bounds)) (tree.object ms) e divided = cc
-undivided (node n t (list M list_type.Set keys bounds)) (tree.list ds) e divided = cc
-undivided (node n t (list M list_type.Map keys bounds)) (tree.list ds) e divided = cc
+undivided (node n t (list M (list_type.Set a) keys bounds)) (tree.list ds) e divided = cc
+undivided (node n t (list M (list_type.Map a) keys bounds)) (tree.list ds) e divided = cc
 undivided _ _ e divided = cc
 
 -- ---- a leaf of a part

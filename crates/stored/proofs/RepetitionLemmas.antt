@@ -4,16 +4,16 @@ use Rattle.std.proofs.Common.{refl, sym, ap, subst, ◌∙◌, arith, get_or, be
 use Rattle.std.proofs.Math.ListN.{get_or-append}
 use Rattle.std.proofs.Math.Seq.{get_or-append_seam}
 use Rattle.std.proofs.lemmas.List.{length-append}
-use Rattle.std.specs.Borrow.{Bor}
 use Rattle.std.specs.BTreeSet.{BTreeSet, contains}
 use Rattle.std.specs.Cmp.Derive.Mapped.{lex_map}
 use Rattle.std.specs.Cmp.Lexicographic.{slice_cmp}
-use Rattle.std.specs.Ordering.{is_eq}
+use Rattle.std.specs.Ordering.{is_eq, on}
 use Rattle.std.specs.Option.{option_cmp}
 use Rattle.jtree.specs.Data.{Data, Items, no_items, item}
-use Rattle.jtree.specs.Order.{tree_cmp}
+use Rattle.jtree.specs.Equality.{keyed, keyed_cmp}
 use Rattle.jtree.specs.Path.{item_at}
 use Rattle.jtree.specs.View.{data_of, items_of}
+use Rattle.jtree.specs.declared.equality.TreeKey.{TreeKey}
 use Rattle.jtree.specs.declared.value.Tree.{Tree}
 use Rattle.schema.specs.declared.node.ListType.{ListType}
 use Rattle.stored.specs.Objects.Fault.{are_alike, any_before, has_alike_before}
@@ -22,14 +22,14 @@ use Rattle.stored.proofs.AscendingLemmas.{alike_by_key}
 
 -- ---- keys
 
-values_same : (o p : Option (Bor Tree)) → option_cmp tree_cmp (option_map (λ t. data_of t.now) o) (option_map (λ t. data_of t.now) p) ≡ option_cmp (λ t u. tree_cmp (data_of t.now) (data_of u.now)) o p
+values_same : (o p : Option TreeKey) → option_cmp keyed_cmp (option_map keyed o) (option_map keyed p) ≡ option_cmp (on keyed keyed_cmp) o p
 values_same None None = refl
 values_same None (Some u) = refl
 values_same (Some t) None = refl
 values_same (Some t) (Some u) = refl
 
 codes_same : (k l : CodeKey) → values_cmp (key_of k) (key_of l) ≡ key_cmp k l
-codes_same k l = lex_map (option_map (λ t. data_of t.now)) (option_cmp tree_cmp) k.items l.items ∙ ap (λ R. slice_cmp R k.items l.items) (λ i o p. values_same o p i)
+codes_same k l = lex_map (option_map keyed) (option_cmp keyed_cmp) k.items l.items ∙ ap (λ R. slice_cmp R k.items l.items) (λ i o p. values_same o p i)
 
 -- ---- items before an index
 

@@ -5,7 +5,7 @@ use Rattle.std.specs.Str.{bytes_eq}
 use Rattle.std.proofs.lemmas.Bool.{and_parts, and_from, and_right, or_parts, or_from, not-true, not-false, false_from_ne_true}
 use Rattle.std.proofs.lemmas.Option.{same_Some}
 use Rattle.schema.specs.declared.node.ScalarKind.{ScalarKind}
-use Rattle.schema.specs.declared.node.ScalarKind.TheVariants.{Boolean, Integer, String, IntOrString}
+use Rattle.schema.specs.declared.node.ScalarKind.TheVariants.{Boolean, Integer, Number, String, IntOrString}
 use Rattle.jtree.specs.Data.{Data, Items, no_items, item, Members, no_members, member, IsTree, AreTrees, AreMembers}
 use Rattle.jtree.specs.Data as tree
 use Rattle.jtree.specs.Path.{Step, name, index, Path, member_at, item_at, part_by}
@@ -16,7 +16,7 @@ use Rattle.schema.specs.Nodes.ByPlace.{Declared, field_at}
 use Rattle.schema.specs.declared.node.Bounds.{Bounds}
 use Rattle.schema.specs.declared.node.Constraints.{Constraints}
 use Rattle.stored.specs.Objects.Parts.{pair, at, part_of, leads}
-use Rattle.stored.specs.Objects.Tests.{accepts_scalar, is_other_value, is_below_minimum, is_above_maximum, is_too_short, is_too_long, meets_constraints, meets_branch, holds, meets_junctors}
+use Rattle.stored.specs.Objects.Tests.{accepts_scalar, fails_enum, fails_minimum, fails_maximum, fails_least_length, fails_most_length, meets_constraints, meets_branch, holds, meets_junctors}
 use Rattle.stored.specs.Objects.Fault.{Test, F01, F02, F03, F04, F05, F06, F07, F08, F09, F10, F11, F12, F13, F14, is_null, members_count, constraints_of, fails_scalar, fails_items, fails_members, are_few, are_many, fails, is_required, lacks_name, has_alike_before, any_before, are_alike, repeats, finds, IsValid}
 use Rattle.stored.specs.Objects.StoredByParts.{IsWithin, are_apart, IsValidHere}
 use Rattle.stored.specs.Internal.ValidByLevel.{is_within, has_required, true_if_any, is_valid, are_fields_valid, are_values_valid, are_items_valid}
@@ -78,6 +78,7 @@ null_is_no_scalar : (kind : ScalarKind) → accepts_scalar kind tree.null ≡ fa
 null_is_no_scalar Boolean = refl
 null_is_no_scalar Integer = refl
 null_is_no_scalar String = refl
+null_is_no_scalar Number = refl
 null_is_no_scalar IntOrString = refl
 
 -- of a scalar node: what does not fail where the branch holds
@@ -106,17 +107,17 @@ five_parts a b c d e h = cc
 scalar_branch : (kind : ScalarKind) (t : Constraints) (v : Data) → accepts_scalar kind v ≡ true → meets_branch v t ≡ meets_constraints t v
 scalar_branch Boolean t (tree.object ms) h = cc
 scalar_branch Integer t (tree.object ms) h = cc
+scalar_branch Number t (tree.object ms) h = cc
 scalar_branch String t (tree.object ms) h = cc
 scalar_branch IntOrString t (tree.object ms) h = cc
 scalar_branch kind t v h = refl
 
 met : (kind : ScalarKind) (cs : Validations) (v : Data) → accepts_scalar kind v ≡ true → holds cs v ≡ true
-    → (is_other_value (constraints_of cs).choices v ≡ false) × (is_below_minimum (constraints_of cs).minimum (constraints_of cs).exclusive_minimum v ≡ false)
-    × (is_above_maximum (constraints_of cs).maximum (constraints_of cs).exclusive_maximum v ≡ false)
-    × (is_too_short (constraints_of cs).lengths.least v ≡ false) × (is_too_long (constraints_of cs).lengths.most v ≡ false)
+    → (fails_enum (constraints_of cs) v ≡ false) × (fails_minimum (constraints_of cs) v ≡ false) × (fails_maximum (constraints_of cs) v ≡ false)
+    × (fails_least_length (constraints_of cs) v ≡ false) × (fails_most_length (constraints_of cs) v ≡ false)
 met kind (validations t all any one negated) v a h =
-    five_parts (is_other_value t.choices v) (is_below_minimum t.minimum t.exclusive_minimum v) (is_above_maximum t.maximum t.exclusive_maximum v)
-    (is_too_short t.lengths.least v) (is_too_long t.lengths.most v) (sym (scalar_branch kind t v a) ∙ (and_parts _ _ h).0)
+    five_parts (fails_enum t v) (fails_minimum t v) (fails_maximum t v) (fails_least_length t v) (fails_most_length t v)
+    (sym (scalar_branch kind t v a) ∙ (and_parts _ _ h).0)
 
 junctors_met : (kind : ScalarKind) (cs : Validations) (v : Data) → accepts_scalar kind v ≡ true → holds cs v ≡ true → not (meets_junctors cs v) ≡ false
 junctors_met kind (validations t all any one negated) v a h = ap not (and_parts _ _ h).1
@@ -250,8 +251,7 @@ holds_from : (nullable : Bool) (description : Option (List ℕ)) (kind : ScalarK
     → ((t : Test) → fails t (node nullable description (scalar kind cs)) v ≡ false) → holds cs v ≡ true
 holds_from nullable description kind (validations t all any one negated) v a f =
     and_from _ _
-    (scalar_branch kind t v a ∙ five_from (is_other_value t.choices v) (is_below_minimum t.minimum t.exclusive_minimum v) (is_above_maximum t.maximum t.exclusive_maximum v)
-    (is_too_short t.lengths.least v) (is_too_long t.lengths.most v)
+    (scalar_branch kind t v a ∙ five_from (fails_enum t v) (fails_minimum t v) (fails_maximum t v) (fails_least_length t v) (fails_most_length t v)
     (second_false _ _ a (f F03)) (second_false _ _ a (f F04)) (second_false _ _ a (f F05)) (second_false _ _ a (f F06)) (second_false _ _ a (f F07)))
     (not-false _ (second_false _ _ a (f F14)))
 

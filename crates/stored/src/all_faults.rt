@@ -15,8 +15,8 @@ ghost use Rattle.stored.specs.Internal.FailuresByLevel.{progress, noted, added, 
 ghost use Rattle.stored.specs.Internal.FailuresByLevel.{field_parts, dropped, members_before, first_at, FailsWithin};
 
 use crate::constraints::{
-    accepts_scalar, is_above, is_above_maximum, is_below, is_below_minimum, is_other_value,
-    is_too_long, is_too_short, meets_junctors,
+    accepts_scalar, fails_enum, fails_least_length, fails_maximum, fails_minimum,
+    fails_most_length, is_above, is_below, meets_junctors,
 };
 use crate::fault::Fault;
 use crate::repetition::repeats;
@@ -206,11 +206,11 @@ fn constraint_tests(node: &Node, tree: &Tree) -> [(u8, bool); 5]
         Sort::Scalar(scalar) if accepts_scalar(scalar.kind, tree) => {
             let constraints = &scalar.validations.constraints;
             [
-                (3, is_other_value(constraints, tree)),
-                (4, is_below_minimum(constraints, tree)),
-                (5, is_above_maximum(constraints, tree)),
-                (6, is_too_short(constraints, tree)),
-                (7, is_too_long(constraints, tree)),
+                (3, fails_enum(constraints, tree)),
+                (4, fails_minimum(constraints, tree)),
+                (5, fails_maximum(constraints, tree)),
+                (6, fails_least_length(constraints, tree)),
+                (7, fails_most_length(constraints, tree)),
             ]
         }
         _ => [(3, false), (4, false), (5, false), (6, false), (7, false)],

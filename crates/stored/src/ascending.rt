@@ -1,14 +1,12 @@
 //! The order of the items of a list by what distinguishes them.
 ghost use Rattle.std.specs.Prelude.{◌≡◌, map};
-ghost use Rattle.std.specs.Cmp.Lexicographic.{slice_cmp};
 ghost use Rattle.std.specs.Option.{option_cmp};
-ghost use Rattle.jtree.specs.Order.{tree_cmp};
-ghost use Rattle.jtree.specs.Path.{member_at};
+ghost use Rattle.jtree.specs.Equality.{keyed_cmp};
 ghost use Rattle.jtree.specs.View.{data_of, items_of};
 ghost use Rattle.stored.specs.Internal.ItemKeys;
-ghost use Rattle.stored.specs.Internal.ItemKeys.{item_cmp};
+ghost use Rattle.stored.specs.Internal.ItemKeys.{value_at, values_cmp, item_cmp};
 
-use jtree::{Items, Members, Text, Tree};
+use jtree::{Equality, Items, Members, Text, Tree};
 use schema::{ListNode, ListType};
 use std::cmp::Ordering;
 
@@ -19,7 +17,7 @@ pub(crate) fn are_ordered(list: &ListNode, items: &Items) -> bool
 {
     match list.list_type {
         ListType::Atomic => true,
-        ListType::Set | ListType::Map => ascend(list, items),
+        ListType::Set(_) | ListType::Map(_) => ascend(list, items),
     }
 }
 
@@ -53,25 +51,42 @@ fn compare_items(list: &ListNode, item: &Tree, other: &Tree) -> Ordering
     ensures { result ≡ item_cmp list.now.list_type list.now.keys.items (data_of item.now) (data_of other.now) }
 {
     match (list.list_type, item, other) {
-        (ListType::Set, _, _) => item.cmp(other),
-        (ListType::Map, Tree::Object(members), Tree::Object(others)) => {
-            compare_values(&list.keys, members, others)
+        (ListType::Set(equality), _, _) => item.compare_by(other, equality),
+        (ListType::Map(equality), Tree::Object(members), Tree::Object(others)) => {
+            compare_values(equality, &list.keys, members, others)
         }
-        (ListType::Map, Tree::Object(_), _) => Ordering::Greater,
-        (ListType::Map, _, Tree::Object(_)) => Ordering::Less,
+        (ListType::Map(_), Tree::Object(_), _) => Ordering::Greater,
+        (ListType::Map(_), _, Tree::Object(_)) => Ordering::Less,
         _ => Ordering::Equal,
     }
 }
 
 /// The values of two objects under the keys, one key after the other, where an absent value comes first.
-fn compare_values(keys: &[Text], members: &Members, others: &Members) -> Ordering
-    ensures { result ≡ slice_cmp (option_cmp tree_cmp) (map (λ k. member_at k members.now) keys.now) (map (λ k. member_at k others.now) keys.now) }
+fn compare_values(
+    equality: Equality,
+    keys: &[Text],
+    members: &Members,
+    others: &Members,
+) -> Ordering
+    ensures { result ≡ values_cmp (map (value_at equality members.now) keys.now) (map (value_at equality others.now) keys.now) }
 {
     for key in keys {
-        let order = members.get(key.as_str()).cmp(&others.get(key.as_str()));
+        let order = compare_at(equality, key.as_str(), members, others);
         if order.is_ne() {
             return order;
         }
     }
     Ordering::Equal
+}
+
+/// The values of two objects under a name, where an absent one comes first.
+fn compare_at(equality: Equality, name: &str, members: &Members, others: &Members) -> Ordering
+    ensures { result ≡ option_cmp keyed_cmp (value_at equality members.now name.now) (value_at equality others.now name.now) }
+{
+    match (members.get(name), others.get(name)) {
+        (Some(value), Some(other)) => value.compare_by(other, equality),
+        (Some(_), None) => Ordering::Greater,
+        (None, Some(_)) => Ordering::Less,
+        (None, None) => Ordering::Equal,
+    }
 }

@@ -7,6 +7,7 @@ ghost use Rattle.stored.specs.Objects.Tests.{is_same, has_member};
 
 use crate::junctors::{self, BranchTest};
 use jtree::{Items, Members, Text, Tree};
+use judge::{is_long, is_short, passes_enum, passes_maximum, passes_minimum};
 use schema::{Bounds, Constraints, ScalarKind, Validations};
 
 /// Whether a value is a scalar of this kind.
@@ -16,6 +17,7 @@ pub(crate) fn accepts_scalar(kind: ScalarKind, tree: &Tree) -> bool
     match (kind, tree) {
         (ScalarKind::Boolean, Tree::Bool(_)) => true,
         (ScalarKind::Integer | ScalarKind::IntOrString, Tree::Int(_)) => true,
+        (ScalarKind::Number, Tree::Int(_) | Tree::Number(_)) => true,
         (ScalarKind::String | ScalarKind::IntOrString, Tree::Text(_)) => true,
         _ => false,
     }
@@ -61,21 +63,23 @@ pub fn is_within(bounds: Bounds, count: u64) -> bool
 }
 
 /// Whether a value is not in `enum`.
-pub(crate) fn is_other_value(constraints: &Constraints, tree: &Tree) -> bool
-    ensures { result ≡ Tests.is_other_value constraints.now.choices (data_of tree.now) }
+pub(crate) fn fails_enum(constraints: &Constraints, tree: &Tree) -> bool
+    ensures { result ≡ Tests.fails_enum constraints.now (data_of tree.now) }
 {
-    match &constraints.choices {
-        Some(choices) => !is_choice(tree, choices),
-        None => false,
+    match (&constraints.written, &constraints.choices) {
+        (Some(schema), _) => !passes_enum(schema.get("enum"), tree),
+        (None, Some(choices)) => !is_choice(tree, choices),
+        (None, None) => false,
     }
 }
 
-/// Whether an integer is below `minimum`, or equal to it where that is exclusive.
-pub(crate) fn is_below_minimum(constraints: &Constraints, tree: &Tree) -> bool
-    ensures { result ≡ Tests.is_below_minimum constraints.now.minimum constraints.now.exclusive_minimum (data_of tree.now) }
+/// Whether a number is below `minimum`, or equal to it where that is exclusive.
+pub(crate) fn fails_minimum(constraints: &Constraints, tree: &Tree) -> bool
+    ensures { result ≡ Tests.fails_minimum constraints.now (data_of tree.now) }
 {
-    match (constraints.minimum, tree) {
-        (Some(least), Tree::Int(number)) => {
+    match (&constraints.written, constraints.minimum, tree) {
+        (Some(schema), _, _) => !passes_minimum(schema, tree),
+        (None, Some(least), Tree::Int(number)) => {
             if constraints.exclusive_minimum {
                 *number <= least
             } else {
@@ -86,12 +90,13 @@ pub(crate) fn is_below_minimum(constraints: &Constraints, tree: &Tree) -> bool
     }
 }
 
-/// Whether an integer is above `maximum`, or equal to it where that is exclusive.
-pub(crate) fn is_above_maximum(constraints: &Constraints, tree: &Tree) -> bool
-    ensures { result ≡ Tests.is_above_maximum constraints.now.maximum constraints.now.exclusive_maximum (data_of tree.now) }
+/// Whether a number is above `maximum`, or equal to it where that is exclusive.
+pub(crate) fn fails_maximum(constraints: &Constraints, tree: &Tree) -> bool
+    ensures { result ≡ Tests.fails_maximum constraints.now (data_of tree.now) }
 {
-    match (constraints.maximum, tree) {
-        (Some(most), Tree::Int(number)) => {
+    match (&constraints.written, constraints.maximum, tree) {
+        (Some(schema), _, _) => !passes_maximum(schema, tree),
+        (None, Some(most), Tree::Int(number)) => {
             if constraints.exclusive_maximum {
                 most <= *number
             } else {
@@ -110,21 +115,23 @@ fn scalar_values(text: &str) -> u64
 }
 
 /// Whether a string is shorter than `minLength`, in Unicode scalar values.
-pub(crate) fn is_too_short(constraints: &Constraints, tree: &Tree) -> bool
-    ensures { result ≡ Tests.is_too_short constraints.now.lengths.least (data_of tree.now) }
+pub(crate) fn fails_least_length(constraints: &Constraints, tree: &Tree) -> bool
+    ensures { result ≡ Tests.fails_least_length constraints.now (data_of tree.now) }
 {
-    match (constraints.lengths.least, tree) {
-        (Some(least), Tree::Text(text)) => scalar_values(text.as_str()) < least,
+    match (&constraints.written, constraints.lengths.least, tree) {
+        (Some(schema), _, _) => !is_long(schema, tree),
+        (None, Some(least), Tree::Text(text)) => scalar_values(text.as_str()) < least,
         _ => false,
     }
 }
 
 /// Whether a string is longer than `maxLength`, in Unicode scalar values.
-pub(crate) fn is_too_long(constraints: &Constraints, tree: &Tree) -> bool
-    ensures { result ≡ Tests.is_too_long constraints.now.lengths.most (data_of tree.now) }
+pub(crate) fn fails_most_length(constraints: &Constraints, tree: &Tree) -> bool
+    ensures { result ≡ Tests.fails_most_length constraints.now (data_of tree.now) }
 {
-    match (constraints.lengths.most, tree) {
-        (Some(most), Tree::Text(text)) => most < scalar_values(text.as_str()),
+    match (&constraints.written, constraints.lengths.most, tree) {
+        (Some(schema), _, _) => !is_short(schema, tree),
+        (None, Some(most), Tree::Text(text)) => most < scalar_values(text.as_str()),
         _ => false,
     }
 }
@@ -133,10 +140,11 @@ pub(crate) fn is_too_long(constraints: &Constraints, tree: &Tree) -> bool
 fn meets_constraints(constraints: &Constraints, tree: &Tree) -> bool
     ensures { result ≡ Tests.meets_constraints constraints.now (data_of tree.now) }
 {
-    !is_other_value(constraints, tree)
-        && (!is_below_minimum(constraints, tree)
-            && (!is_above_maximum(constraints, tree)
-                && (!is_too_short(constraints, tree) && !is_too_long(constraints, tree))))
+    !fails_enum(constraints, tree)
+        && (!fails_minimum(constraints, tree)
+            && (!fails_maximum(constraints, tree)
+                && (!fails_least_length(constraints, tree)
+                    && !fails_most_length(constraints, tree))))
 }
 
 /// Whether there are members of all these names.

@@ -21,11 +21,11 @@ pub(crate) fn item_element(alloc: Global, list: &ListNode, item: &Tree) -> Resul
     ensures { IfOk result (λ t. t ≡ Leaves.item_element list.now.list_type list.now.keys.items (data_of item.now)) }
 {
     match (list.list_type, item) {
-        (ListType::Map, Tree::Object(members)) => {
+        (ListType::Map(_), Tree::Object(members)) => {
             let keys = Tree::Object(members_among(alloc, &list.keys, members)?);
             compact_element(alloc, "k:", &keys)
         }
-        (ListType::Map, _) => compact_element(alloc, "k:", item),
+        (ListType::Map(_), _) => compact_element(alloc, "k:", item),
         _ => compact_element(alloc, "v:", item),
     }
 }

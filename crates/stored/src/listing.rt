@@ -4,6 +4,7 @@ ghost use Rattle.jtree.specs.Data.{Data};
 ghost use Rattle.jtree.specs.Path;
 ghost use Rattle.jtree.specs.View.{data_of};
 ghost use Rattle.schema.specs.Document.Places.{Place};
+ghost use Rattle.schema.specs.Document.Raw.{Raw};
 ghost use Rattle.schema.specs.Nodes.ByPlace.{node_at};
 ghost use Rattle.schema.specs.Nodes.Node as Nodes;
 ghost use Rattle.schema.specs.Nodes.Shape.{IsRootOf};
@@ -37,7 +38,7 @@ pub fn leaves(alloc: Global, node: &Node, tree: &Tree) -> Result<Vec<Leaf>, LFau
     ensures leaves { IfOk result (λ ls. AreLeaves (node_of node.now) (data_of tree.now) (map elements_of ls.items)) }
     ensures stored { OnOk result (IsStored (node_of node.now) (data_of tree.now)) }
     ensures not_stored { IfErr result (λ e. e ≡ NotStored → IsStored (node_of node.now) (data_of tree.now) → ⊥) }
-    ensures apart { IfOk result (λ ls. (raw : Data) (root : Nodes.Node) (p : Place) → IsRootOf root raw → node_at root p ≡ Some (node_of node.now) → AreApart (map elements_of ls.items)) }
+    ensures apart { IfOk result (λ ls. (raw : Raw) (root : Nodes.Node) (p : Place) → IsRootOf root raw → node_at root p ≡ Some (node_of node.now) → AreApart (map elements_of ls.items)) }
     ensures covered { OnOk result (IsCovered (node_of node.now) (data_of tree.now)) }
 {
     tree.reveal_invariant();
@@ -113,8 +114,8 @@ fn is_list_divided(list_type: ListType, items: &Items) -> bool
     ensures { result ≡ divides_list list_type items.now }
 {
     match list_type {
-        ListType::Set | ListType::Map => !items.items.is_empty(),
         ListType::Atomic => false,
+        _ => !items.items.is_empty(),
     }
 }
 

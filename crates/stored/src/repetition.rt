@@ -1,7 +1,8 @@
 //! Which items of a list repeat another.
 ghost use Rattle.std.specs.Prelude.{◌≡◌, ◌<◌, ◌||◌, ℕ, List, Bool, Option, IfOk, OnOk, length, map, option_map};
 ghost use Rattle.std.proofs.Common.{get_or};
-ghost use Rattle.jtree.specs.Path.{item_at, member_at};
+ghost use Rattle.jtree.specs.Equality.{keyed};
+ghost use Rattle.jtree.specs.Path.{item_at};
 ghost use Rattle.jtree.specs.View.{data_of};
 ghost use Rattle.stored.specs.Objects.Fault;
 ghost use Rattle.stored.specs.Objects.Fault.{are_alike, has_alike_before};
@@ -10,7 +11,7 @@ ghost use Rattle.stored.specs.Internal.ItemKeys.{ItemKey, item_key, has_key, pas
 
 use crate::ascending::are_ordered;
 use crate::validity::items_count;
-use jtree::{Items, Members, Text, Tree};
+use jtree::{Equality, Items, Members, Text, Tree, TreeKey};
 use schema::{ListNode, ListType};
 use std::alloc::{AllocError, Global};
 use std::collections::BTreeSet;
@@ -49,7 +50,7 @@ fn is_seen<'a>(
     alloc: Global,
     list: &ListNode,
     item: &'a Tree,
-    seen: &mut BTreeSet<Vec<Option<&'a Tree>>>,
+    seen: &mut BTreeSet<Vec<Option<TreeKey<'a>>>>,
 ) -> Result<bool, AllocError>
     ensures answer { IfOk result (λ found. (held : ItemKey → Bool) → HasKeys seen.old held → found ≡ passes held (item_key list.now.list_type list.now.keys.items (data_of item.now))) }
     ensures added { OnOk result ((held : ItemKey → Bool) → HasKeys seen.old held → HasKeys seen.new (λ k. has_key (item_key list.now.list_type list.now.keys.items (data_of item.now)) k || held k)) }
@@ -65,16 +66,21 @@ fn key_of<'a>(
     alloc: Global,
     list: &ListNode,
     item: &'a Tree,
-) -> Result<Option<Vec<Option<&'a Tree>>>, AllocError>
+) -> Result<Option<Vec<Option<TreeKey<'a>>>>, AllocError>
     ensures { IfOk result (λ key. option_map ItemKeys.key_of key ≡ item_key list.now.list_type list.now.keys.items (data_of item.now)) }
 {
     match (list.list_type, item) {
-        (ListType::Set, _) => {
+        (ListType::Set(equality), _) => {
             let mut key = Vec::with_capacity(alloc, 1)?;
-            key.push(Some(item))?;
+            key.push(Some(TreeKey {
+                tree: item,
+                equality,
+            }))?;
             Ok(Some(key))
         }
-        (ListType::Map, Tree::Object(members)) => Ok(Some(values_at(alloc, &list.keys, members)?)),
+        (ListType::Map(equality), Tree::Object(members)) => {
+            Ok(Some(values_at(alloc, equality, &list.keys, members)?))
+        }
         _ => Ok(None),
     }
 }
@@ -82,14 +88,25 @@ fn key_of<'a>(
 /// The values of an object under the keys, in the order of the keys.
 fn values_at<'a>(
     alloc: Global,
+    equality: Equality,
     keys: &[Text],
     members: &'a Members,
-) -> Result<Vec<Option<&'a Tree>>, AllocError>
-    ensures { IfOk result (λ values. ItemKeys.key_of values ≡ map (λ k. member_at k members.now) keys.now) }
+) -> Result<Vec<Option<TreeKey<'a>>>, AllocError>
+    ensures { IfOk result (λ values. ItemKeys.key_of values ≡ map (ItemKeys.value_at equality members.now) keys.now) }
 {
     let mut values = Vec::with_capacity(alloc, keys.len())?;
     for key in keys {
-        values.push(members.get(key.as_str()))?;
+        values.push(value_at(equality, key.as_str(), members))?;
     }
     Ok(values)
+}
+
+/// The value of an object under a name, if there is one.
+fn value_at<'a>(equality: Equality, name: &str, members: &'a Members) -> Option<TreeKey<'a>>
+    ensures { option_map keyed result ≡ ItemKeys.value_at equality members.now name.now }
+{
+    match members.get(name) {
+        Some(tree) => Some(TreeKey { tree, equality }),
+        None => None,
+    }
 }

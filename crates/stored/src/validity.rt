@@ -5,7 +5,6 @@ ghost use Rattle.jtree.specs.View.{data_of, items_of};
 ghost use Rattle.schema.specs.Rules.Keywords.{any_item};
 ghost use Rattle.schema.specs.Nodes.ByPlace.{field_at};
 ghost use Rattle.schema.specs.Nodes.View.{node_of};
-ghost use Rattle.stored.specs.Objects.Tests.{is_same};
 ghost use Rattle.stored.specs.Objects.Fault;
 ghost use Rattle.stored.specs.Objects.Fault.{IsValid};
 ghost use Rattle.stored.specs.Objects.StoredByParts;
@@ -14,7 +13,7 @@ ghost use Rattle.stored.specs.Internal.ValidByLevel.{true_if_any};
 
 use crate::ascending::are_ordered;
 use crate::constraints::{accepts_scalar, holds, is_within, meets_junctors};
-use jtree::{Items, Member, Members, Text, Tree};
+use jtree::{Equality, Items, Member, Members, Text, Tree};
 use schema::{Fields, ListNode, ListType, Node, Sort};
 
 /// Whether an object is valid at a node: no part of it has a fault (OpenAPI 3.0, Schema Object; apiextensions.k8s.io/v1,
@@ -162,37 +161,37 @@ fn is_repeated(list: &ListNode, item: &Tree, later: &[Tree]) -> bool
     false
 }
 
-/// Whether two items may not be in one list: in a set equal ones, in a map list objects that agree on all keys.
+/// Whether two items may not be in one list: in a set those that count as the same, in a map list objects that agree on all keys.
 fn are_alike(list: &ListNode, item: &Tree, other: &Tree) -> bool
     ensures { result ≡ Fault.are_alike list.now.list_type list.now.keys.items (data_of item.now) (data_of other.now) }
 {
     match (list.list_type, item, other) {
-        (ListType::Set, _, _) => item == other,
-        (ListType::Map, Tree::Object(members), Tree::Object(others)) => {
-            agree(&list.keys, members, others)
+        (ListType::Set(equality), _, _) => item.is_equal_by(other, equality),
+        (ListType::Map(equality), Tree::Object(members), Tree::Object(others)) => {
+            agree(equality, &list.keys, members, others)
         }
         _ => false,
     }
 }
 
 /// Whether two objects agree on all keys.
-fn agree(keys: &[Text], members: &Members, others: &Members) -> bool
-    ensures { result ≡ Fault.agree keys.now members.now others.now }
+fn agree(equality: Equality, keys: &[Text], members: &Members, others: &Members) -> bool
+    ensures { result ≡ Fault.agree equality keys.now members.now others.now }
 {
     for key in keys {
-        if !agree_at(key.as_str(), members, others) {
+        if !agree_at(equality, key.as_str(), members, others) {
             return false;
         }
     }
     true
 }
 
-/// Whether two objects have the same value under a name, or both have none.
-fn agree_at(name: &str, members: &Members, others: &Members) -> bool
-    ensures { result ≡ Fault.agree_at (member_at name.now members.now) (member_at name.now others.now) }
+/// Whether two objects have values under a name that count as the same, or both have none.
+fn agree_at(equality: Equality, name: &str, members: &Members, others: &Members) -> bool
+    ensures { result ≡ Fault.agree_at equality (member_at name.now members.now) (member_at name.now others.now) }
 {
     match (members.get(name), others.get(name)) {
-        (Some(value), Some(other)) => value == other,
+        (Some(value), Some(other)) => value.is_equal_by(other, equality),
         (None, None) => true,
         _ => false,
     }

@@ -15,7 +15,7 @@ use Rattle.jtree.specs.MemberPlace.{with_member}
 use Rattle.suggest.specs.Suggested.Document.{items_of, document_with, general_of, single, suggestions_by}
 use Rattle.suggest.specs.Suggested.Varied.{lists_alone, suggestions_below}
 use Rattle.suggest.specs.Suggested.Wanted.{Wanted}
-use Rattle.suggest.specs.Internal.Parts.{with_lists_member, with_texts_member, general_with, suggestions_from}
+use Rattle.suggest.specs.Internal.Parts.{with_lists_member, with_texts_member, with_values_member, general_with, suggestions_from}
 
 pub items_are : (ts : List Tree) → view.items_of ts ≡ items_of (map (λ t. data_of t) ts)
 items_are [] = refl
@@ -31,18 +31,30 @@ pub some_lists : (k : List ℕ) (ls : List Member) (ms : Members) → (length ls
 some_lists k [] ms some = absurd (some refl)
 some_lists k (l ∷ ls) ms some = refl
 
-pub in_place : (any : List Data) (fixed : Members) (integers : List Data) (names : List (List ℕ)) (paths : Members) (present : List (List ℕ)) (strings : List Data)
+pub in_place : (any : List Data) (fixed : Members) (integers : List Data) (names : List (List ℕ)) (numbers : List Data) (paths : Members) (present : List (List ℕ)) (strings : List Data)
     → object (with_member (codes "strings") (list (items_of strings)) (with_texts_member (codes "present") present (with_lists_member (codes "paths") paths (
-    with_member (codes "names") (list (items_of (map (λ t. text t) names))) (with_member (codes "integers") (list (items_of integers)) (
-    with_lists_member (codes "fixed") fixed (with_member (codes "any") (list (items_of any)) no_members))))))) ≡ document_with any fixed integers names paths present strings
-in_place any no_members integers names no_members [] strings = refl
-in_place any no_members integers names no_members (t ∷ ts) strings = refl
-in_place any no_members integers names (member k d ms) [] strings = refl
-in_place any no_members integers names (member k d ms) (t ∷ ts) strings = refl
-in_place any (member l e ns) integers names no_members [] strings = refl
-in_place any (member l e ns) integers names no_members (t ∷ ts) strings = refl
-in_place any (member l e ns) integers names (member k d ms) [] strings = refl
-in_place any (member l e ns) integers names (member k d ms) (t ∷ ts) strings = refl
+    with_values_member (codes "numbers") numbers (with_member (codes "names") (list (items_of (map (λ t. text t) names))) (with_member (codes "integers") (list (items_of integers)) (
+    with_lists_member (codes "fixed") fixed (with_member (codes "any") (list (items_of any)) no_members)))))))) ≡ document_with any fixed integers names numbers paths present strings
+in_place any no_members integers names [] no_members [] strings = refl
+in_place any no_members integers names [] no_members (t ∷ ts) strings = refl
+in_place any no_members integers names [] (member k d ms) [] strings = refl
+in_place any no_members integers names [] (member k d ms) (t ∷ ts) strings = refl
+in_place any no_members integers names (v ∷ vs) no_members [] strings = refl
+in_place any no_members integers names (v ∷ vs) no_members (t ∷ ts) strings = refl
+in_place any no_members integers names (v ∷ vs) (member k d ms) [] strings = refl
+in_place any no_members integers names (v ∷ vs) (member k d ms) (t ∷ ts) strings = refl
+in_place any (member l e ns) integers names [] no_members [] strings = refl
+in_place any (member l e ns) integers names [] no_members (t ∷ ts) strings = refl
+in_place any (member l e ns) integers names [] (member k d ms) [] strings = refl
+in_place any (member l e ns) integers names [] (member k d ms) (t ∷ ts) strings = refl
+in_place any (member l e ns) integers names (v ∷ vs) no_members [] strings = refl
+in_place any (member l e ns) integers names (v ∷ vs) no_members (t ∷ ts) strings = refl
+in_place any (member l e ns) integers names (v ∷ vs) (member k d ms) [] strings = refl
+in_place any (member l e ns) integers names (v ∷ vs) (member k d ms) (t ∷ ts) strings = refl
+
+pub some_values : (k : List ℕ) (vs : List Data) (ms : Members) → (length vs ≡ 0 → ⊥) → with_values_member k vs ms ≡ with_member k (list (items_of vs)) ms
+some_values k [] ms some = absurd (some refl)
+some_values k (v ∷ vs) ms some = refl
 
 -- ---- what is suggested with the pools that suit
 

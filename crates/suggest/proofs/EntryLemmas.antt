@@ -13,7 +13,7 @@ use Rattle.plan.specs.declared.pool_limits.PoolLimits.{PoolLimits}
 use Rattle.plan.specs.Pools.Pools.{items_list, entries_in, list_at, fixed_at}
 use Rattle.plan.specs.Pools.Document.{entries_of, members_of, text_of, pools_of}
 use Rattle.suggest.specs.Suggested.Chosen.{chosen_names}
-use Rattle.suggest.specs.Suggested.Document.{items_of, suggested_any, suggested_integers, suggested_strings, usual_names, with_entry, members_from, without_entry, lists_member, texts_member, document_of}
+use Rattle.suggest.specs.Suggested.Document.{items_of, suggested_any, suggested_integers, suggested_numbers, suggested_strings, usual_names, with_entry, members_from, without_entry, lists_member, texts_member, values_member, document_of}
 use Rattle.suggest.specs.Suggested.Lists.{Entry}
 use Rattle.suggest.specs.Suggested.Varied.{Suggestions}
 
@@ -74,42 +74,60 @@ found_values es text = ap (option_and_then entries_in) (found_after es no_member
 
 -- ---- the pools of a document
 
-abbrev with_parts : Items → Items → Items → Items → Members → Members → List (List ℕ) → Data
-with_parts any integers names strings fixed paths present = object (member (codes "any") (list any) (lists_member (codes "fixed") fixed (member (codes "integers") (list integers)
-    (member (codes "names") (list names) (lists_member (codes "paths") paths (texts_member (codes "present") present (member (codes "strings") (list strings) no_members)))))))
+abbrev with_parts : Items → Items → Items → List Data → Items → Members → Members → List (List ℕ) → Data
+with_parts any integers names qs strings fixed paths present = object (member (codes "any") (list any) (lists_member (codes "fixed") fixed (member (codes "integers") (list integers)
+    (member (codes "names") (list names) (values_member (codes "numbers") qs (lists_member (codes "paths") paths (texts_member (codes "present") present (member (codes "strings") (list strings) no_members))))))))
 
 texts_back : (ts : List (List ℕ)) → filter_map text_of (items_list (items_of (map (λ t. tree.text t) ts))) ≡ ts
 texts_back [] = refl
 texts_back (t ∷ ts) = ap (λ xs. t ∷ xs) (texts_back ts)
 
-fixed_part : (any integers names strings : Items) (F L : Members) (ps : List (List ℕ)) → members_of (under (with_parts any integers names strings F L ps) (codes "fixed")) ≡ F
-fixed_part any integers names strings (member k d ms) L ps = refl
-fixed_part any integers names strings no_members (member k d ms) (p ∷ ps) = refl
-fixed_part any integers names strings no_members (member k d ms) [] = refl
-fixed_part any integers names strings no_members no_members (p ∷ ps) = refl
-fixed_part any integers names strings no_members no_members [] = refl
+fixed_part : (any integers names : Items) (qs : List Data) (strings : Items) (F L : Members) (ps : List (List ℕ)) → members_of (under (with_parts any integers names qs strings F L ps) (codes "fixed")) ≡ F
+fixed_part any integers names qs strings (member k d ms) L ps = refl
+fixed_part any integers names [] strings no_members no_members [] = refl
+fixed_part any integers names [] strings no_members no_members (p ∷ ps) = refl
+fixed_part any integers names [] strings no_members (member l e ns) [] = refl
+fixed_part any integers names [] strings no_members (member l e ns) (p ∷ ps) = refl
+fixed_part any integers names (q ∷ qs) strings no_members no_members [] = refl
+fixed_part any integers names (q ∷ qs) strings no_members no_members (p ∷ ps) = refl
+fixed_part any integers names (q ∷ qs) strings no_members (member l e ns) [] = refl
+fixed_part any integers names (q ∷ qs) strings no_members (member l e ns) (p ∷ ps) = refl
 
-paths_part : (any integers names strings : Items) (F L : Members) (ps : List (List ℕ)) → members_of (under (with_parts any integers names strings F L ps) (codes "paths")) ≡ L
-paths_part any integers names strings (member k d ms) (member l e ns) ps = refl
-paths_part any integers names strings no_members (member l e ns) ps = refl
-paths_part any integers names strings (member k d ms) no_members (p ∷ ps) = refl
-paths_part any integers names strings (member k d ms) no_members [] = refl
-paths_part any integers names strings no_members no_members (p ∷ ps) = refl
-paths_part any integers names strings no_members no_members [] = refl
+paths_part : (any integers names : Items) (qs : List Data) (strings : Items) (F L : Members) (ps : List (List ℕ)) → members_of (under (with_parts any integers names qs strings F L ps) (codes "paths")) ≡ L
+paths_part any integers names [] strings no_members (member l e ns) ps = refl
+paths_part any integers names (q ∷ qs) strings no_members (member l e ns) ps = refl
+paths_part any integers names [] strings (member k d ms) (member l e ns) ps = refl
+paths_part any integers names (q ∷ qs) strings (member k d ms) (member l e ns) ps = refl
+paths_part any integers names [] strings no_members no_members [] = refl
+paths_part any integers names [] strings no_members no_members (p ∷ ps) = refl
+paths_part any integers names (q ∷ qs) strings no_members no_members [] = refl
+paths_part any integers names (q ∷ qs) strings no_members no_members (p ∷ ps) = refl
+paths_part any integers names [] strings (member k d ms) no_members [] = refl
+paths_part any integers names [] strings (member k d ms) no_members (p ∷ ps) = refl
+paths_part any integers names (q ∷ qs) strings (member k d ms) no_members [] = refl
+paths_part any integers names (q ∷ qs) strings (member k d ms) no_members (p ∷ ps) = refl
 
-names_part : (any integers names strings : Items) (F L : Members) (ps : List (List ℕ)) → entries_of (under (with_parts any integers names strings F L ps) (codes "names")) ≡ items_list names
-names_part any integers names strings (member k d ms) L ps = refl
-names_part any integers names strings no_members L ps = refl
+names_part : (any integers names : Items) (qs : List Data) (strings : Items) (F L : Members) (ps : List (List ℕ)) → entries_of (under (with_parts any integers names qs strings F L ps) (codes "names")) ≡ items_list names
+names_part any integers names qs strings no_members L ps = refl
+names_part any integers names qs strings (member k d ms) L ps = refl
 
-present_part : (any integers names strings : Items) (F L : Members) (ps : List (List ℕ)) → filter_map text_of (entries_of (under (with_parts any integers names strings F L ps) (codes "present"))) ≡ ps
-present_part any integers names strings (member k d ms) (member l e ns) (p ∷ ps) = texts_back (p ∷ ps)
-present_part any integers names strings (member k d ms) no_members (p ∷ ps) = texts_back (p ∷ ps)
-present_part any integers names strings no_members (member l e ns) (p ∷ ps) = texts_back (p ∷ ps)
-present_part any integers names strings no_members no_members (p ∷ ps) = texts_back (p ∷ ps)
-present_part any integers names strings (member k d ms) (member l e ns) [] = refl
-present_part any integers names strings (member k d ms) no_members [] = refl
-present_part any integers names strings no_members (member l e ns) [] = refl
-present_part any integers names strings no_members no_members [] = refl
+present_part : (any integers names : Items) (qs : List Data) (strings : Items) (F L : Members) (ps : List (List ℕ)) → filter_map text_of (entries_of (under (with_parts any integers names qs strings F L ps) (codes "present"))) ≡ ps
+present_part any integers names [] strings no_members no_members [] = refl
+present_part any integers names [] strings no_members (member l e ns) [] = refl
+present_part any integers names (q ∷ qs) strings no_members no_members [] = refl
+present_part any integers names (q ∷ qs) strings no_members (member l e ns) [] = refl
+present_part any integers names [] strings (member k d ms) no_members [] = refl
+present_part any integers names [] strings (member k d ms) (member l e ns) [] = refl
+present_part any integers names (q ∷ qs) strings (member k d ms) no_members [] = refl
+present_part any integers names (q ∷ qs) strings (member k d ms) (member l e ns) [] = refl
+present_part any integers names [] strings no_members no_members (p ∷ ps) = texts_back (p ∷ ps)
+present_part any integers names [] strings no_members (member l e ns) (p ∷ ps) = texts_back (p ∷ ps)
+present_part any integers names (q ∷ qs) strings no_members no_members (p ∷ ps) = texts_back (p ∷ ps)
+present_part any integers names (q ∷ qs) strings no_members (member l e ns) (p ∷ ps) = texts_back (p ∷ ps)
+present_part any integers names [] strings (member k d ms) no_members (p ∷ ps) = texts_back (p ∷ ps)
+present_part any integers names [] strings (member k d ms) (member l e ns) (p ∷ ps) = texts_back (p ∷ ps)
+present_part any integers names (q ∷ qs) strings (member k d ms) no_members (p ∷ ps) = texts_back (p ∷ ps)
+present_part any integers names (q ∷ qs) strings (member k d ms) (member l e ns) (p ∷ ps) = texts_back (p ∷ ps)
 
 abbrev chosen : PoolLimits → Suggestions → List (List ℕ)
 chosen limits said = chosen_names limits.names (said.names ++ usual_names)
@@ -120,26 +138,26 @@ kept_present without said = filter (λ t. not (is_among t without)) said.present
 pub pool_fixed : (limits : PoolLimits) (root : Node) (without : List (List ℕ)) (said : Suggestions) (text : List ℕ)
     → fixed_at text (pools_of (document_of limits root without said)) ≡ values_at text (said.fixed ++ map without_entry without)
 pool_fixed limits root without said text = ap (λ ms. option_and_then entries_in (member_at text ms))
-    (fixed_part (items_of suggested_any) (items_of (suggested_integers root)) (items_of (map (λ t. tree.text t) (chosen limits said))) (items_of (suggested_strings root))
+    (fixed_part (items_of suggested_any) (items_of (suggested_integers root)) (items_of (map (λ t. tree.text t) (chosen limits said))) (suggested_numbers root) (items_of (suggested_strings root))
     (members_from (said.fixed ++ map without_entry without)) (members_from (take limits.paths said.lists)) (kept_present without said))
     ∙ found_values (said.fixed ++ map without_entry without) text
 
 pub pool_lists : (limits : PoolLimits) (root : Node) (without : List (List ℕ)) (said : Suggestions) (text : List ℕ)
     → list_at text (pools_of (document_of limits root without said)) ≡ values_at text (take limits.paths said.lists)
 pool_lists limits root without said text = ap (λ ms. option_and_then entries_in (member_at text ms))
-    (paths_part (items_of suggested_any) (items_of (suggested_integers root)) (items_of (map (λ t. tree.text t) (chosen limits said))) (items_of (suggested_strings root))
+    (paths_part (items_of suggested_any) (items_of (suggested_integers root)) (items_of (map (λ t. tree.text t) (chosen limits said))) (suggested_numbers root) (items_of (suggested_strings root))
     (members_from (said.fixed ++ map without_entry without)) (members_from (take limits.paths said.lists)) (kept_present without said))
     ∙ found_values (take limits.paths said.lists) text
 
 pub pool_names : (limits : PoolLimits) (root : Node) (without : List (List ℕ)) (said : Suggestions) → (pools_of (document_of limits root without said)).names ≡ chosen limits said
 pool_names limits root without said = ap (filter_map text_of)
-    (names_part (items_of suggested_any) (items_of (suggested_integers root)) (items_of (map (λ t. tree.text t) (chosen limits said))) (items_of (suggested_strings root))
+    (names_part (items_of suggested_any) (items_of (suggested_integers root)) (items_of (map (λ t. tree.text t) (chosen limits said))) (suggested_numbers root) (items_of (suggested_strings root))
     (members_from (said.fixed ++ map without_entry without)) (members_from (take limits.paths said.lists)) (kept_present without said))
     ∙ texts_back (chosen limits said)
 
 pub pool_present : (limits : PoolLimits) (root : Node) (without : List (List ℕ)) (said : Suggestions) → (pools_of (document_of limits root without said)).present ≡ kept_present without said
 pool_present limits root without said =
-    present_part (items_of suggested_any) (items_of (suggested_integers root)) (items_of (map (λ t. tree.text t) (chosen limits said))) (items_of (suggested_strings root))
+    present_part (items_of suggested_any) (items_of (suggested_integers root)) (items_of (map (λ t. tree.text t) (chosen limits said))) (suggested_numbers root) (items_of (suggested_strings root))
     (members_from (said.fixed ++ map without_entry without)) (members_from (take limits.paths said.lists)) (kept_present without said)
 
 -- nothing is left out

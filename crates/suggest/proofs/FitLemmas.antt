@@ -1,13 +1,15 @@
 -- What holds of the integers that are suggested: each has 64 bits.
 use Rattle.std.proofs.Common.{◌≡◌, ℤ, pos, ◌+ℤ◌, ◌-ℤ◌, List, [], ◌∷◌, ◌++◌, true, Option, Some, None, refl, inl, inr}
-use Rattle.std.specs.Prelude.{filter}
+use Rattle.std.specs.Prelude.{filter, codes}
 use Rattle.std.specs.Ordering.{int_cmp}
+use Rattle.jtree.specs.Data.{Members}
+use Rattle.jtree.specs.Path.{member_at}
 use Rattle.jtree.specs.Internal.Lookups.{bool_cases}
 use Rattle.jtree.specs.Internal.Rising.{Among, among_parts}
 use Rattle.schema.specs.Nodes.Node.{Validations, validations, Branches, no_branches, branch, Node, node, scalar, object, map as map_node, list as list_node, open_, Fields, no_fields, field}
 use Rattle.schema.specs.declared.node.Constraints.{Constraints}
 use Rattle.suggest.specs.Suggested.Scalars.{in_scalar, in_branches, in_scalars, in_fields}
-use Rattle.suggest.specs.Suggested.Values.{fits_64_bits, with_neighbours, bounds_with_neighbours, all_integers}
+use Rattle.suggest.specs.Suggested.Values.{fits_64_bits, with_neighbours, whole_bound, written_bounds, bounds_with_neighbours, all_integers}
 use Rattle.suggest.proofs.AscendingLemmas.{ascending_only}
 
 -- ---- what holds of all that is found
@@ -54,10 +56,23 @@ neighbours_fit : (o : Option ℤ) (z : ℤ) → Among (with_neighbours o) z → 
 neighbours_fit None z a = absurd a
 neighbours_fit (Some b) z a = kept ((b -ℤ pos 1) ∷ b ∷ (b +ℤ pos 1) ∷ []) z a
 
+written_fit : (o : Option Members) (z : ℤ) → Among (written_bounds o) z → fits_64_bits z ≡ true
+written_fit None z a = absurd a
+written_fit (Some ks) z a = elim (among_parts (with_neighbours (whole_bound (member_at (codes "minimum") ks))) (with_neighbours (whole_bound (member_at (codes "maximum") ks))) z a) [
+  | inl h ↦ neighbours_fit (whole_bound (member_at (codes "minimum") ks)) z h
+  | inr h ↦ neighbours_fit (whole_bound (member_at (codes "maximum") ks)) z h
+]
+
+bounds_fit : (t : Constraints) (z : ℤ) → Among (bounds_with_neighbours t) z → fits_64_bits z ≡ true
+bounds_fit t z a = elim (among_parts (with_neighbours t.minimum) (with_neighbours t.maximum ++ written_bounds t.written) z a) [
+  | inl h ↦ neighbours_fit t.minimum z h
+  | inr h ↦ elim (among_parts (with_neighbours t.maximum) (written_bounds t.written) z h) [ inl m ↦ neighbours_fit t.maximum z m | inr w ↦ written_fit t.written z w ]
+]
+
 -- 0 and 1 fit too
 pub integer_fits : (root : Node) (z : ℤ) → Among (all_integers root) z → fits_64_bits z ≡ true
 integer_fits root z a = elim (ascending_only int_cmp (pos 0 ∷ pos 1 ∷ in_scalars bounds_with_neighbours root) z a) [
   | inl e ↦ rw (← e) refl
   | inr (inl e) ↦ rw (← e) refl
-  | inr (inr b) ↦ node_each (λ z. fits_64_bits z ≡ true) bounds_with_neighbours (λ t z c. elim (among_parts (with_neighbours t.minimum) (with_neighbours t.maximum) z c) [ inl h ↦ neighbours_fit t.minimum z h | inr h ↦ neighbours_fit t.maximum z h ]) root z b
+  | inr (inr b) ↦ node_each (λ z. fits_64_bits z ≡ true) bounds_with_neighbours bounds_fit root z b
 ]

@@ -1,5 +1,6 @@
 -- The suggested document is one that pools are read from.
 use Rattle.std.proofs.Common.{◌≡◌, ◌⊎◌, ℕ, zero, suc, ℤ, List, [], ◌∷◌, ◌++◌, Bool, true, false, Some, map, take, filter_map, refl, sym, ap, ◌∙◌, subst, inl, inr}
+use Rattle.std.specs.Option.{option_to_list}
 use Rattle.std.specs.Prelude.{codes, filter, not}
 use Rattle.std.specs.List.{fold}
 use Rattle.std.specs.Str.{bytes_eq}
@@ -11,30 +12,33 @@ use Rattle.jtree.specs.Order.{text_cmp}
 use Rattle.jtree.specs.Internal.Lookups.{bool_cases, ordering_cases, same_name}
 use Rattle.schema.specs.Document.Texts.{is_among}
 use Rattle.schema.specs.Nodes.Node.{Node}
+use Rattle.schema.specs.declared.profile.Profile.{Profile}
+use Rattle.schema.specs.declared.profile.Profile.TheVariants.{Core, Cluster}
 use Rattle.plan.specs.Pools.Pools.{items_list, standard}
 use Rattle.plan.specs.declared.pool_limits.PoolLimits.{PoolLimits}
-use Rattle.plan.specs.Pools.Document.{PoolForm, entries, lists, pool_form, BreaksPool, other_name, no_list, other_entry, no_lists, no_list_at, BreaksForm, no_object, in_member, HasForm, integer_of, text_of, pools_of}
+use Rattle.plan.specs.Pools.Document.{PoolForm, entries, lists, pool_form, BreaksPool, other_name, no_list, other_entry, no_lists, no_list_at, BreaksForm, no_object, in_member, HasFormBy, is_any_number, integer_of, text_of, pools_of}
+use Rattle.suggest.specs.Suggested.Halves.{has_numbers, half_read, half_after, halves}
 use Rattle.suggest.specs.Suggested.Values.{all_integers, all_lengths}
 use Rattle.jtree.specs.MemberPlace.{with_member}
-use Rattle.suggest.specs.Suggested.Document.{items_of, letters, suggested_any, suggested_integers, suggested_strings, with_entry, members_from, without_entry, usual_names, lists_member, texts_member, document_with, document_of}
+use Rattle.suggest.specs.Suggested.Document.{items_of, letters, suggested_any, suggested_integers, suggested_numbers, suggested_strings, with_entry, members_from, without_entry, usual_names, lists_member, texts_member, values_member, document_with, document_of}
 use Rattle.suggest.specs.Suggested.Chosen.{chosen_names}
 use Rattle.suggest.specs.Suggested.Lists.{Entry}
 use Rattle.suggest.specs.Suggested.Varied.{Suggestions}
 
 -- ---- what breaks the form
 
-record IsBrokenMember (d : Data) : Type 0 where
+record IsBrokenMember (profile : Profile) (d : Data) : Type 0 where
   pub members : Members
   pub is : d ≡ object members
   pub name : List ℕ
   pub value : Data
   pub there : member_at name members ≡ Some value
   pub path : Path
-  pub breaks : BreaksPool (pool_form name) value path
+  pub breaks : BreaksPool (pool_form profile name) value path
 
-break_cases : (d : Data) (path : Path) → BreaksForm d path → (is_object d ≡ false) ⊎ IsBrokenMember d
-break_cases d path (no_object _ e) = inl e
-break_cases d path (in_member ms k v rest there b) = inr (record { members = ms; is = refl; name = k; value = v; there = there; path = rest; breaks = b })
+break_cases : (profile : Profile) (d : Data) (path : Path) → BreaksForm profile d path → (is_object d ≡ false) ⊎ IsBrokenMember profile d
+break_cases profile d path (no_object _ e) = inl e
+break_cases profile d path (in_member ms k v rest there b) = inr (record { members = ms; is = refl; name = k; value = v; there = there; path = rest; breaks = b })
 
 record IsOtherEntry (test : Data → Bool) (d : Data) : Type 0 where
   pub items : Items
@@ -87,26 +91,26 @@ unbroken test ds all d path same b = elim (list_cases (entries test) d path b) [
 -- ---- each member is of its form
 
 -- nothing is broken in the member of this name
-abbrev IsUnbroken : List ℕ → Data → Type 0
-IsUnbroken k d = (path : Path) → BreaksPool (pool_form k) d path → ⊥
+abbrev IsUnbroken : Profile → List ℕ → Data → Type 0
+IsUnbroken profile k d = (path : Path) → BreaksPool (pool_form profile k) d path → ⊥
 
-abbrev AreUnbroken : Members → Type 0
-AreUnbroken no_members = Unit {0}
-AreUnbroken (member k d ms) = IsUnbroken k d × AreUnbroken ms
+abbrev AreUnbroken : Profile → Members → Type 0
+AreUnbroken profile no_members = Unit {0}
+AreUnbroken profile (member k d ms) = IsUnbroken profile k d × AreUnbroken profile ms
 
-unbroken_at : (ms : Members) → AreUnbroken ms → (k : List ℕ) (v : Data) → member_at k ms ≡ Some v → IsUnbroken k v
-unbroken_at no_members all k v there = absurd (none-some v there)
-unbroken_at (member l d ms) all k v there = elim (bool_cases (bytes_eq k l)) [
-  | inl t ↦ subst (IsUnbroken k) (same_Some d v (rw t at there)) (subst (λ n. IsUnbroken n d) (sym (same_name k l t)) all.0)
-  | inr f ↦ unbroken_at ms all.1 k v (rw f at there)
+unbroken_at : (profile : Profile) (ms : Members) → AreUnbroken profile ms → (k : List ℕ) (v : Data) → member_at k ms ≡ Some v → IsUnbroken profile k v
+unbroken_at profile no_members all k v there = absurd (none-some v there)
+unbroken_at profile (member l d ms) all k v there = elim (bool_cases (bytes_eq k l)) [
+  | inl t ↦ subst (IsUnbroken profile k) (same_Some d v (rw t at there)) (subst (λ n. IsUnbroken profile n d) (sym (same_name k l t)) all.0)
+  | inr f ↦ unbroken_at profile ms all.1 k v (rw f at there)
 ]
 
-form_of : (ms : Members) → AreUnbroken ms → HasForm (object ms)
-form_of ms all path b = elim (break_cases (object ms) path b) [
+form_of : (profile : Profile) (ms : Members) → AreUnbroken profile ms → HasFormBy profile (object ms)
+form_of profile ms all path b = elim (break_cases profile (object ms) path b) [
   | inl e ↦ cc
   | inr m ↦
       let same : ms ≡ m.members = let is = m.is in cc in
-      unbroken_at ms all m.name m.value (subst (λ ns. member_at m.name ns ≡ Some m.value) (sym same) m.there) m.path m.breaks
+      unbroken_at profile ms all m.name m.value (subst (λ ns. member_at m.name ns ≡ Some m.value) (sym same) m.there) m.path m.breaks
 ]
 
 -- ---- objects of lists
@@ -171,40 +175,78 @@ unbroken_lists ms all path b = elim (lists_cases lists (object ms) path b) [
 unbroken_entries : (test : Data → Bool) (ds : List Data) → AllPass test ds → (path : Path) → BreaksPool (entries test) (list (items_of ds)) path → ⊥
 unbroken_entries test ds all path b = unbroken test ds all (list (items_of ds)) path refl b
 
-lists_member_form : (k : List ℕ) (fs ms : Members) → pool_form k ≡ lists → AreLists fs → AreUnbroken ms → AreUnbroken (lists_member k fs ms)
-lists_member_form k no_members ms is all rest = rest
-lists_member_form k (member l d fs) ms is all rest = (λ path b. unbroken_lists (member l d fs) all path (subst (λ f. BreaksPool f (object (member l d fs)) path) is b), rest)
+lists_member_form : (profile : Profile) (k : List ℕ) (fs ms : Members) → pool_form profile k ≡ lists → AreLists fs → AreUnbroken profile ms → AreUnbroken profile (lists_member k fs ms)
+lists_member_form profile k no_members ms is all rest = rest
+lists_member_form profile k (member l d fs) ms is all rest = (λ path b. unbroken_lists (member l d fs) all path (subst (λ f. BreaksPool f (object (member l d fs)) path) is b), rest)
 
 texts_pass : (ts : List (List ℕ)) → AllPass is_text (map (λ t. text t) ts)
 texts_pass ts = all_of is_text (λ t. text t) (λ t. refl) ts
 
-texts_member_form : (k : List ℕ) (ts : List (List ℕ)) (ms : Members) → pool_form k ≡ entries is_text → AreUnbroken ms → AreUnbroken (texts_member k ts ms)
-texts_member_form k [] ms is rest = rest
-texts_member_form k (t ∷ ts) ms is rest =
+texts_member_form : (profile : Profile) (k : List ℕ) (ts : List (List ℕ)) (ms : Members) → pool_form profile k ≡ entries is_text → AreUnbroken profile ms → AreUnbroken profile (texts_member k ts ms)
+texts_member_form profile k [] ms is rest = rest
+texts_member_form profile k (t ∷ ts) ms is rest =
     (λ path b. unbroken_entries is_text (map (λ s. text s) (t ∷ ts)) (texts_pass (t ∷ ts)) path (subst (λ f. BreaksPool f (list (items_of (map (λ s. text s) (t ∷ ts)))) path) is b), rest)
 
 all_pass : (ds : List Data) → AllPass (λ d. true) ds
 all_pass [] = tt
 all_pass (d ∷ ds) = (refl, all_pass ds)
 
-form_with : (any : List Data) (fixed : Members) (integers : List Data) (names : List (List ℕ)) (paths : Members) (present : List (List ℕ)) (strings : List Data)
-    → AllPass is_integer integers → AllPass is_text strings → AreLists fixed → AreLists paths → HasForm (document_with any fixed integers names paths present strings)
-form_with any fixed integers names paths present strings pi ps lf lp = form_of _ (
+-- numbers that there may be
+abbrev pub AreNumbersBy : Profile → List Data → Type 0
+AreNumbersBy Core ds = ds ≡ []
+AreNumbersBy Cluster ds = AllPass is_any_number ds
+
+numbers_form_of : (profile : Profile) (ds : List Data) (ms : Members) → AreNumbersBy profile ds → AreUnbroken profile ms → AreUnbroken profile (values_member (codes "numbers") ds ms)
+numbers_form_of Core [] ms are rest = rest
+numbers_form_of Core (d ∷ ds) ms are rest = absurd (cc)
+numbers_form_of Cluster [] ms are rest = rest
+numbers_form_of Cluster (d ∷ ds) ms are rest = ((λ path b. unbroken_entries is_any_number (d ∷ ds) are path b), rest)
+
+form_with : (profile : Profile) (any : List Data) (fixed : Members) (integers : List Data) (names : List (List ℕ)) (numbers : List Data) (paths : Members) (present : List (List ℕ)) (strings : List Data)
+    → AllPass is_integer integers → AreNumbersBy profile numbers → AllPass is_text strings → AreLists fixed → AreLists paths → HasFormBy profile (document_with any fixed integers names numbers paths present strings)
+form_with profile any fixed integers names numbers paths present strings pi pn ps lf lp = form_of profile _ (
   (λ path b. unbroken_entries (λ d. true) any (all_pass any) path b),
-  lists_member_form (codes "fixed") fixed _ refl lf (
+  lists_member_form profile (codes "fixed") fixed _ refl lf (
     (λ path b. unbroken_entries is_integer integers pi path b),
     (
       (λ path b. unbroken_entries is_text (map (λ t. text t) names) (texts_pass names) path b),
-      lists_member_form (codes "paths") paths _ refl lp (
-          texts_member_form (codes "present") present _ refl ((λ path b. unbroken_entries is_text strings ps path b), tt)),
+      numbers_form_of profile numbers _ pn (
+          lists_member_form profile (codes "paths") paths _ refl lp (
+          texts_member_form profile (codes "present") present _ refl ((λ path b. unbroken_entries is_text strings ps path b), tt))),
     ),
   ),
 )
 
-pub suggested_form : (limits : PoolLimits) (root : Node) (without : List (List ℕ)) (said : Suggestions) → HasForm (document_of limits root without said)
-suggested_form limits root without said = form_with suggested_any _ (suggested_integers root) _ _ _ (suggested_strings root)
-    (all_of is_integer (λ z. integer z) (λ z. refl) (take standard.entries (all_integers root))) (all_of is_text (λ n. text (letters n)) (λ n. refl) (take standard.entries (all_lengths root)))
+pub suggested_form : (profile : Profile) (limits : PoolLimits) (root : Node) (without : List (List ℕ)) (said : Suggestions) → AreNumbersBy profile (suggested_numbers root) → HasFormBy profile (document_of limits root without said)
+suggested_form profile limits root without said numbers = form_with profile suggested_any _ (suggested_integers root) _ (suggested_numbers root) _ _ (suggested_strings root)
+    (all_of is_integer (λ z. integer z) (λ z. refl) (take standard.entries (all_integers root))) numbers (all_of is_text (λ n. text (letters n)) (λ n. refl) (take standard.entries (all_lengths root)))
     (members_are_lists (said.fixed ++ map without_entry without)) (members_are_lists (take limits.paths said.lists))
+
+-- ---- the numbers
+
+filtered_pass : (test : Data → Bool) (ds : List Data) → AllPass test (filter test ds)
+filtered_pass test [] = tt
+filtered_pass test (d ∷ ds) = elim (bool_cases (test d)) [
+  | inl t ↦ rw t (t, filtered_pass test ds)
+  | inr f ↦ rw f (filtered_pass test ds)
+]
+
+both_pass : (test : Data → Bool) (ds es : List Data) → AllPass test ds → AllPass test es → AllPass test (ds ++ es)
+both_pass test [] es p q = q
+both_pass test (d ∷ ds) es p q = (p.0, both_pass test ds es p.1 q)
+
+halves_pass : (zs : List ℤ) → AllPass is_any_number (halves zs)
+halves_pass [] = tt
+halves_pass (z ∷ zs) = both_pass is_any_number (half_after z) (halves zs) (filtered_pass is_any_number (option_to_list (half_read z))) (halves_pass zs)
+
+pub cluster_numbers : (root : Node) → AreNumbersBy Cluster (suggested_numbers root)
+cluster_numbers root = elim (bool_cases (has_numbers root)) as (λ _. AllPass is_any_number (suggested_numbers root)) [
+  | inl t ↦ rw t (halves_pass (take standard.entries (all_integers root)))
+  | inr f ↦ rw f tt
+]
+
+pub core_numbers : (root : Node) → has_numbers root ≡ false → AreNumbersBy Core (suggested_numbers root)
+core_numbers root none = rw none refl
 
 -- ---- its pools
 
@@ -231,20 +273,28 @@ record HasPools (d : Data) (fixed : Members) (integers : List Data) (paths : Mem
   pub present_is : (pools_of d).present ≡ present
   pub strings_are : (pools_of d).strings ≡ filter_map text_of (items_list (items_of strings))
 
-pools_with : (any : List Data) (fixed : Members) (integers : List Data) (names : List (List ℕ)) (paths : Members) (present : List (List ℕ)) (strings : List Data)
-    → HasPools (document_with any fixed integers names paths present strings) fixed integers paths present strings
-pools_with any no_members integers names no_members [] strings = record { fixed_is = refl; integers_are = refl; paths_are = refl; present_is = refl; strings_are = refl }
-pools_with any no_members integers names no_members (t ∷ ts) strings = record { fixed_is = refl; integers_are = refl; paths_are = refl; present_is = texts_same (t ∷ ts); strings_are = refl }
-pools_with any no_members integers names (member k d ms) [] strings = record { fixed_is = refl; integers_are = refl; paths_are = refl; present_is = refl; strings_are = refl }
-pools_with any no_members integers names (member k d ms) (t ∷ ts) strings = record { fixed_is = refl; integers_are = refl; paths_are = refl; present_is = texts_same (t ∷ ts); strings_are = refl }
-pools_with any (member l e ns) integers names no_members [] strings = record { fixed_is = refl; integers_are = refl; paths_are = refl; present_is = refl; strings_are = refl }
-pools_with any (member l e ns) integers names no_members (t ∷ ts) strings = record { fixed_is = refl; integers_are = refl; paths_are = refl; present_is = texts_same (t ∷ ts); strings_are = refl }
-pools_with any (member l e ns) integers names (member k d ms) [] strings = record { fixed_is = refl; integers_are = refl; paths_are = refl; present_is = refl; strings_are = refl }
-pools_with any (member l e ns) integers names (member k d ms) (t ∷ ts) strings = record { fixed_is = refl; integers_are = refl; paths_are = refl; present_is = texts_same (t ∷ ts); strings_are = refl }
+pools_with : (any : List Data) (fixed : Members) (integers : List Data) (names : List (List ℕ)) (numbers : List Data) (paths : Members) (present : List (List ℕ)) (strings : List Data)
+    → HasPools (document_with any fixed integers names numbers paths present strings) fixed integers paths present strings
+pools_with any no_members integers names [] no_members [] strings = record { fixed_is = refl; integers_are = refl; paths_are = refl; present_is = refl; strings_are = refl }
+pools_with any no_members integers names [] no_members (t ∷ ts) strings = record { fixed_is = refl; integers_are = refl; paths_are = refl; present_is = texts_same (t ∷ ts); strings_are = refl }
+pools_with any no_members integers names [] (member k d ms) [] strings = record { fixed_is = refl; integers_are = refl; paths_are = refl; present_is = refl; strings_are = refl }
+pools_with any no_members integers names [] (member k d ms) (t ∷ ts) strings = record { fixed_is = refl; integers_are = refl; paths_are = refl; present_is = texts_same (t ∷ ts); strings_are = refl }
+pools_with any no_members integers names (v ∷ vs) no_members [] strings = record { fixed_is = refl; integers_are = refl; paths_are = refl; present_is = refl; strings_are = refl }
+pools_with any no_members integers names (v ∷ vs) no_members (t ∷ ts) strings = record { fixed_is = refl; integers_are = refl; paths_are = refl; present_is = texts_same (t ∷ ts); strings_are = refl }
+pools_with any no_members integers names (v ∷ vs) (member k d ms) [] strings = record { fixed_is = refl; integers_are = refl; paths_are = refl; present_is = refl; strings_are = refl }
+pools_with any no_members integers names (v ∷ vs) (member k d ms) (t ∷ ts) strings = record { fixed_is = refl; integers_are = refl; paths_are = refl; present_is = texts_same (t ∷ ts); strings_are = refl }
+pools_with any (member l e ns) integers names [] no_members [] strings = record { fixed_is = refl; integers_are = refl; paths_are = refl; present_is = refl; strings_are = refl }
+pools_with any (member l e ns) integers names [] no_members (t ∷ ts) strings = record { fixed_is = refl; integers_are = refl; paths_are = refl; present_is = texts_same (t ∷ ts); strings_are = refl }
+pools_with any (member l e ns) integers names [] (member k d ms) [] strings = record { fixed_is = refl; integers_are = refl; paths_are = refl; present_is = refl; strings_are = refl }
+pools_with any (member l e ns) integers names [] (member k d ms) (t ∷ ts) strings = record { fixed_is = refl; integers_are = refl; paths_are = refl; present_is = texts_same (t ∷ ts); strings_are = refl }
+pools_with any (member l e ns) integers names (v ∷ vs) no_members [] strings = record { fixed_is = refl; integers_are = refl; paths_are = refl; present_is = refl; strings_are = refl }
+pools_with any (member l e ns) integers names (v ∷ vs) no_members (t ∷ ts) strings = record { fixed_is = refl; integers_are = refl; paths_are = refl; present_is = texts_same (t ∷ ts); strings_are = refl }
+pools_with any (member l e ns) integers names (v ∷ vs) (member k d ms) [] strings = record { fixed_is = refl; integers_are = refl; paths_are = refl; present_is = refl; strings_are = refl }
+pools_with any (member l e ns) integers names (v ∷ vs) (member k d ms) (t ∷ ts) strings = record { fixed_is = refl; integers_are = refl; paths_are = refl; present_is = texts_same (t ∷ ts); strings_are = refl }
 
 module _ (limits : PoolLimits) (root : Node) (without : List (List ℕ)) (said : Suggestions) where
   parts : HasPools (document_of limits root without said) (members_from (said.fixed ++ map without_entry without)) (suggested_integers root) (members_from (take limits.paths said.lists)) (filter (λ t. not (is_among t without)) said.present) (suggested_strings root)
-  parts = pools_with suggested_any (members_from (said.fixed ++ map without_entry without)) (suggested_integers root) (chosen_names limits.names (said.names ++ usual_names)) (members_from (take limits.paths said.lists)) (filter (λ t. not (is_among t without)) said.present) (suggested_strings root)
+  parts = pools_with suggested_any (members_from (said.fixed ++ map without_entry without)) (suggested_integers root) (chosen_names limits.names (said.names ++ usual_names)) (suggested_numbers root) (members_from (take limits.paths said.lists)) (filter (λ t. not (is_among t without)) said.present) (suggested_strings root)
 
   pub pool_fixed : (pools_of (document_of limits root without said)).fixed ≡ members_from (said.fixed ++ map without_entry without)
   pool_fixed = parts.fixed_is

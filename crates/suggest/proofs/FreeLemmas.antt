@@ -16,18 +16,22 @@ use Rattle.schema.specs.Nodes.ByPlace.{Declared, field_at, node_below}
 use Rattle.schema.specs.declared.node.Constraints.{Constraints}
 use Rattle.schema.specs.declared.node.ListType.TheVariants.{Atomic, Set, Map}
 use Rattle.schema.specs.declared.node.ScalarKind.{ScalarKind}
-use Rattle.schema.specs.declared.node.ScalarKind.TheVariants.{Boolean, Integer, String, IntOrString}
+use Rattle.schema.specs.declared.node.ScalarKind.TheVariants.{Boolean, Integer, Number, String, IntOrString}
 use Rattle.stored.specs.Objects.Becomes.{IsStored}
 use Rattle.stored.specs.Objects.Fault.{is_null, constraints_of, items_count, members_count}
 use Rattle.stored.specs.Objects.Parts.{at, part_of, part_by_path, leads}
-use Rattle.stored.specs.Objects.Tests.{accepts_scalar, is_same, is_choice, is_other_value, meets_constraints, holds}
+use Rattle.stored.specs.Objects.Tests.{accepts_scalar, is_same, is_choice, is_other_value, fails_enum, meets_constraints, holds}
 use Rattle.stored.specs.Objects.StoredByParts.{IsValidHere, IsStoredField}
 use Rattle.explain.specs.Paths.FieldPath.{FieldStep, field, item, value, FieldPath, place_step}
 use Rattle.explain.specs.Paths.PathText.{path_text}
 use Rattle.plan.specs.Pools.Pools.{Pools, items_list, list_at, fixed_at, is_present}
 use Rattle.plan.specs.Samples.Site.{below, fixed_below}
-use Rattle.plan.specs.Samples.Over.{scalars_of, listed, listed_for, is_in, all_names, asks_field, has_present, has_enough, is_over_here, StepFollows, IsOverAlong}
-use Rattle.suggest.specs.Suggested.VariedSamples.{are_declared}
+use Rattle.plan.specs.Samples.Over.{scalars_of, scalars_for, listed, listed_for, is_in, all_names, asks_field, has_present, has_enough, is_over_here, StepFollows, IsOverAlong}
+use Rattle.plan.specs.Samples.Leasts.{has_lesser}
+use Rattle.plan.specs.Internal.LeastLaws.{least_in, none_lesser}
+use Rattle.suggest.specs.Suggested.Leasts.{IsLeastAmong, IsLeastAt}
+use Rattle.suggest.specs.Suggested.LeftOut.{Follows}
+use Rattle.suggest.specs.Suggested.VariedSamples.{can_be_sampled}
 use Rattle.suggest.specs.Suggested.Chosen.{chosen_values}
 use Rattle.suggest.specs.Suggested.ValuesBelow.{field_values, items_in, item_values, trees_of, names_of, members_in, member_values, member_names}
 use Rattle.suggest.specs.Suggested.LeafValues.{General, takes, lists_itself, general_values, hinted_values, or_general, joined, leaf_values}
@@ -37,9 +41,26 @@ use Rattle.suggest.proofs.EntryLemmas.{values_at}
 use Rattle.suggest.proofs.SuggestionLemmas.{OneText, further, other_field, before_off, lists_off, lists_off_fields, left_same, right_same}
 use Rattle.suggest.proofs.UncutLemmas.{own_same, values_uncut, some_chosen}
 
--- each object part at an object node has declared names alone
-abbrev pub AreAllDeclared : Node → Data → Type 0
-AreAllDeclared N v = (path : Path) (M : Node) (w : Data) → part_by_path leads (at N v) path ≡ Some (at M w) → are_declared M w ≡ true
+-- samples can have each part at its node
+abbrev pub CanAllBeSampled : Node → Data → Type 0
+CanAllBeSampled N v = (path : Path) (M : Node) (w : Data) → part_by_path leads (at N v) path ≡ Some (at M w) → can_be_sampled M w ≡ true
+
+-- each part that is a number is the least of its value among what is listed for it
+abbrev pub AreAllLeast : Pools → List ℕ → Node → Data → Type 0
+AreAllLeast P at_path N v = (path : Path) (p : FieldPath) (M : Node) (w : Data) → Follows path p → part_by_path leads (at N v) path ≡ Some (at M w) → IsLeastAt P (at_path ++ path_text p) M w
+
+least_there : (ds : List Data) (v : Data) → IsLeastAmong ds v → has_lesser v ds ≡ false
+least_there ds (tree.number s) least = least
+least_there ds tree.null least = none_lesser tree.null ds refl
+least_there ds (tree.boolean b) least = none_lesser (tree.boolean b) ds refl
+least_there ds (tree.integer z) least = none_lesser (tree.integer z) ds refl
+least_there ds (tree.text s) least = none_lesser (tree.text s) ds refl
+least_there ds (tree.list es) least = none_lesser (tree.list es) ds refl
+least_there ds (tree.object ms) least = none_lesser (tree.object ms) ds refl
+
+-- what is listed and is the least is over the pools
+pub in_listed : (P : Pools) (path : List ℕ) (N : Node) (v : Data) → IsLeastAt P path N v → is_in v (unwrap_or (list_at path P) (listed_for P N)) ≡ true → is_in v (listed P path N) ≡ true
+in_listed P path N v least there = least_in v (unwrap_or (list_at path P) (listed_for P N)) there (least_there (unwrap_or (list_at path P) (listed_for P N)) v least)
 
 -- ---- parts at nodes below
 
@@ -57,9 +78,14 @@ leads_there N M v w (index i) (field k) follows down found = absurd follows
 leads_there N M v w (index i) value follows down found = absurd follows
 leads_there N M v w s t follows down found = absurd (cc)
 
-declared_below : (N M : Node) (v w : Data) (s : Step) (t : FieldStep) → StepFollows s t → node_below N (place_step t) ≡ Some M → part_by v s ≡ Some w → AreAllDeclared N v → AreAllDeclared M w
-declared_below N M v w s t follows down found h path K u there =
+sampled_below : (N M : Node) (v w : Data) (s : Step) (t : FieldStep) → StepFollows s t → node_below N (place_step t) ≡ Some M → part_by v s ≡ Some w → CanAllBeSampled N v → CanAllBeSampled M w
+sampled_below N M v w s t follows down found h path K u there =
     h (s ∷ path) K u (ap (option_and_then (λ r. part_by_path leads r path)) (leads_there N M v w s t follows down found) ∙ there)
+
+least_below : (P : Pools) (at_path : List ℕ) (N M : Node) (v w : Data) (s : Step) (t : FieldStep) → StepFollows s t → node_below N (place_step t) ≡ Some M → part_by v s ≡ Some w → AreAllLeast P at_path N v
+    → AreAllLeast P (below at_path t) M w
+least_below P at_path N M v w s t follows down found h path p K u on there = subst (λ x. IsLeastAt P x K u) (sym (further at_path t p))
+    (h (s ∷ path) (t ∷ p) K u (follows, on) (ap (option_and_then (λ r. part_by_path leads r path)) (leads_there N M v w s t follows down found) ∙ there))
 
 -- ---- what stands below
 
@@ -171,7 +197,8 @@ pub record IsFreePart (P : Pools) (G : General) (path : List ℕ) (N : Node) (v 
   pub among : Among values v
   pub ordered : IsNode N
   pub stored : IsStored N v
-  pub declared : AreAllDeclared N v
+  pub sampled : CanAllBeSampled N v
+  pub least : AreAllLeast P path N v
   pub free : AreFree P path (lists_at G values default schema path N)
   pub named : (k : List ℕ) → Among (names_at values N) k → is_among k P.names ≡ true
 
@@ -212,10 +239,10 @@ standing_listed most G N (u ∷ us) hinted v path o a room is short ds itself = 
 ]
 
 leaf_listed : (P : Pools) (G : General) (path : List ℕ) (N : Node) (vs : List Data) (default schema : Option Data) (v : Data) → AreShort P G.limits.entries → 0 < G.limits.entries
-    → Among vs v → takes N v ≡ true → (lists_itself N ≡ true → is_in v (listed_for P N) ≡ true) → AreFree P path (entry_of path (leaf_values G vs default schema N)) → is_in v (listed P path N) ≡ true
-leaf_listed P G path N vs default schema v short room a accepted itself f =
-    standing_listed G.limits.entries G N (filter (takes N) vs) (hinted_values G N default schema) v path (list_at path P) (among_kept (takes N) vs v a accepted) room
-    (subst (λ t. list_at t P ≡ values_at t (entry_of path (leaf_values G vs default schema N))) (append-nil path) (f.lists [])) (short path) (listed_for P N) itself
+    → Among vs v → takes N v ≡ true → (lists_itself N ≡ true → is_in v (listed_for P N) ≡ true) → IsLeastAt P path N v → AreFree P path (entry_of path (leaf_values G vs default schema N)) → is_in v (listed P path N) ≡ true
+leaf_listed P G path N vs default schema v short room a accepted itself least f = in_listed P path N v least
+    (standing_listed G.limits.entries G N (filter (takes N) vs) (hinted_values G N default schema) v path (list_at path P) (among_kept (takes N) vs v a accepted) room
+    (subst (λ t. list_at t P ≡ values_at t (entry_of path (leaf_values G vs default schema N))) (append-nil path) (f.lists [])) (short path) (listed_for P N) itself)
 
 pub or_left : (a b : Bool) → a ≡ true → (a || b) ≡ true
 or_left true b e = refl
@@ -235,14 +262,45 @@ not_not : (b : Bool) → not (not b) ≡ true → b ≡ true
 not_not true e = refl
 not_not false e = absurd (cc)
 
-meets_choice : (t : Constraints) (ds : Items) (v : Data) → t.choices ≡ Some ds → meets_constraints t v ≡ true → is_choice v ds ≡ true
-meets_choice t ds v is m = not_not (is_choice v ds) (subst (λ o. not (is_other_value o v) ≡ true) is (and_parts (not (is_other_value t.choices v)) _ m).0)
+meets_choice : (t : Constraints) (ds : Items) (v : Data) → t.written ≡ None → t.choices ≡ Some ds → meets_constraints t v ≡ true → is_choice v ds ≡ true
+meets_choice t ds v unwritten is m =
+    let passes = rw unwritten at (and_parts (not (fails_enum t v)) _ m).0 in
+    not_not (is_choice v ds) (subst (λ o. not (is_other_value o v) ≡ true) is passes)
+
+third : (a b c : Bool) → a ≡ false → b ≡ false → (a || (b || c)) ≡ true → c ≡ true
+third a b c x y e = rw (x, y) at e
+
+-- where the schema as it is written is asked
+written_choice : (t : Constraints) (ds : Items) (ks : Members) (v : Data) → t.written ≡ Some ks → t.choices ≡ Some ds → is_null v ≡ false
+    → (is_null v || (not (is_some t.written) || not (is_other_value t.choices v))) ≡ true → is_choice v ds ≡ true
+written_choice t ds ks v written is some sampled =
+    let own = third (is_null v) (not (is_some t.written)) (not (is_other_value t.choices v)) some (ap (λ o. not (is_some o)) written) sampled in
+    not_not (is_choice v ds) (subst (λ o. not (is_other_value o v) ≡ true) is own)
 
 no_object : (kind : ScalarKind) (ms : Members) → accepts_scalar kind (tree.object ms) ≡ true → ⊥
 no_object Boolean ms e = cc
 no_object Integer ms e = cc
 no_object String ms e = cc
+no_object Number ms e = cc
 no_object IntOrString ms e = cc
+
+-- what is taken is not null
+no_null : (kind : ScalarKind) → accepts_scalar kind tree.null ≡ true → ⊥
+no_null Boolean e = cc
+no_null Integer e = cc
+no_null String e = cc
+no_null Number e = cc
+no_null IntOrString e = cc
+
+pub some_taken : (N : Node) (v : Data) → takes N v ≡ true → is_null v ≡ false
+some_taken (node nullable description (scalar kind cs)) tree.null e = absurd (no_null kind (and_parts (accepts_scalar kind tree.null) (holds cs tree.null) e).0)
+some_taken N tree.null e = absurd (cc)
+some_taken N (tree.boolean b) e = refl
+some_taken N (tree.integer z) e = refl
+some_taken N (tree.number s) e = refl
+some_taken N (tree.text s) e = refl
+some_taken N (tree.list ds) e = refl
+some_taken N (tree.object ms) e = refl
 
 scalar_meets : (kind : ScalarKind) (t : Constraints) (all any one negated : Branches) (v : Data) → accepts_scalar kind v ≡ true → holds (validations t all any one negated) v ≡ true → meets_constraints t v ≡ true
 scalar_meets kind t all any one negated tree.null accepted h = (and_parts _ _ h).0
@@ -268,20 +326,26 @@ boolean_listed P (tree.list ds) e = absurd (cc)
 boolean_listed P (tree.object ms) e = absurd (cc)
 
 without_choices : (P : Pools) (nullable : Bool) (description : Option (List ℕ)) (kind : ScalarKind) (cs : Validations) (v : Data) → (constraints_of cs).choices ≡ None → lists_itself (node nullable description (scalar kind cs)) ≡ true
-    → accepts_scalar kind v ≡ true → is_in v (scalars_of P) ≡ true
+    → accepts_scalar kind v ≡ true → is_in v (scalars_for kind P) ≡ true
 without_choices P nullable description Boolean cs v none itself accepted = boolean_listed P v accepted
 without_choices P nullable description Integer cs v none itself accepted = absurd (let is : is_some {T = Items} None ≡ true = rw none at itself in cc)
 without_choices P nullable description String cs v none itself accepted = absurd (let is : is_some {T = Items} None ≡ true = rw none at itself in cc)
+without_choices P nullable description Number cs v none itself accepted = absurd (let is : is_some {T = Items} None ≡ true = rw none at itself in cc)
 without_choices P nullable description IntOrString cs v none itself accepted = absurd (let is : is_some {T = Items} None ≡ true = rw none at itself in cc)
 
 -- a value that is taken there is over the pools where there is no list
-itself_listed : (P : Pools) (nullable : Bool) (description : Option (List ℕ)) (kind : ScalarKind) (cs : Validations) (v : Data) → takes (node nullable description (scalar kind cs)) v ≡ true
-    → lists_itself (node nullable description (scalar kind cs)) ≡ true → is_in v (listed_for P (node nullable description (scalar kind cs))) ≡ true
-itself_listed P nullable description kind (validations t all any one negated) v taken itself =
+itself_listed : (P : Pools) (nullable : Bool) (description : Option (List ℕ)) (kind : ScalarKind) (cs : Validations) (v : Data) → can_be_sampled (node nullable description (scalar kind cs)) v ≡ true
+    → takes (node nullable description (scalar kind cs)) v ≡ true → lists_itself (node nullable description (scalar kind cs)) ≡ true → is_in v (listed_for P (node nullable description (scalar kind cs))) ≡ true
+itself_listed P nullable description kind (validations t all any one negated) v sampled taken itself =
     let both = and_parts (accepts_scalar kind v) (holds (validations t all any one negated) v) taken in
+    let some = some_taken (node nullable description (scalar kind (validations t all any one negated))) v taken in
+    let chosen = λ (ds : Items) (is : t.choices ≡ Some ds). elim (option_cases t.written) as (λ _. is_choice v ds ≡ true) [
+      | inl unwritten ↦ meets_choice t ds v unwritten is (scalar_meets kind t all any one negated v both.0 both.1)
+      | inr written ↦ written_choice t ds written.0 v written.1 is some sampled
+    ] in
     elim (option_cases t.choices) [
       | inl none ↦ rw none (without_choices P nullable description kind (validations t all any one negated) v none itself both.0)
-      | inr some ↦ rw some.1 (sym (same_choice v some.0) ∙ meets_choice t some.0 v some.1 (scalar_meets kind t all any one negated v both.0 both.1))
+      | inr listed ↦ rw listed.1 (sym (same_choice v listed.0) ∙ chosen listed.0 listed.1)
     ]
 
 -- ---- what is valid is null or taken
@@ -308,19 +372,22 @@ open_valid nullable description (tree.object ms) h = inl refl
 
 -- ---- a part is over the pools at its node
 
+own_least : (P : Pools) (G : General) (path : List ℕ) (N : Node) (v : Data) → IsFreePart P G path N v → IsLeastAt P path N v
+own_least P G path N v f = subst (λ x. IsLeastAt P x N v) (append-nil path) (f.least [] [] N v tt refl)
+
 free_here : StoredLaw → (P : Pools) (G : General) (path : List ℕ) (N : Node) (v : Data) → AreShort P G.limits.entries → 0 < G.limits.entries → IsFreePart P G path N v → is_over_here P path N v ≡ true
 free_here law P G path (node nullable description (scalar kind cs)) v short room f = elim (scalar_valid nullable description kind cs v ((law (node nullable description (scalar kind cs)) v).0 f.stored).0) [
   | inl accepted ↦ or_left (is_in v (listed P path (node nullable description (scalar kind cs)))) (is_null v && nullable)
-      (leaf_listed P G path (node nullable description (scalar kind cs)) f.values f.default f.schema v short room f.among accepted (itself_listed P nullable description kind cs v accepted) f.free)
+      (leaf_listed P G path (node nullable description (scalar kind cs)) f.values f.default f.schema v short room f.among accepted (itself_listed P nullable description kind cs v (f.sampled [] (node nullable description (scalar kind cs)) v refl) accepted) (own_least P G path (node nullable description (scalar kind cs)) v f) f.free)
   | inr null ↦ or_right (is_in v (listed P path (node nullable description (scalar kind cs)))) (is_null v && nullable) null
 ]
 free_here law P G path (node nullable description open_) v short room f = elim (open_valid nullable description v ((law (node nullable description open_) v).0 f.stored).0) [
   | inl accepted ↦ or_left (is_in v (listed P path (node nullable description open_))) (is_null v && nullable)
-      (leaf_listed P G path (node nullable description open_) f.values f.default f.schema v short room f.among accepted (λ itself. absurd (cc)) f.free)
+      (leaf_listed P G path (node nullable description open_) f.values f.default f.schema v short room f.among accepted (λ itself. absurd (cc)) (own_least P G path (node nullable description open_) v f) f.free)
   | inr null ↦ or_right (is_in v (listed P path (node nullable description open_))) (is_null v && nullable) null
 ]
 free_here law P G path (node nullable description (object fs preserves type bounds cs)) (tree.object ms) short room f =
-    and_from (all_names (λ k. is_some (field_at k fs)) ms) (has_present P path fs ms) (f.declared [] (node nullable description (object fs preserves type bounds cs)) (tree.object ms) refl)
+    and_from (all_names (λ k. is_some (field_at k fs)) ms) (has_present P path fs ms) (f.sampled [] (node nullable description (object fs preserves type bounds cs)) (tree.object ms) refl)
     (none_missing P path fs ms (lists_at G f.values f.default f.schema path (node nullable description (object fs preserves type bounds cs))) f.free)
 free_here law P G path (node nullable description (object fs preserves type bounds cs)) tree.null short room f =
     ap not (none_asked P path fs (lists_at G f.values f.default f.schema path (node nullable description (object fs preserves type bounds cs))) f.free)
@@ -372,7 +439,8 @@ free_next law one P G path (node nullable description (object fs preserves type 
       among = among_under k p.values (tree.object ms) w p.among there;
       ordered = field_node fs k f.0 p.ordered f.1;
       stored = subst (λ o. IsStoredField f.0 o) there (parts.1.1 k f.0 f.1);
-      declared = subst (λ K. AreAllDeclared K w) (sym f.2) (declared_below (node nullable description (object fs preserves type bounds cs)) M (tree.object ms) w (name j) (field k) follows down found p.declared);
+      sampled = subst (λ K. CanAllBeSampled K w) (sym f.2) (sampled_below (node nullable description (object fs preserves type bounds cs)) M (tree.object ms) w (name j) (field k) follows down found p.sampled);
+      least = subst (λ K. AreAllLeast P (below path (field k)) K w) (sym f.2) (least_below P path (node nullable description (object fs preserves type bounds cs)) M (tree.object ms) w (name j) (field k) follows down found p.least);
       free = free_step P path (field k) (lists_of_fields G p.values p.schema path fs) (lists_at G (field_values k p.values) f.0.default (schema_of_field p.schema k) (below path (field k)) f.0.node)
           (λ q. field_lists one G p.values p.schema path fs k f.0 q p.ordered f.1) p.free;
       named = λ x a. p.named x (field_names p.values fs k f.0 x f.1 a);
@@ -387,7 +455,8 @@ free_next law one P G path (node nullable description (nodes.map N type bounds))
       among = among_flat (λ v. trees_of (members_in v)) p.values (tree.object ms) w p.among (among_trees ms j w found);
       ordered = p.ordered;
       stored = parts.1 j w found;
-      declared = subst (λ K. AreAllDeclared K w) (sym is) (declared_below (node nullable description (nodes.map N type bounds)) M (tree.object ms) w (name j) value follows down found p.declared);
+      sampled = subst (λ K. CanAllBeSampled K w) (sym is) (sampled_below (node nullable description (nodes.map N type bounds)) M (tree.object ms) w (name j) value follows down found p.sampled);
+      least = subst (λ K. AreAllLeast P (below path value) K w) (sym is) (least_below P path (node nullable description (nodes.map N type bounds)) M (tree.object ms) w (name j) value follows down found p.least);
       free = free_step P path value (lists_at G (member_values p.values) None (schema_of_values p.schema) (below path value) N) (lists_at G (member_values p.values) None (schema_of_values p.schema) (below path value) N)
           (λ q. refl) p.free;
       named = λ x a. p.named x (among_right (member_names p.values) (names_at (member_values p.values) N) x a);
@@ -402,7 +471,8 @@ free_next law one P G path (node nullable description (list N type keys bounds))
       among = among_flat items_in p.values (tree.list ds) w p.among (among_items ds i w found);
       ordered = p.ordered;
       stored = parts.1 i w found;
-      declared = subst (λ K. AreAllDeclared K w) (sym is) (declared_below (node nullable description (list N type keys bounds)) M (tree.list ds) w (index i) item follows down found p.declared);
+      sampled = subst (λ K. CanAllBeSampled K w) (sym is) (sampled_below (node nullable description (list N type keys bounds)) M (tree.list ds) w (index i) item follows down found p.sampled);
+      least = subst (λ K. AreAllLeast P (below path item) K w) (sym is) (least_below P path (node nullable description (list N type keys bounds)) M (tree.list ds) w (index i) item follows down found p.least);
       free = free_step P path item (lists_at G (item_values p.values) None (schema_of_items p.schema) (below path item) N) (lists_at G (item_values p.values) None (schema_of_items p.schema) (below path item) N)
           (λ q. refl) p.free;
       named = λ x a. p.named x a;
@@ -413,9 +483,9 @@ free_next law one P G path N M v w (index i) value follows down found p = absurd
 free_next law one P G path N M v w s t follows down found p = absurd (cc)
 
 unfixed_below : (P : Pools) (path : List ℕ) (N : Node) (t : FieldStep) → fixed_at (below path t) P ≡ None → fixed_below P path N t ≡ None
-unfixed_below P path (node nullable description (list N Map keys bounds)) t none = refl
+unfixed_below P path (node nullable description (list N (Map e) keys bounds)) t none = refl
 unfixed_below P path (node nullable description (list N Atomic keys bounds)) t none = none
-unfixed_below P path (node nullable description (list N Set keys bounds)) t none = none
+unfixed_below P path (node nullable description (list N (Set e) keys bounds)) t none = none
 unfixed_below P path (node nullable description (scalar kind cs)) t none = none
 unfixed_below P path (node nullable description open_) t none = none
 unfixed_below P path (node nullable description (object fs preserves type bounds cs)) t none = none

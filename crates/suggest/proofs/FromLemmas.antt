@@ -1,7 +1,6 @@
 -- What stands in objects at a leaf is listed for its path, and so it is a candidate there.
 use Rattle.std.proofs.Common.{◌≡◌, ◌<◌, ℕ, List, [], ◌∷◌, ◌++◌, true, false, ◌&&◌, Option, Some, None, length, map, filter, take, unwrap_or, refl, sym, ap, ◌∙◌, subst, inl, inr}
 use Rattle.std.specs.Str.{bytes_eq}
-use Rattle.std.proofs.lemmas.Bool.{and_parts}
 use Rattle.std.proofs.lemmas.Option.{none-some, same_Some}
 use Rattle.jtree.specs.Data.{Data}
 use Rattle.jtree.specs.Data as tree
@@ -9,14 +8,11 @@ use Rattle.jtree.specs.Path.{name, index, Path, part_by, part_at, under}
 use Rattle.jtree.specs.Internal.Lookups.{bool_cases, same_name, own_name}
 use Rattle.jtree.specs.Internal.Rising.{Among, among_parts, contained}
 use Rattle.schema.specs.Document.Texts.{is_among}
-use Rattle.schema.specs.Nodes.Node.{Node, node, scalar, object, list, open_, Fields, no_fields, Validations, IsNode, AreOrdered}
+use Rattle.schema.specs.Nodes.Node.{Node, node, scalar, object, list, open_, Fields, no_fields, IsNode, AreOrdered}
 use Rattle.schema.specs.Nodes.Node as nodes
 use Rattle.schema.specs.Nodes.ByPlace.{Declared, field_at, node_at}
-use Rattle.schema.specs.declared.node.ScalarKind.{ScalarKind}
-use Rattle.schema.specs.declared.node.ScalarKind.TheVariants.{Boolean, Integer, String, IntOrString}
 use Rattle.stored.specs.Objects.Becomes.{IsStored}
 use Rattle.stored.specs.Objects.Fault.{is_null}
-use Rattle.stored.specs.Objects.Tests.{accepts_scalar, holds}
 use Rattle.explain.specs.Paths.FieldPath.{field, item, value, FieldPath, place_of}
 use Rattle.explain.specs.Paths.PathText.{path_text}
 use Rattle.plan.specs.declared.sort.Sort.TheVariants.{Leaf}
@@ -33,7 +29,7 @@ use Rattle.suggest.specs.Suggested.ValuesBelow.{field_values, items_in, item_val
 use Rattle.suggest.specs.Suggested.Without.{taken_out, without_paths}
 use Rattle.suggest.proofs.VariedSampleLemmas.{StoredLaw, found_field, field_node}
 use Rattle.suggest.proofs.EntryLemmas.{later_or, values_of, values_at, pool_lists}
-use Rattle.suggest.proofs.FreeLemmas.{among_under, among_flat, among_trees, among_items, among_kept, or_left, or_right, scalar_valid, open_valid}
+use Rattle.suggest.proofs.FreeLemmas.{among_under, among_flat, among_trees, among_items, among_kept, in_listed, or_left, or_right, some_taken, scalar_valid, open_valid}
 use Rattle.suggest.proofs.LeftOutLemmas.{step_there, none_left_out, fixed_is}
 use Rattle.suggest.proofs.ObjectLemmas.{found_entry}
 use Rattle.suggest.proofs.PathLemmas.{entry_among}
@@ -182,23 +178,6 @@ listed_there one G (s ∷ path) (t ∷ p) vs default schema at N M x v e l is a 
 
 -- ---- a candidate
 
--- what is taken is not null
-no_null : (kind : ScalarKind) → accepts_scalar kind tree.null ≡ true → ⊥
-no_null Boolean e = cc
-no_null Integer e = cc
-no_null String e = cc
-no_null IntOrString e = cc
-
-some_taken : (N : Node) (v : Data) → takes N v ≡ true → is_null v ≡ false
-some_taken (node nullable description (scalar kind cs)) tree.null e = absurd (no_null kind (and_parts (accepts_scalar kind tree.null) (holds cs tree.null) e).0)
-some_taken N tree.null e = absurd (cc)
-some_taken N (tree.boolean b) e = refl
-some_taken N (tree.integer z) e = refl
-some_taken N (tree.number s) e = refl
-some_taken N (tree.text s) e = refl
-some_taken N (tree.list ds) e = refl
-some_taken N (tree.object ms) e = refl
-
 leaf_over : StoredLaw → (P : Pools) (text : List ℕ) (N : Node) (v : Data) → sort_at N ≡ Leaf → IsStored N v → (takes N v ≡ true → is_in v (listed P text N) ≡ true) → (path : Path) (p : FieldPath)
     → IsOverAlong P None text N v path p
 leaf_over law P text (node nullable description (scalar kind cs)) v leaf stored has [] [] = elim (scalar_valid nullable description kind cs v ((law (node nullable description (scalar kind cs)) v).0 stored).0) [
@@ -222,7 +201,7 @@ among_map f (u ∷ vs) v (inl e) = inl (ap f e)
 among_map f (u ∷ vs) v (inr a) = inr (among_map f vs v a)
 
 pub standing_candidate : StoredLaw → OneText → WhatStandsThereIsACandidate
-standing_candidate law one limits raw root vs ws x p N v ordered there s uncut =
+standing_candidate law one limits raw root vs ws x p N v ordered there s uncut least =
     let P = pools_from limits raw root vs ws in
     let w = without_paths root (from_objects vs ws) in
     let S = suggestions_by [] (general_of limits root) w raw root in
@@ -245,7 +224,7 @@ standing_candidate law one limits raw root vs ws x p N v ordered there s uncut =
       free = refl;
       short = subst (λ ds. length ds < limits.entries) (sym e.values) list.2;
     }) e.path (among_taken limits.paths S.lists e.entry e.among) in
-    subst (λ o. is_in v (unwrap_or o (listed_for P N)) ≡ true) (sym list.1) (subst (λ ds. is_in v ds ≡ true) e.values is_there) in
+    in_listed P (path_text p) N v least (subst (λ o. is_in v (unwrap_or o (listed_for P N)) ≡ true) (sym list.1) (subst (λ ds. is_in v ds ≡ true) e.values is_there)) in
     record {
       tree = s.tree;
       stored = s.stored;

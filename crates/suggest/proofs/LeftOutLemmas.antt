@@ -20,6 +20,7 @@ use Rattle.plan.specs.Pools.Pools.{Pools, fixed_at}
 use Rattle.plan.specs.Pools.Document.{pools_of}
 use Rattle.plan.specs.Pools.FixedPaths.{IsMapItem}
 use Rattle.plan.specs.Samples.Site.{below, fixed_below}
+use Rattle.plan.specs.Internal.LeastLaws.{in_leasts}
 use Rattle.plan.specs.Samples.Over.{is_in, StepFollows, IsOverAlong}
 use Rattle.suggest.specs.Suggested.Document.{general_of, for_variation, without_entry, single, suggestions_by, suggested_document}
 use Rattle.suggest.specs.Suggested.LeftOut.{Follows, NoSampleHasALeftOutPath}
@@ -265,12 +266,12 @@ ends_at (s ∷ q) t root N K there down =
 
 next_fixed : (P : Pools) (root N K : Node) (q p : FieldPath) (t : FieldStep) → node_at root (place_of q) ≡ Some N → node_below N (place_step t) ≡ Some K → (IsMapItem root (q ++ t ∷ p) → ⊥)
     → IsFixedHere P (fixed_below P (path_text q) N t) (below (path_text q) t) p
-next_fixed P root (node nullable description (list N Map keys bounds)) K q p item there down other =
-    inr (refl, λ e. other (q, (ap (λ x. q ++ item ∷ x) e, (node nullable description (list N Map keys bounds), (there, refl)))))
-next_fixed P root (node nullable description (list N Map keys bounds)) K q p (field k) there down other = absurd (cc)
-next_fixed P root (node nullable description (list N Map keys bounds)) K q p value there down other = absurd (cc)
+next_fixed P root (node nullable description (list N (Map e) keys bounds)) K q p item there down other =
+    inr (refl, λ same. other (q, (ap (λ x. q ++ item ∷ x) same, (node nullable description (list N (Map e) keys bounds), (there, refl)))))
+next_fixed P root (node nullable description (list N (Map e) keys bounds)) K q p (field k) there down other = absurd (cc)
+next_fixed P root (node nullable description (list N (Map e) keys bounds)) K q p value there down other = absurd (cc)
 next_fixed P root (node nullable description (list N Atomic keys bounds)) K q p t there down other = inl refl
-next_fixed P root (node nullable description (list N Set keys bounds)) K q p t there down other = inl refl
+next_fixed P root (node nullable description (list N (Set e) keys bounds)) K q p t there down other = inl refl
 next_fixed P root (node nullable description (scalar kind cs)) K q p t there down other = inl refl
 next_fixed P root (node nullable description open_) K q p t there down other = inl refl
 next_fixed P root (node nullable description (object fs preserves type bounds cs)) K q p t there down other = inl refl
@@ -279,7 +280,7 @@ next_fixed P root (node nullable description (nodes.map N type bounds)) K q p t 
 along : OneText → (limits : PoolLimits) (raw : Data) (root : Node) (w : Wanted) → IsNode root → (path : Path) (p q : FieldPath) (N M : Node) (v : Data) (fixed : Option (List Data)) → node_at root (place_of q) ≡ Some N
     → node_at N (place_of p) ≡ Some M → is_among (path_text q ++ path_text p) w.without ≡ true → (IsMapItem root (q ++ p) → ⊥) → Follows path p → IsFixedHere (pools limits raw root w) fixed (path_text q) p
     → IsOverAlong (pools limits raw root w) fixed (path_text q) N v path p → part_at v path ≡ None
-along one limits raw root w ordered path p q N M v (Some vs) there down gone other follows (inl here) over = fixed_clear one limits raw root w q p path N M vs v ordered there (sym here) over down gone follows
+along one limits raw root w ordered path p q N M v (Some vs) there down gone other follows (inl here) over = fixed_clear one limits raw root w q p path N M vs v ordered there (sym here) (in_leasts v vs over).0 down gone follows
 along one limits raw root w ordered path p q N M v (Some vs) there down gone other follows (inr here) over = absurd (let no = here.0 in cc)
 along one limits raw root w ordered [] [] q N M v None there down gone other follows (inl here) over =
     let none = left_out_fixed limits raw root w (path_text q) (subst (λ t. is_among t w.without ≡ true) (append-nil (path_text q)) gone) in

@@ -1,5 +1,5 @@
 -- An object is a sample over the pools around it, where nothing is cut.
-use Rattle.std.proofs.Common.{option_to_list, ◌≡◌, ◌≤◌, ◌<◌, ◌⊎◌, ℕ, List, [], ◌∷◌, ◌++◌, true, false, ◌||◌, not, Option, Some, None, All, length, option_and_then, is_some, refl, sym, ap, ◌∙◌, subst, inl, inr, append-nil}
+use Rattle.std.proofs.Common.{option_to_list, ◌≡◌, ◌≤◌, ◌<◌, ◌⊎◌, ℕ, List, [], ◌∷◌, ◌++◌, true, false, ◌||◌, not, Option, Some, None, All, length, option_and_then, is_some, refl, sym, ap, ◌∙◌, subst, inl, inr, append-nil, append_assoc}
 use Rattle.std.specs.Str.{bytes_eq}
 use Rattle.std.proofs.lemmas.Bool.{and_from}
 use Rattle.std.proofs.lemmas.List.{take_all}
@@ -16,14 +16,17 @@ use Rattle.stored.specs.Objects.Becomes.{IsStored}
 use Rattle.stored.specs.Objects.Parts.{at, part_by_path, leads}
 use Rattle.stored.specs.Objects.StoredByParts.{IsStoredField}
 use Rattle.explain.specs.Paths.FieldPath.{FieldStep, field, item, value, FieldPath, place_step}
-use Rattle.explain.specs.Paths.PathText.{path_text}
+use Rattle.explain.specs.Paths.PathText.{step_text, path_text}
 use Rattle.plan.specs.declared.pool_limits.PoolLimits.{PoolLimits}
 use Rattle.plan.specs.Pools.Pools.{Pools, list_at, is_present}
 use Rattle.plan.specs.Pools.Document.{pools_of}
 use Rattle.plan.specs.Samples.Site.{below, fixed_below}
-use Rattle.plan.specs.Samples.Over.{all_names, has_present, is_over_here, StepFollows, IsOverAlong}
+use Rattle.plan.specs.Samples.Over.{is_in, all_names, has_present, is_over_here, StepFollows, IsOverAlong}
 use Rattle.plan.specs.Samples.Part.{IsSample}
-use Rattle.suggest.specs.Suggested.VariedSamples.{path_of_names, are_declared, steps_of_names, TheObjectIsASample}
+use Rattle.plan.specs.Internal.LeastLaws.{leasts_one}
+use Rattle.suggest.specs.Suggested.Leasts.{IsLeastAt}
+use Rattle.suggest.specs.Suggested.LeftOut.{Follows}
+use Rattle.suggest.specs.Suggested.VariedSamples.{path_of_names, can_be_sampled, steps_of_names, HasLeasts, TheObjectIsASample}
 use Rattle.suggest.specs.Suggested.Document.{usual_names, general_of, for_variation, document_of}
 use Rattle.suggest.specs.Suggested.LeafValues.{General}
 use Rattle.suggest.specs.Suggested.Lists.{Entry, schema_of_field}
@@ -31,7 +34,7 @@ use Rattle.suggest.specs.Suggested.Varied.{Suggestions, both, leads_on, lists_al
 use Rattle.suggest.specs.declared.varying.Reach.TheVariants.{There}
 use Rattle.suggest.proofs.VariedSampleLemmas.{StoredLaw, AreSaidBelow, AreSaidAt, fixed_here, present_here, said_at_field, leads_at, kept_at, own_values, leading_unfixed, said_after, field_node, root_said, root_leads}
 use Rattle.suggest.proofs.EntryLemmas.{values_at, values_of, pool_lists, pool_names}
-use Rattle.suggest.proofs.FreeLemmas.{AreAllDeclared, leads_there, AreShort, IsFreePart, found_node, free_over}
+use Rattle.suggest.proofs.FreeLemmas.{CanAllBeSampled, AreAllLeast, leads_there, AreShort, IsFreePart, found_node, free_over}
 use Rattle.suggest.proofs.LeadingLemmas.{none_reached, object_reached, AreReached, reached_below, leading_text}
 use Rattle.suggest.proofs.SuggestionLemmas.{OneText, further, field_says, said_of_field, asks_below_same}
 use Rattle.suggest.proofs.UncutLemmas.{own_same, names_uncut}
@@ -75,24 +78,33 @@ free_at G ts v default schema path N varied = rw varied refl
 
 -- ---- a part of the object on the way to a varied path
 
--- from a path on: objects have declared names alone on the way, at varied paths, and below
-record AreDeclaredFrom (ts : List (List ℕ)) (path : List ℕ) (N : Node) (v : Data) : Type 0 where
-  pub on_the_way : (ks : List (List ℕ)) (M : Node) (w : Data) → leads_on (path ++ path_text (path_of_names ks)) ts ≡ true → part_by_path leads (at N v) (steps_of_names ks) ≡ Some (at M w) → are_declared M w ≡ true
-  pub at_varied : (ks : List (List ℕ)) (q : Path) (M : Node) (w : Data) → is_among (path ++ path_text (path_of_names ks)) ts ≡ true → part_by_path leads (at N v) (steps_of_names ks ++ q) ≡ Some (at M w) → are_declared M w ≡ true
+-- from a path on: samples can have the parts on the way, at varied paths, and below, and numbers at varied paths and below are the least
+record CanBeSampledFrom (P : Pools) (ts : List (List ℕ)) (path : List ℕ) (N : Node) (v : Data) : Type 0 where
+  pub on_the_way : (ks : List (List ℕ)) (M : Node) (w : Data) → leads_on (path ++ path_text (path_of_names ks)) ts ≡ true → part_by_path leads (at N v) (steps_of_names ks) ≡ Some (at M w) → can_be_sampled M w ≡ true
+  pub at_varied : (ks : List (List ℕ)) (q : Path) (M : Node) (w : Data) → is_among (path ++ path_text (path_of_names ks)) ts ≡ true → part_by_path leads (at N v) (steps_of_names ks ++ q) ≡ Some (at M w) → can_be_sampled M w ≡ true
+  pub least : (ks : List (List ℕ)) (q : Path) (p : FieldPath) (M : Node) (w : Data) → is_among (path ++ path_text (path_of_names ks)) ts ≡ true → Follows q p
+      → part_by_path leads (at N v) (steps_of_names ks ++ q) ≡ Some (at M w) → IsLeastAt P ((path ++ path_text (path_of_names ks)) ++ path_text p) M w
 
-declared_after : (ts : List (List ℕ)) (path k : List ℕ) (N M : Node) (v w : Data) → leads N v (name k) ≡ Some (at M w) → AreDeclaredFrom ts path N v → AreDeclaredFrom ts (below path (field k)) M w
-declared_after ts path k N M v w there d = record {
+sampled_after : (P : Pools) (ts : List (List ℕ)) (path k : List ℕ) (N M : Node) (v w : Data) → leads N v (name k) ≡ Some (at M w) → CanBeSampledFrom P ts path N v → CanBeSampledFrom P ts (below path (field k)) M w
+sampled_after P ts path k N M v w there d = record {
   on_the_way = λ ks K u way e. d.on_the_way (k ∷ ks) K u (subst (λ t. leads_on t ts ≡ true) (further path (field k) (path_of_names ks)) way)
       (ap (option_and_then (λ r. part_by_path leads r (steps_of_names ks))) there ∙ e);
   at_varied = λ ks q K u varied e. d.at_varied (k ∷ ks) q K u (subst (λ t. is_among t ts ≡ true) (further path (field k) (path_of_names ks)) varied)
       (ap (option_and_then (λ r. part_by_path leads r (steps_of_names ks ++ q))) there ∙ e);
+  least = λ ks q p K u varied on e. subst (λ t. IsLeastAt P (t ++ path_text p) K u) (sym (further path (field k) (path_of_names ks)))
+      (d.least (k ∷ ks) q p K u (subst (λ t. is_among t ts ≡ true) (further path (field k) (path_of_names ks)) varied) on
+      (ap (option_and_then (λ r. part_by_path leads r (steps_of_names ks ++ q))) there ∙ e));
 }
 
-declared_here : (ts : List (List ℕ)) (path : List ℕ) (N : Node) (v : Data) → leads_on path ts ≡ true → AreDeclaredFrom ts path N v → are_declared N v ≡ true
-declared_here ts path N v way d = d.on_the_way [] N v (subst (λ t. leads_on t ts ≡ true) (sym (append-nil path)) way) refl
+sampled_here : (P : Pools) (ts : List (List ℕ)) (path : List ℕ) (N : Node) (v : Data) → leads_on path ts ≡ true → CanBeSampledFrom P ts path N v → can_be_sampled N v ≡ true
+sampled_here P ts path N v way d = d.on_the_way [] N v (subst (λ t. leads_on t ts ≡ true) (sym (append-nil path)) way) refl
 
-all_declared : (ts : List (List ℕ)) (path : List ℕ) (N : Node) (v : Data) → is_among path ts ≡ true → AreDeclaredFrom ts path N v → AreAllDeclared N v
-all_declared ts path N v varied d q M w e = d.at_varied [] q M w (subst (λ t. is_among t ts ≡ true) (sym (append-nil path)) varied) e
+all_sampled : (P : Pools) (ts : List (List ℕ)) (path : List ℕ) (N : Node) (v : Data) → is_among path ts ≡ true → CanBeSampledFrom P ts path N v → CanAllBeSampled N v
+all_sampled P ts path N v varied d q M w e = d.at_varied [] q M w (subst (λ t. is_among t ts ≡ true) (sym (append-nil path)) varied) e
+
+all_least : (P : Pools) (ts : List (List ℕ)) (path : List ℕ) (N : Node) (v : Data) → is_among path ts ≡ true → CanBeSampledFrom P ts path N v → AreAllLeast P path N v
+all_least P ts path N v varied d q p M w on e = subst (λ t. IsLeastAt P (t ++ path_text p) M w) (append-nil path)
+    (d.least [] q p M w (subst (λ t. is_among t ts ≡ true) (sym (append-nil path)) varied) on e)
 
 record IsLeadingPart (P : Pools) (G : General) (ts : List (List ℕ)) (path : List ℕ) (N : Node) (v : Data) : Type 0 where
   pub schema : Option Data
@@ -100,7 +112,7 @@ record IsLeadingPart (P : Pools) (G : General) (ts : List (List ℕ)) (path : Li
   pub reached : AreReached ts (Some v) path N
   pub ordered : IsNode N
   pub stored : IsStored N v
-  pub declared : AreDeclaredFrom ts path N v
+  pub sampled : CanBeSampledFrom P ts path N v
   pub said : AreSaidBelow P path (suggestions_below G ts (Some v) schema path N)
   pub lists : AreListedBelow P path (suggestions_below G ts (Some v) schema path N)
   pub named : AreNamed P (suggestions_below G ts (Some v) schema path N)
@@ -147,7 +159,7 @@ leading_here one P G ts path (node nullable description (object fs preserves typ
     let o = object_reached t path v fs there in
     subst (λ w. is_over_here P path (node nullable description (object fs preserves type bounds cs)) w ≡ true) (sym o.1)
     (and_from (all_names (λ k. is_some (field_at k fs)) o.0) (has_present P path fs o.0)
-    (subst (λ w. are_declared (node nullable description (object fs preserves type bounds cs)) w ≡ true) o.1 (declared_here ts path (node nullable description (object fs preserves type bounds cs)) v l.leads l.declared))
+    (subst (λ w. can_be_sampled (node nullable description (object fs preserves type bounds cs)) w ≡ true) o.1 (sampled_here P ts path (node nullable description (object fs preserves type bounds cs)) v l.leads l.sampled))
     (has_all P path fs o.0 (λ k f found asked. subst (λ w. is_some (under w k) ≡ true) o.1 (elim (option_cases (under v k)) [
       | inl none ↦ absurd (asked_has one P G ts (Some v) l.schema path fs k f l.ordered found l.said (reached_below one ts (Some v) path fs k f found l.reached) asked none)
       | inr some ↦ rw some.1 refl
@@ -166,8 +178,8 @@ leading_next law one P G ts path (node nullable description (object fs preserves
     let below_node : IsNode M = subst IsNode f.2 (field_node fs k f.0 l.ordered f.1) in
     let below_stored : IsStored M w = subst (λ K. IsStored K w) f.2
     (subst (λ o. IsStoredField f.0 o) there (((law (node nullable description (object fs preserves type bounds cs)) (tree.object ms)).0 l.stored).1.1 k f.0 f.1)) in
-    let below_declared : AreDeclaredFrom ts (below path (field k)) M w = declared_after ts path k (node nullable description (object fs preserves type bounds cs)) M (tree.object ms) w
-    (leads_there (node nullable description (object fs preserves type bounds cs)) M (tree.object ms) w (name k) (field k) refl down there) l.declared in
+    let below_sampled : CanBeSampledFrom P ts (below path (field k)) M w = sampled_after P ts path k (node nullable description (object fs preserves type bounds cs)) M (tree.object ms) w
+    (leads_there (node nullable description (object fs preserves type bounds cs)) M (tree.object ms) w (name k) (field k) refl down there) l.sampled in
     let said : AreSaidAt P (below path (field k)) (suggestions_at G ts (Some w) f.0.default (schema_of_field l.schema k) (below path (field k)) M) =
     subst (λ K. AreSaidAt P (below path (field k)) (suggestions_at G ts (Some w) f.0.default (schema_of_field l.schema k) (below path (field k)) K)) f.2
     (subst (λ o. AreSaidAt P (below path (field k)) (suggestions_at G ts o f.0.default (schema_of_field l.schema k) (below path (field k)) f.0.node)) there
@@ -193,7 +205,8 @@ leading_next law one P G ts path (node nullable description (object fs preserves
               among = inl refl;
               ordered = below_node;
               stored = below_stored;
-              declared = all_declared ts (below path (field k)) M w varied below_declared;
+              sampled = all_sampled P ts (below path (field k)) M w varied below_sampled;
+              least = all_least P ts (below path (field k)) M w varied below_sampled;
               free = record { fixed = free_said.fixed; present = free_said.present; lists = subst (λ S. AreListedAt P (below path (field k)) S) is lists };
               named = subst (λ S. AreNamed P S) is named;
             },
@@ -211,7 +224,7 @@ leading_next law one P G ts path (node nullable description (object fs preserves
                     (subst (λ o. AreReached ts o (below path (field k)) f.0.node) there (reached_below one ts (Some (tree.object ms)) path fs k f.0 f.1 l.reached));
                 ordered = below_node;
                 stored = below_stored;
-                declared = below_declared;
+                sampled = below_sampled;
                 said = said_after one P (below path (field k)) (suggestions_below G ts (Some w) (schema_of_field l.schema k) (below path (field k)) M) leads_said;
                 lists = listed_after one P (below path (field k)) (suggestions_below G ts (Some w) (schema_of_field l.schema k) (below path (field k)) M) (subst (λ S. AreListedAt P (below path (field k)) S) is lists);
                 named = subst (λ S. AreNamed P S) is named;
@@ -240,7 +253,7 @@ leading_over law one P G ts short room (s ∷ q) (t ∷ p) path N v l = λ M w f
       | inr (inr fixed) ↦ subst (λ o. IsOverAlong P o (below path t) M w q p) (sym fixed) (fixed_over P (below path t) M w q p)
     ] where
       fixed_over : (P : Pools) (path : List ℕ) (N : Node) (v : Data) (q : Path) (p : FieldPath) → IsOverAlong P (Some (v ∷ [])) path N v q p
-      fixed_over P path N v q p = rw (own_same v) refl
+      fixed_over P path N v q p = subst (λ ds. is_in v ds ≡ true) (sym (leasts_one v)) (rw (own_same v) refl)
 
 -- ---- the object at the root
 
@@ -272,10 +285,16 @@ found_entry text (e ∷ es) vs is = elim (option_cases (values_at text es)) [
 root_lists : (limits : PoolLimits) (root : Node) (S : Suggestions) → length S.lists ≤ limits.paths → (text : List ℕ) → list_at text (pools_of (document_of limits root [] S)) ≡ values_at text S.lists
 root_lists limits root S few text = pool_lists limits root [] S text ∙ ap (values_at text) (take_all limits.paths S.lists few)
 
+text_join : (a b : FieldPath) → path_text (a ++ b) ≡ path_text a ++ path_text b
+text_join [] b = refl
+text_join (s ∷ a) b = ap (λ t. step_text s ++ t) (text_join a b) ∙ sym (append_assoc (step_text s) (path_text a) (path_text b))
+
 pub object_sample : StoredLaw → OneText → TheObjectIsASample
-object_sample law one limits raw root v [] limit ordered some varied sound stored declared within uncut = absurd (some refl)
-object_sample law one limits raw root v (t ∷ ts) limit ordered some varied sound stored declared within uncut =
+object_sample law one limits raw root v [] limit ordered some varied sound stored sampled within uncut least = absurd (some refl)
+object_sample law one limits raw root v (t ∷ ts) limit ordered some varied sound stored sampled within uncut least =
     let reached : (s : List ℕ) → Among (t ∷ ts) s → reach s (Some v) [] root ≡ There = all_among (λ s. reach s (Some v) [] root ≡ There) (t ∷ ts) varied in
+    let least_as_it_is : HasLeasts root (pools_of (document_of limits root [] (suggestions_below (for_variation (general_of limits root)) (t ∷ ts) (Some v) (Some raw) [] root))) (t ∷ ts) v =
+    subst (λ u. HasLeasts root (pools_of (document_of limits root [] (suggestions_below (for_variation (general_of limits root)) (t ∷ ts) (Some u) (Some raw) [] root))) (t ∷ ts) v) (nothing_taken [] root v) least in
     let lists = root_lists limits root (suggestions_below (for_variation (general_of limits root)) (t ∷ ts) (Some v) (Some raw) [] root) uncut.lists in
     let sample : IsSample root (pools_of (document_of limits root [] (suggestions_below (for_variation (general_of limits root)) (t ∷ ts) (Some v) (Some raw) [] root))) limit v = record {
       part = record {
@@ -292,7 +311,12 @@ object_sample law one limits raw root v (t ∷ ts) limit ordered some varied sou
               reached = λ s a goes. reached s a;
               ordered = ordered;
               stored = stored;
-              declared = record { on_the_way = declared.on_the_way; at_varied = declared.at_varied };
+              sampled = record {
+                on_the_way = sampled.on_the_way;
+                at_varied = sampled.at_varied;
+                least = λ ks q p M w varied on e. subst (λ x. IsLeastAt (pools_of (document_of limits root [] (suggestions_below (for_variation (general_of limits root)) (t ∷ ts) (Some v) (Some raw) [] root))) x M w)
+                    (text_join (path_of_names ks) p) (least_as_it_is ks q p M w varied on e);
+              };
               said = root_said limits root (suggestions_below (for_variation (general_of limits root)) (t ∷ ts) (Some v) (Some raw) [] root);
               lists = λ s p. lists (path_text (s ∷ p));
               named = λ k a. subst (λ ks. is_among k ks ≡ true) (sym (pool_names limits root [] (suggestions_below (for_variation (general_of limits root)) (t ∷ ts) (Some v) (Some raw) [] root)))

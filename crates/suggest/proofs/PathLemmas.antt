@@ -29,7 +29,7 @@ use Rattle.suggest.specs.Suggested.Varied.{Suggestions, leads_on, lists_alone, a
 
 -- ---- fields that follow others
 
-later_other : (k l : List ℕ) (N : Node) (required : Bool) (default : Option Data) (fs : Fields) (f : Declared) → AreOrdered (field l N required default fs) → field_at k fs ≡ Some f → text_cmp l k ≡ Less
+pub later_other : (k l : List ℕ) (N : Node) (required : Bool) (default : Option Data) (fs : Fields) (f : Declared) → AreOrdered (field l N required default fs) → field_at k fs ≡ Some f → text_cmp l k ≡ Less
 later_other k l N required default no_fields f ordered found = absurd (none-some f found)
 later_other k l N required default (field m M r d fs) f ordered found = elim (bool_cases (bytes_eq k m)) [
   | inl t ↦ subst (λ n. text_cmp l n ≡ Less) (sym (same_name k m t)) ordered.1

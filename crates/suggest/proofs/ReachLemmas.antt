@@ -25,7 +25,7 @@ use Rattle.schema.specs.Nodes.Node.{Validations, validations, Branches, Node, no
 use Rattle.schema.specs.Nodes.ByPlace.{field_at, node_below, node_at}
 use Rattle.schema.specs.declared.node.Constraints.{Constraints}
 use Rattle.schema.specs.declared.node.ScalarKind.{ScalarKind}
-use Rattle.schema.specs.declared.node.ScalarKind.TheVariants.{Boolean, Integer, String, IntOrString}
+use Rattle.schema.specs.declared.node.ScalarKind.TheVariants.{Boolean, Integer, Number, String, IntOrString}
 use Rattle.stored.specs.Objects.Becomes.{IsStored}
 use Rattle.stored.specs.Objects.Tests.{accepts_scalar, is_same, is_below, is_above, is_below_minimum, is_above_maximum, meets_constraints, meets_branch, holds}
 use Rattle.explain.specs.Paths.FieldPath.{FieldPath, place_step, place_of}
@@ -35,14 +35,16 @@ use Rattle.jtree.specs.Path.{member_at, under}
 use Rattle.schema.specs.Rules.Keywords.{text_under}
 use Rattle.std.specs.Option.{option_to_list}
 use Rattle.std.specs.List.{fold}
-use Rattle.plan.specs.Samples.Over.{is_in, scalars_of, IsOver}
+use Rattle.plan.specs.Samples.Leasts.{leasts}
+use Rattle.plan.specs.Samples.Over.{is_in, scalars_of, scalars_for, IsOver}
+use Rattle.plan.specs.Internal.LeastLaws.{is_number, least_in, none_lesser}
 use Rattle.suggest.specs.Suggested.Scalars.{in_scalar, in_branches, in_scalars, in_fields}
-use Rattle.suggest.specs.Suggested.Values.{fits_64_bits, with_neighbours, bounds_with_neighbours, longest, short_length, short_lengths, all_integers, all_lengths}
+use Rattle.suggest.specs.Suggested.Values.{fits_64_bits, with_neighbours, written_bounds, bounds_with_neighbours, longest, short_length, short_lengths, all_integers, all_lengths}
 use Rattle.suggest.specs.Suggested.Document.{letters, suggested_integers, suggested_strings, members_from, general_of, nothing_wanted, suggestions_by}
 use Rattle.suggest.specs.Suggested.Reached.{HasBoundsAlone, IsBounded, IsWithinReach, suggested_alone, HasCandidateLike}
 use Rattle.suggest.specs.Suggested.Chosen.{with_value, chosen_values}
 use Rattle.suggest.specs.Suggested.Formats.{texts_of_format}
-use Rattle.suggest.specs.Suggested.LeafValues.{General, takes, lists_itself, takes_texts_alone, own_values, format_values, few, general_values, hinted_from, hinted_values, leaf_values}
+use Rattle.suggest.specs.Suggested.LeafValues.{General, takes, lists_itself, takes_texts_alone, takes_numbers, other_number, other_bounds, own_values, format_values, few, others_of, general_values, hinted_from, hinted_values, leaf_values}
 use Rattle.suggest.specs.Suggested.Lists.{Entry, lists_at}
 use Rattle.suggest.specs.Suggested.Varied.{Suggestions}
 use Rattle.suggest.proofs.AscendingLemmas.{ascending_has}
@@ -179,14 +181,14 @@ integer_found t zs all z f a = elim (low t.minimum t.exclusive_minimum z f a.low
   | inl l ↦ record {
     value = l.value;
     fits = l.fits;
-    among = inr (inr (all l.value (among_left (with_neighbours t.minimum) (with_neighbours t.maximum) l.value l.among)));
+    among = inr (inr (all l.value (among_left (with_neighbours t.minimum) (with_neighbours t.maximum ++ written_bounds t.written) l.value l.among)));
     allowed = record { low = l.passes; high = falls t.maximum t.exclusive_maximum z l.value l.beyond a.high };
   }
   | inr below ↦ elim (high t.maximum t.exclusive_maximum z f a.high) [
     | inl h ↦ record {
       value = h.value;
       fits = h.fits;
-      among = inr (inr (all h.value (among_right (with_neighbours t.minimum) (with_neighbours t.maximum) h.value h.among)));
+      among = inr (inr (all h.value (among_right (with_neighbours t.minimum) (with_neighbours t.maximum ++ written_bounds t.written) h.value (among_left (with_neighbours t.maximum) (written_bounds t.written) h.value h.among))));
       allowed = record { low = below h.value h.fits; high = h.passes };
     }
     | inr upper ↦ let zero_fits = fits (pos 0) refl in record { value = pos 0; fits = zero_fits; among = inl refl; allowed = record { low = below (pos 0) zero_fits; high = upper (pos 0) zero_fits } }
@@ -255,6 +257,18 @@ integer_listed P z a = is_listed (tree.integer z) (scalars_of P) (inr (inr (amon
 text_listed : (P : Pools) (t : List ℕ) → Among P.strings t → is_in (tree.text t) (scalars_of P) ≡ true
 text_listed P t a = is_listed (tree.text t) (scalars_of P) (inr (inr (among_right (map (λ z. tree.integer z) P.integers) (map (λ t. tree.text t) P.strings) (tree.text t) (among_map (λ t. tree.text t) P.strings t a))))
 
+in_later : (v : Data) (ds es : List Data) → is_in v es ≡ true → is_in v (ds ++ es) ≡ true
+in_later v [] es there = there
+in_later v (d ∷ ds) es there = rw (in_later v ds es there) (or_true (is_same v d))
+
+-- what is listed for all scalars is listed for those of each kind
+for_kind : (kind : ScalarKind) (P : Pools) (v : Data) → is_in v (scalars_of P) ≡ true → is_in v (scalars_for kind P) ≡ true
+for_kind Number P v there = in_later v P.numbers (scalars_of P) there
+for_kind Boolean P v there = there
+for_kind Integer P v there = there
+for_kind String P v there = there
+for_kind IntOrString P v there = there
+
 -- ---- what is listed for a scalar is over the pools
 
 no_below : (n : Bool) (d : Option (List ℕ)) (kind : ScalarKind) (cs : Validations) (s : Step) → node_below (node n d (scalar kind cs)) s ≡ None
@@ -283,11 +297,11 @@ lists_alone raw root = lists_at (general root) [] None (Some raw) [] root
 fixed_none : (raw : Data) (root : Node) (text : List ℕ) → fixed_at text (Pool raw root) ≡ None
 fixed_none raw root text = ap (λ ms. option_and_then entries_in (member_at text ms)) (pool_fixed standard root [] (said_alone raw root))
 
--- what the pools list at the path, or for all scalars
-abbrev listed_at : Data → Node → List ℕ → List Data
-listed_at raw root at = unwrap_or (list_at at (Pool raw root)) (scalars_of (Pool raw root))
+-- what the pools list at the path, or for all scalars of the kind
+abbrev listed_at : ScalarKind → Data → Node → List ℕ → List Data
+listed_at kind raw root at = unwrap_or (list_at at (Pool raw root)) (scalars_for kind (Pool raw root))
 
-over : (raw : Data) (root : Node) (n : Bool) (d : Option (List ℕ)) (kind : ScalarKind) (t : Constraints) (all any one negated : Branches) (at : List ℕ) (v : Data) → t.choices ≡ None → is_in v (listed_at raw root at) ≡ true
+over : (raw : Data) (root : Node) (n : Bool) (d : Option (List ℕ)) (kind : ScalarKind) (t : Constraints) (all any one negated : Branches) (at : List ℕ) (v : Data) → t.choices ≡ None → is_in v (leasts (listed_at kind raw root at)) ≡ true
     → IsOver (Pool raw root) None at (node n d (scalar kind (validations t all any one negated))) v
 over raw root n d kind t all any one negated at v none there [] [] = rw (none, there) refl
 over raw root n d kind t all any one negated at v none there [] (s ∷ p) = tt
@@ -308,9 +322,9 @@ two_fail true b e = absurd (cc)
 bounds_alone : (t : Constraints) (all any one negated : Branches) (v : Data) → HasBoundsAlone (validations t all any one negated) → holds (validations t all any one negated) v ≡ meets_branch v t
 bounds_alone t all any one negated v h = rw (h.1, h.2, h.3, h.4) (and_true (meets_branch v t))
 
-integer_test : (t : Constraints) (z : ℤ) → t.choices ≡ None
+integer_test : (t : Constraints) (z : ℤ) → t.choices ≡ None → t.written ≡ None
     → meets_constraints t (tree.integer z) ≡ (not (is_below_minimum t.minimum t.exclusive_minimum (tree.integer z)) && not (is_above_maximum t.maximum t.exclusive_maximum (tree.integer z)))
-integer_test t z none = rw (none, and_true) refl
+integer_test t z none unwritten = rw (unwritten, none, and_true) refl
 
 low_text : (min : Option ℤ) (e : Bool) (s : List ℕ) → is_below_minimum min e (tree.text s) ≡ false
 low_text None e s = refl
@@ -320,19 +334,21 @@ high_text : (max : Option ℤ) (e : Bool) (s : List ℕ) → is_above_maximum ma
 high_text None e s = refl
 high_text (Some m) e s = refl
 
-text_test : (t : Constraints) (s : List ℕ) → t.choices ≡ None → meets_constraints t (tree.text s) ≡ (not (is_below t.lengths.least (length (chars s))) && not (is_above t.lengths.most (length (chars s))))
-text_test t s none = rw (none, low_text t.minimum t.exclusive_minimum s, high_text t.maximum t.exclusive_maximum s) refl
+text_test : (t : Constraints) (s : List ℕ) → t.choices ≡ None → t.written ≡ None → meets_constraints t (tree.text s) ≡ (not (is_below t.lengths.least (length (chars s))) && not (is_above t.lengths.most (length (chars s))))
+text_test t s none unwritten = rw (unwritten, none, low_text t.minimum t.exclusive_minimum s, high_text t.maximum t.exclusive_maximum s) refl
 
 same_integer : (k : ScalarKind) (z w : ℤ) → accepts_scalar k (tree.integer z) ≡ accepts_scalar k (tree.integer w)
 same_integer Boolean z w = refl
 same_integer Integer z w = refl
 same_integer String z w = refl
+same_integer Number z w = refl
 same_integer IntOrString z w = refl
 
 same_text : (k : ScalarKind) (s t : List ℕ) → accepts_scalar k (tree.text s) ≡ accepts_scalar k (tree.text t)
 same_text Boolean s t = refl
 same_text Integer s t = refl
 same_text String s t = refl
+same_text Number s t = refl
 same_text IntOrString s t = refl
 
 -- ---- values that a scalar takes
@@ -341,12 +357,12 @@ taken_parts : (k : ScalarKind) (cs : Validations) (v : Data) → (accepts_scalar
 taken_parts k cs v e = and_parts (accepts_scalar k v) (holds cs v) e
 
 -- a value of the list that is taken there and is of the kind
-record IsChoice (raw : Data) (root : Node) (at : List ℕ) (N : Node) (v : Data) : Type 0 where
+record IsChoice (kind_of : ScalarKind) (raw : Data) (root : Node) (at : List ℕ) (N : Node) (v : Data) : Type 0 where
   pub value : Data
   pub alike : kind value ≡ kind v
   pub tree : IsTree value
   pub stored : IsStored N value
-  pub listed : is_in value (listed_at raw root at) ≡ true
+  pub listed : is_in value (leasts (listed_at kind_of raw root at)) ≡ true
 
 stored_integer : StoredLaw → (n : Bool) (d : Option (List ℕ)) (k : ScalarKind) (cs : Validations) (z : ℤ) → takes (node n d (scalar k cs)) (tree.integer z) ≡ true → IsStored (node n d (scalar k cs)) (tree.integer z)
 stored_integer law n d k cs z e = (law (node n d (scalar k cs)) (tree.integer z)).1 (taken_parts k cs (tree.integer z) e, tt)
@@ -450,10 +466,20 @@ option_length : (o : Option Data) → length (option_to_list o) ≤ 1
 option_length None = omega arith
 option_length (Some v) = omega arith
 
-own_length : (N : Node) (default schema : Option Data) → length (own_values N default schema) ≤ 2
+bounds_length : (N : Node) (schema : Option Data) → length (other_bounds N schema) ≤ 2
+bounds_length N schema =
+    let least = other_number (option_and_then (λ s. under s (codes "minimum")) schema) in
+    let most = other_number (option_and_then (λ s. under s (codes "maximum")) schema) in
+    elim (bool_cases (takes_numbers N)) [
+      | inl t ↦ rw t (omega (arith, length-append (option_to_list least) (option_to_list most), option_length least, option_length most))
+      | inr f ↦ rw f (omega arith)
+    ]
+
+own_length : (N : Node) (default schema : Option Data) → length (own_values N default schema) ≤ 4
 own_length N default schema =
     let example = option_and_then (λ s. under s (codes "example")) schema in
-    omega (arith, kept_length (takes N) (option_to_list default ++ option_to_list example), length-append (option_to_list default) (option_to_list example), option_length default, option_length example)
+    let rest = option_to_list example ++ other_bounds N schema in
+    omega (arith, kept_length (takes N) (option_to_list default ++ rest), length-append (option_to_list default) rest, length-append (option_to_list example) (other_bounds N schema), option_length default, option_length example, bounds_length N schema)
 
 few_length : (T : Data → Bool) (pool : List Data) → length (take few (filter T pool)) ≤ 30
 few_length T pool = omega (arith, length-take few (filter T pool))
@@ -526,22 +552,29 @@ hinted_taken G n d k cs default schema y a =
     elim (bool_cases (lists_itself N)) [
       | inl t ↦ absurd (rw t at a)
       | inr f ↦ elim (hinted_only (own_values N default schema) (format_values N schema) (general_values G N) y (rw f at a)) [
-        | inl b ↦ (among_kept (takes N) (option_to_list default ++ option_to_list (option_and_then (λ s. under s (codes "example")) schema)) y b).1
+        | inl b ↦ (among_kept (takes N) (option_to_list default ++ (option_to_list (option_and_then (λ s. under s (codes "example")) schema) ++ other_bounds N schema)) y b).1
         | inr (inl b) ↦ elim (bool_cases (takes_texts_alone N)) [
           | inl t ↦ (among_kept (takes N) (map (λ s. tree.text s) (texts_of_format (unwrap_or (option_and_then (λ s. text_under s (codes "format")) schema) []))) y (rw t at b)).1
           | inr g ↦ absurd (rw g at b)
         ]
-        | inr (inr b) ↦ elim (among_parts (take few (filter (takes N) G.integers)) (take few (filter (takes N) G.strings)) y b) [ inl c ↦ few_taken G.integers c | inr c ↦ few_taken G.strings c ]
+        | inr (inr b) ↦ elim (among_parts (take few (filter (takes N) G.integers)) (take few (filter (takes N) (others_of G N))) y b) [ inl c ↦ few_taken G.integers c | inr c ↦ few_taken (others_of G N) c ]
       ]
     ]
 
 -- ---- a choice
 
-first_choice : (raw : Data) (root : Node) (at : List ℕ) (ds : List Data) (v : Data) → list_at at (Pool raw root) ≡ Some ds → is_in v ds ≡ true → is_in v (listed_at raw root at) ≡ true
-first_choice raw root at ds v e is = subst (λ xs. is_in v xs ≡ true) (sym (ap (λ o. unwrap_or o (scalars_of (Pool raw root))) e)) is
+-- what is no number has no lesser one of its value
+no_lesser : (v : Data) (ds : List Data) → is_number v ≡ false → is_in v ds ≡ true → is_in v (leasts ds) ≡ true
+no_lesser v ds other there = least_in v ds there (none_lesser v ds other)
 
-pool_choice : (raw : Data) (root : Node) (at : List ℕ) (v : Data) → list_at at (Pool raw root) ≡ None → is_in v (scalars_of (Pool raw root)) ≡ true → is_in v (listed_at raw root at) ≡ true
-pool_choice raw root at v e is = subst (λ xs. is_in v xs ≡ true) (sym (ap (λ o. unwrap_or o (scalars_of (Pool raw root))) e)) is
+first_choice : (kind : ScalarKind) (raw : Data) (root : Node) (at : List ℕ) (ds : List Data) (v : Data) → is_number v ≡ false → list_at at (Pool raw root) ≡ Some ds → is_in v ds ≡ true
+    → is_in v (leasts (listed_at kind raw root at)) ≡ true
+first_choice kind raw root at ds v other e is = no_lesser v (listed_at kind raw root at) other (subst (λ xs. is_in v xs ≡ true) (sym (ap (λ o. unwrap_or o (scalars_for kind (Pool raw root))) e)) is)
+
+pool_choice : (kind : ScalarKind) (raw : Data) (root : Node) (at : List ℕ) (v : Data) → is_number v ≡ false → list_at at (Pool raw root) ≡ None → is_in v (scalars_of (Pool raw root)) ≡ true
+    → is_in v (leasts (listed_at kind raw root at)) ≡ true
+pool_choice kind raw root at v other e is =
+    no_lesser v (listed_at kind raw root at) other (subst (λ xs. is_in v xs ≡ true) (sym (ap (λ o. unwrap_or o (scalars_for kind (Pool raw root))) e)) (for_kind kind (Pool raw root) v is))
 
 mapped : (P : Data → Type 0) {X : Type 0} (f : X → Data) (xs : List X) → ((x : X) → Among xs x → P (f x)) → (d : Data) → Among (map f xs) d → P d
 mapped P f [] h d a = absurd a
@@ -567,29 +600,30 @@ pool_lettered root y a = mapped IsLettered (λ n. tree.text (letters n)) (take s
 general_length : (root : Node) (n : Bool) (d : Option (List ℕ)) (k : ScalarKind) (cs : Validations) → length (general_values (general root) (node n d (scalar k cs))) ≤ 60
 general_length root n d k cs =
     let T = takes (node n d (scalar k cs)) in
-    omega (arith, length-append (take few (filter T (suggested_integers root))) (take few (filter T (suggested_strings root))), few_length T (suggested_integers root), few_length T (suggested_strings root))
+    let others = others_of (general root) (node n d (scalar k cs)) in
+    omega (arith, length-append (take few (filter T (suggested_integers root))) (take few (filter T others)), few_length T (suggested_integers root), few_length T others)
 
 integer_choice : StoredLaw → (raw : Data) (root : Node) (at : List ℕ) (n : Bool) (d : Option (List ℕ)) (k : ScalarKind) (cs : Validations) (ds : List Data) (z v : ℤ) → list_at at (Pool raw root) ≡ Some ds → IsHinted root (node n d (scalar k cs)) ds
     → lists_itself (node n d (scalar k cs)) ≡ false → takes_texts_alone (node n d (scalar k cs)) ≡ false → Among (suggested_integers root) (tree.integer z) → takes (node n d (scalar k cs)) (tree.integer z) ≡ true
-    → IsChoice raw root at (node n d (scalar k cs)) (tree.integer v)
+    → IsChoice k raw root at (node n d (scalar k cs)) (tree.integer v)
 integer_choice law raw root at n d k cs ds z v found h itself alone among taken =
     let N = node n d (scalar k cs) in
     let c = some_taken (takes N) (suggested_integers root) (tree.integer z) among taken in
     let f = pool_fitting root c.value c.among in
-    let general_has = among_left (take few (filter (takes N) (suggested_integers root))) (take few (filter (takes N) (suggested_strings root))) c.value c.few in
+    let general_has = among_left (take few (filter (takes N) (suggested_integers root))) (take few (filter (takes N) (others_of (general root) N))) c.value c.few in
     record {
       value = tree.integer f.integer;
       alike = refl;
       tree = f.fits;
       stored = stored_integer law n d k cs f.integer (subst (λ y. takes N y ≡ true) (sym f.is) c.takes);
-      listed = first_choice raw root at ds (tree.integer f.integer) found (subst (λ y. is_in y ds ≡ true) (sym f.is) (general_in root N ds h itself alone (general_length root n d k cs) c.value general_has));
+      listed = first_choice k raw root at ds (tree.integer f.integer) refl found (subst (λ y. is_in y ds ≡ true) (sym f.is) (general_in root N ds h itself alone (general_length root n d k cs) c.value general_has));
     }
 
-text_choice : StoredLaw → (raw : Data) (root : Node) (at : List ℕ) (n : Bool) (d : Option (List ℕ)) (k : ScalarKind) (cs : Validations) (ds : List Data) (s v : List ℕ) → list_at at (Pool raw root) ≡ Some ds → IsHinted root (node n d (scalar k cs)) ds
-    → lists_itself (node n d (scalar k cs)) ≡ false → takes_texts_alone (node n d (scalar k cs)) ≡ false → Among (suggested_strings root) (tree.text s) → takes (node n d (scalar k cs)) (tree.text s) ≡ true
-    → IsChoice raw root at (node n d (scalar k cs)) (tree.text v)
-text_choice law raw root at n d k cs ds s v found h itself alone among taken =
-    let N = node n d (scalar k cs) in
+text_choice : StoredLaw → (raw : Data) (root : Node) (at : List ℕ) (n : Bool) (d : Option (List ℕ)) (cs : Validations) (ds : List Data) (s v : List ℕ) → list_at at (Pool raw root) ≡ Some ds → IsHinted root (node n d (scalar IntOrString cs)) ds
+    → lists_itself (node n d (scalar IntOrString cs)) ≡ false → takes_texts_alone (node n d (scalar IntOrString cs)) ≡ false → Among (suggested_strings root) (tree.text s) → takes (node n d (scalar IntOrString cs)) (tree.text s) ≡ true
+    → IsChoice IntOrString raw root at (node n d (scalar IntOrString cs)) (tree.text v)
+text_choice law raw root at n d cs ds s v found h itself alone among taken =
+    let N = node n d (scalar IntOrString cs) in
     let c = some_taken (takes N) (suggested_strings root) (tree.text s) among taken in
     let f = pool_lettered root c.value c.among in
     let general_has = among_right (take few (filter (takes N) (suggested_integers root))) (take few (filter (takes N) (suggested_strings root))) c.value c.few in
@@ -597,34 +631,35 @@ text_choice law raw root at n d k cs ds s v found h itself alone among taken =
       value = tree.text f.text;
       alike = refl;
       tree = tt;
-      stored = stored_text law n d k cs f.text (subst (λ y. takes N y ≡ true) (sym f.is) c.takes);
-      listed = first_choice raw root at ds (tree.text f.text) found (subst (λ y. is_in y ds ≡ true) (sym f.is) (general_in root N ds h itself alone (general_length root n d k cs) c.value general_has));
+      stored = stored_text law n d IntOrString cs f.text (subst (λ y. takes N y ≡ true) (sym f.is) c.takes);
+      listed = first_choice IntOrString raw root at ds (tree.text f.text) refl found (subst (λ y. is_in y ds ≡ true) (sym f.is) (general_in root N ds h itself alone (general_length root n d IntOrString cs) c.value general_has));
     }
 
 -- where texts alone are taken, each value of the list is a text
-string_value : StoredLaw → (raw : Data) (root : Node) (at : List ℕ) (n : Bool) (d : Option (List ℕ)) (cs : Validations) (ds : List Data) (v : List ℕ) (y : Data) → is_in y (listed_at raw root at) ≡ true
-    → takes (node n d (scalar String cs)) y ≡ true → IsChoice raw root at (node n d (scalar String cs)) (tree.text v)
-string_value law raw root at n d cs ds v (tree.text s) listed taken = record { value = tree.text s; alike = refl; tree = tt; stored = stored_text law n d String cs s taken; listed = listed }
-string_value law raw root at n d cs ds v tree.null listed taken = absurd (cc)
-string_value law raw root at n d cs ds v (tree.boolean b) listed taken = absurd (cc)
-string_value law raw root at n d cs ds v (tree.integer z) listed taken = absurd (cc)
-string_value law raw root at n d cs ds v (tree.number s) listed taken = absurd (cc)
-string_value law raw root at n d cs ds v (tree.list es) listed taken = absurd (cc)
-string_value law raw root at n d cs ds v (tree.object ms) listed taken = absurd (cc)
+string_value : StoredLaw → (raw : Data) (root : Node) (at : List ℕ) (n : Bool) (d : Option (List ℕ)) (cs : Validations) (ds : List Data) (v : List ℕ) (y : Data) → list_at at (Pool raw root) ≡ Some ds → is_in y ds ≡ true
+    → takes (node n d (scalar String cs)) y ≡ true → IsChoice String raw root at (node n d (scalar String cs)) (tree.text v)
+string_value law raw root at n d cs ds v (tree.text s) found listed taken =
+    record { value = tree.text s; alike = refl; tree = tt; stored = stored_text law n d String cs s taken; listed = first_choice String raw root at ds (tree.text s) refl found listed }
+string_value law raw root at n d cs ds v tree.null found listed taken = absurd (cc)
+string_value law raw root at n d cs ds v (tree.boolean b) found listed taken = absurd (cc)
+string_value law raw root at n d cs ds v (tree.integer z) found listed taken = absurd (cc)
+string_value law raw root at n d cs ds v (tree.number s) found listed taken = absurd (cc)
+string_value law raw root at n d cs ds v (tree.list es) found listed taken = absurd (cc)
+string_value law raw root at n d cs ds v (tree.object ms) found listed taken = absurd (cc)
 
 string_choice : StoredLaw → (raw : Data) (root : Node) (at : List ℕ) (n : Bool) (d : Option (List ℕ)) (cs : Validations) (ds : List Data) (v : List ℕ) → list_at at (Pool raw root) ≡ Some ds → IsHinted root (node n d (scalar String cs)) ds
-    → IsChoice raw root at (node n d (scalar String cs)) (tree.text v)
+    → IsChoice String raw root at (node n d (scalar String cs)) (tree.text v)
 string_choice law raw root at n d cs [] v found h = absurd (h.some refl)
 string_choice law raw root at n d cs (y ∷ ys) v found h =
     let N = node n d (scalar String cs) in
     let among = subst (λ xs. Among xs y) h.is (inl refl) in
     let hinted : Among (hinted_values (general root) N h.default h.schema) y = elim (chosen_only 64 (hinted_values (general root) N h.default h.schema) [] y among) [ inl none ↦ absurd none | inr a ↦ a ] in
-    string_value law raw root at n d cs (y ∷ ys) v y (first_choice raw root at (y ∷ ys) y found (is_listed y (y ∷ ys) (inl refl))) (hinted_taken (general root) n d String cs h.default h.schema y hinted)
+    string_value law raw root at n d cs (y ∷ ys) v y found (is_listed y (y ∷ ys) (inl refl)) (hinted_taken (general root) n d String cs h.default h.schema y hinted)
 
 -- ---- a candidate
 
 chosen_candidate : (raw : Data) (root : Node) (p : FieldPath) (n : Bool) (d : Option (List ℕ)) (k : ScalarKind) (t : Constraints) (all any one negated : Branches) (v : Data) → t.choices ≡ None
-    → IsChoice raw root (path_text p) (node n d (scalar k (validations t all any one negated))) v → HasCandidateLike raw root p (node n d (scalar k (validations t all any one negated))) v
+    → IsChoice k raw root (path_text p) (node n d (scalar k (validations t all any one negated))) v → HasCandidateLike raw root p (node n d (scalar k (validations t all any one negated))) v
 chosen_candidate raw root p n d k t all any one negated v none c = record {
   candidate = c.value;
   alike = c.alike;
@@ -644,34 +679,38 @@ module _ (law : StoredLaw) (one_text : OneText) (raw : Data) (root : Node) (orde
   no_choices : is_some t.choices ≡ false
   no_choices = ap is_some bounded.0
 
-  reach_boolean : (k : ScalarKind) (b : Bool) → node_at root (place_of p) ≡ Some (node n d (scalar k cs)) → accepts_scalar k (tree.boolean b) ≡ true → IsStored (node n d (scalar k cs)) (tree.boolean b) → IsChoice raw root (path_text p) (node n d (scalar k cs)) (tree.boolean b)
+  reach_boolean : (k : ScalarKind) (b : Bool) → node_at root (place_of p) ≡ Some (node n d (scalar k cs)) → accepts_scalar k (tree.boolean b) ≡ true → IsStored (node n d (scalar k cs)) (tree.boolean b) → IsChoice k raw root (path_text p) (node n d (scalar k cs)) (tree.boolean b)
   reach_boolean Integer b there accepted stored = absurd (cc)
   reach_boolean String b there accepted stored = absurd (cc)
+  reach_boolean Number b there accepted stored = absurd (cc)
   reach_boolean IntOrString b there accepted stored = absurd (cc)
   reach_boolean Boolean b there accepted stored = elim (option_cases (list_at (path_text p) (Pool raw root))) [
-    | inl none ↦ record { value = tree.boolean b; alike = refl; tree = tt; stored = stored; listed = pool_choice raw root (path_text p) (tree.boolean b) none (boolean_listed (Pool raw root) b) }
+    | inl none ↦ record { value = tree.boolean b; alike = refl; tree = tt; stored = stored; listed = pool_choice Boolean raw root (path_text p) (tree.boolean b) refl none (boolean_listed (Pool raw root) b) }
     | inr f ↦ let h = list_found one_text raw root ordered p (node n d (scalar Boolean cs)) there f.0 f.1 in absurd (h.some h.is)
   ]
 
   listed_integer : (k : ScalarKind) (z v : ℤ) → node_at root (place_of p) ≡ Some (node n d (scalar k cs)) → accepts_scalar k (tree.integer z) ≡ true → holds cs (tree.integer z) ≡ true → Among (suggested_integers root) (tree.integer z)
-      → (ds : List Data) → list_at (path_text p) (Pool raw root) ≡ Some ds → IsChoice raw root (path_text p) (node n d (scalar k cs)) (tree.integer v)
+      → (ds : List Data) → list_at (path_text p) (Pool raw root) ≡ Some ds → IsChoice k raw root (path_text p) (node n d (scalar k cs)) (tree.integer v)
   listed_integer Boolean z v there accepted asked among ds found = absurd (cc)
   listed_integer String z v there accepted asked among ds found = absurd (cc)
   listed_integer Integer z v there accepted asked among ds found =
       integer_choice law raw root (path_text p) n d Integer cs ds z v found (list_found one_text raw root ordered p (node n d (scalar Integer cs)) there ds found) no_choices refl among (and_from _ _ accepted asked)
+  listed_integer Number z v there accepted asked among ds found =
+      integer_choice law raw root (path_text p) n d Number cs ds z v found (list_found one_text raw root ordered p (node n d (scalar Number cs)) there ds found) no_choices refl among (and_from _ _ accepted asked)
   listed_integer IntOrString z v there accepted asked among ds found =
       integer_choice law raw root (path_text p) n d IntOrString cs ds z v found (list_found one_text raw root ordered p (node n d (scalar IntOrString cs)) there ds found) no_choices refl among (and_from _ _ accepted asked)
 
   listed_text : (k : ScalarKind) (s v : List ℕ) → node_at root (place_of p) ≡ Some (node n d (scalar k cs)) → accepts_scalar k (tree.text s) ≡ true → holds cs (tree.text s) ≡ true → Among (suggested_strings root) (tree.text s)
-      → (ds : List Data) → list_at (path_text p) (Pool raw root) ≡ Some ds → IsChoice raw root (path_text p) (node n d (scalar k cs)) (tree.text v)
+      → (ds : List Data) → list_at (path_text p) (Pool raw root) ≡ Some ds → IsChoice k raw root (path_text p) (node n d (scalar k cs)) (tree.text v)
   listed_text Boolean s v there accepted asked among ds found = absurd (cc)
   listed_text Integer s v there accepted asked among ds found = absurd (cc)
+  listed_text Number s v there accepted asked among ds found = absurd (cc)
   listed_text String s v there accepted asked among ds found =
       string_choice law raw root (path_text p) n d cs ds v found (list_found one_text raw root ordered p (node n d (scalar String cs)) there ds found)
   listed_text IntOrString s v there accepted asked among ds found =
-      text_choice law raw root (path_text p) n d IntOrString cs ds s v found (list_found one_text raw root ordered p (node n d (scalar IntOrString cs)) there ds found) no_choices refl among (and_from _ _ accepted asked)
+      text_choice law raw root (path_text p) n d cs ds s v found (list_found one_text raw root ordered p (node n d (scalar IntOrString cs)) there ds found) no_choices refl among (and_from _ _ accepted asked)
 
-  reach_value : (k : ScalarKind) (v : Data) → node_at root (place_of p) ≡ Some (node n d (scalar k cs)) → IsTree v → IsStored (node n d (scalar k cs)) v → IsWithinReach root v → IsChoice raw root (path_text p) (node n d (scalar k cs)) v
+  reach_value : (k : ScalarKind) (v : Data) → node_at root (place_of p) ≡ Some (node n d (scalar k cs)) → IsTree v → IsStored (node n d (scalar k cs)) v → IsWithinReach root v → IsChoice k raw root (path_text p) (node n d (scalar k cs)) v
   reach_value k tree.null there sound stored within = absurd within
   reach_value k (tree.number s) there sound stored within = absurd within
   reach_value k (tree.list ds) there sound stored within = absurd within
@@ -680,9 +719,9 @@ module _ (law : StoredLaw) (one_text : OneText) (raw : Data) (root : Node) (orde
   reach_value k (tree.integer z) there sound stored within =
       let N = node n d (scalar k cs) in
       let here = ((law N (tree.integer z)).0 stored).0 in
-      let both = two_fail _ _ (sym (bounds_alone t all any one negated (tree.integer z) bounded ∙ integer_test t z bounded.0) ∙ here.1) in
+      let both = two_fail _ _ (sym (bounds_alone t all any one negated (tree.integer z) bounded ∙ integer_test t z bounded.0 bounded.5) ∙ here.1) in
       let r = integer_found t (in_scalars bounds_with_neighbours root) (λ w a. found bounds_with_neighbours root (place_of p) N w there (own_found bounds_with_neighbours t all any one negated w a)) z sound (record { low = both.0; high = both.1 }) in
-      let asked : holds cs (tree.integer r.value) ≡ true = bounds_alone t all any one negated (tree.integer r.value) bounded ∙ (integer_test t r.value bounded.0 ∙ rw (r.allowed.low, r.allowed.high) refl) in
+      let asked : holds cs (tree.integer r.value) ≡ true = bounds_alone t all any one negated (tree.integer r.value) bounded ∙ (integer_test t r.value bounded.0 bounded.5 ∙ rw (r.allowed.low, r.allowed.high) refl) in
       let accepted : accepts_scalar k (tree.integer r.value) ≡ true = same_integer k r.value z ∙ here.0 in
       let taken : Among (take standard.entries (all_integers root)) r.value =
       subst (λ zs. Among zs r.value) (sym (take_all standard.entries (all_integers root) within)) (ascending_has int_cmp exact_signed (pos 0 ∷ pos 1 ∷ in_scalars bounds_with_neighbours root) r.value r.among) in
@@ -693,17 +732,17 @@ module _ (law : StoredLaw) (one_text : OneText) (raw : Data) (root : Node) (orde
           alike = refl;
           tree = r.fits;
           stored = (law N (tree.integer r.value)).1 ((accepted, asked), tt);
-          listed = pool_choice raw root (path_text p) (tree.integer r.value) none (integer_listed (Pool raw root) r.value among);
+          listed = pool_choice k raw root (path_text p) (tree.integer r.value) refl none (integer_listed (Pool raw root) r.value among);
         }
         | inr f ↦ listed_integer k r.value z there accepted asked (among_map (λ z. tree.integer z) (take standard.entries (all_integers root)) r.value taken) f.0 f.1
       ]
   reach_value k (tree.text s) there sound stored within =
       let N = node n d (scalar k cs) in
       let here = ((law N (tree.text s)).0 stored).0 in
-      let both = two_fail _ _ (sym (bounds_alone t all any one negated (tree.text s) bounded ∙ text_test t s bounded.0) ∙ here.1) in
+      let both = two_fail _ _ (sym (bounds_alone t all any one negated (tree.text s) bounded ∙ text_test t s bounded.0 bounded.5) ∙ here.1) in
       let r = least_found t.lengths.least t.lengths.most (length (chars s)) within.0 both.0 both.1 in
       let w = letters r.0 in
-      let asked : holds cs (tree.text w) ≡ true = bounds_alone t all any one negated (tree.text w) bounded ∙ (text_test t w bounded.0 ∙ rw (letters_count r.0, r.2, r.3) refl) in
+      let asked : holds cs (tree.text w) ≡ true = bounds_alone t all any one negated (tree.text w) bounded ∙ (text_test t w bounded.0 bounded.5 ∙ rw (letters_count r.0, r.2, r.3) refl) in
       let accepted : accepts_scalar k (tree.text w) ≡ true = same_text k w s ∙ here.0 in
       let near = wider r.0 (short_lengths t) (in_scalars short_lengths root) (λ m a. found short_lengths root (place_of p) N m there (own_found short_lengths t all any one negated m a)) r.1 in
       let taken : Among (take standard.entries (all_lengths root)) r.0 =
@@ -715,7 +754,7 @@ module _ (law : StoredLaw) (one_text : OneText) (raw : Data) (root : Node) (orde
           alike = refl;
           tree = tt;
           stored = (law N (tree.text w)).1 ((accepted, asked), tt);
-          listed = pool_choice raw root (path_text p) (tree.text w) none (text_listed (Pool raw root) w among);
+          listed = pool_choice k raw root (path_text p) (tree.text w) refl none (text_listed (Pool raw root) w among);
         }
         | inr f ↦ listed_text k w s there accepted asked (among_map (λ n. tree.text (letters n)) (take standard.entries (all_lengths root)) r.0 taken) f.0 f.1
       ]

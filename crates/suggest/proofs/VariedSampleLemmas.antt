@@ -28,6 +28,7 @@ use Rattle.explain.specs.Paths.PathText.{step_text, path_text}
 use Rattle.plan.specs.Pools.Pools.{Pools, fixed_at, is_present}
 use Rattle.plan.specs.Pools.Document.{pools_of}
 use Rattle.plan.specs.Samples.Site.{below}
+use Rattle.plan.specs.Internal.LeastLaws.{in_leasts}
 use Rattle.plan.specs.Samples.Over.{all_names, is_in, asks_field, has_present, IsOver}
 use Rattle.plan.specs.Samples.Part.{IsSample}
 use Rattle.plan.specs.declared.pool_limits.PoolLimits.{PoolLimits}
@@ -189,7 +190,7 @@ kept_same law P path nullable description fs preserves type bounds cs w k f (Som
     let asked = present_here P (below path (field k)) (as_in_object (below path (field k)) (Some u)) said ∙ own_among (below path (field k)) [] in
     let x = is_there law P path nullable description fs preserves type bounds cs w k f found asked stored over in
     let fixed = fixed_here P (below path (field k)) (as_in_object (below path (field k)) (Some u)) said ∙ own_values (below path (field k)) (u ∷ []) in
-    let listed : is_in x.value (u ∷ []) ≡ true = (subst (λ o. IsOver P o (below path (field k)) f.node x.value) fixed x.over) [] [] in
+    let listed : is_in x.value (u ∷ []) ≡ true = (in_leasts x.value (u ∷ []) ((subst (λ o. IsOver P o (below path (field k)) f.node x.value) fixed x.over) [] [])).0 in
     x.there ∙ ap Some (same_tree x.value u listed)
 
 -- ---- along names

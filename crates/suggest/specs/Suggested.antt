@@ -5,6 +5,7 @@ pub mod Values
 pub mod Formats
 pub mod Chosen
 pub mod ValuesBelow
+pub mod Halves
 pub mod LeafValues
 pub mod Lists
 pub mod Varied
@@ -12,6 +13,7 @@ pub mod Wanted
 pub mod Without
 pub mod Document
 pub mod Fault
+pub mod Leasts
 pub mod LeftOut
 pub mod FromObjects
 pub mod VariedSamples

@@ -1,22 +1,27 @@
 //! The pools document that is suggested for a schema.
-ghost use Rattle.std.specs.Prelude.{◌≡◌, ◌≤◌, ◌<◌, ◌++◌, IfOk, IfErr, OnOk, length, map, filter, take, not};
+ghost use Rattle.std.specs.Prelude.{◌≡◌, ◌≤◌, ◌<◌, ◌++◌, IfOk, IfErr, OnOk, length, map, filter, take, true, false, not};
 ghost use Rattle.jtree.specs.Data.{depth};
 ghost use Rattle.jtree.specs.Data as tree;
 ghost use Rattle.jtree.specs.Reads.{most_bytes, most_depth};
 ghost use Rattle.jtree.specs.Text.{compact};
 ghost use Rattle.jtree.specs.View.{data_of};
+ghost use Rattle.schema.specs.Document.Raw.{Raw};
 ghost use Rattle.schema.specs.Document.Texts;
+ghost use Rattle.schema.specs.Nodes.ByPlace.{AreNodesOf};
 ghost use Rattle.schema.specs.Nodes.View.{node_of};
 ghost use Rattle.plan.specs.Pools.Pools.{AreSmall};
-ghost use Rattle.plan.specs.Pools.Document.{HasForm, pools_of};
+ghost use Rattle.schema.specs.declared.profile.Profile.TheVariants.{Core, Cluster};
+ghost use Rattle.plan.specs.Pools.Document.{HasForm, HasFormBy, pools_of};
 ghost use Rattle.plan.specs.Pools.PlanFault.{HasGoodPaths};
 ghost use Rattle.suggest.specs.View.{trees_of, texts_at, wanted_of};
 ghost use Rattle.suggest.specs.Internal.Parts;
-ghost use Rattle.suggest.specs.Internal.Parts.{suggestions_of, suggestions_from, lists_there, entries_of, document_from, with_lists_member, with_texts_member};
+ghost use Rattle.suggest.specs.Internal.Parts.{suggestions_of, suggestions_from, lists_there, entries_of, document_from};
+ghost use Rattle.suggest.specs.Internal.Parts.{with_lists_member, with_texts_member, with_values_member};
 ghost use Rattle.suggest.specs.Suggested.Chosen.{chosen_names};
 ghost use Rattle.suggest.specs.Suggested.Document.{members_from, without_entry, usual_names, suggested_document};
 ghost use Rattle.suggest.specs.Suggested.Varied.{both};
 ghost use Rattle.suggest.specs.Suggested.Fault.{IsSuggestFault};
+ghost use Rattle.suggest.specs.Suggested.Halves.{has_numbers};
 
 use crate::chosen::push_name;
 use crate::fault::SuggestFault;
@@ -35,16 +40,19 @@ use schema::Node;
 use std::alloc::{AllocError, Global};
 use stored::Schema;
 
-/// A pools document to start with, which `Pools::read_within` these limits and, for the schema, `Plan::new` accept.
+/// A pools document to start with, which `Pools::read_by` `Profile::Cluster` and these limits and, for the schema, `Plan::new` accept;
+/// where the schema has no place of numbers, and so wherever it was judged by `Profile::Core`, `Pools::read_within` accepts it too.
 ///
 /// `integers` are 0 and 1, and each `minimum` and `maximum` of scalars, in branches of their junctors too, with the integer before
-/// and the one after it, as far as they have 64 bits. `strings` are texts of letters `a`: one of a single letter, and one for each
+/// and the one after it, as far as they have 64 bits; of a bound that is no integer its fraction is left out. `strings` are texts of letters `a`: one of a single letter, and one for each
 /// `minLength` and `maxLength` of scalars, in branches too, that is at most 64. Both are in ascending order, each value once, and are
-/// cut after 64 values. `any` has the text `a` and the empty object. `names` are those of the members of maps in the objects, then `a`
-/// and `b`, as many as the limits allow.
+/// cut after 64 values. Where the schema has a place of numbers, `numbers` has for each of these integers the half after its digits,
+/// 3.5 for 3 and -3.5 for -3. `any` has the text `a` and the empty object. `names` are those of the members of maps in the objects,
+/// then `a` and `b`, as many as the limits allow.
 ///
 /// `paths` lists what stands at each scalar or open node in the objects. Where nothing stands there that is stored, it lists the
-/// default, the example and two texts of the format, as far as they are stored there; without such a text some of the pools besides.
+/// default, the example, the bounds of a number that are no integers, and two texts of the format, as far as they are stored there;
+/// without such a text some of the pools besides.
 /// Nothing of that kind is listed for a boolean or an `enum`. The first paths are listed, as many as the limits allow.
 ///
 /// Where paths are varied, all else is as it is in the one object, by `fixed` and `present`, and values are listed at the varied paths
@@ -66,7 +74,9 @@ pub fn suggested_pools(
     limits: PoolLimits,
 ) -> Result<Tree, SuggestFault>
     ensures document { IfOk result (λ d. data_of d ≡ suggested_document limits (data_of raw.now) schema.now (wanted_of wanted.now)) }
-    ensures form { IfOk result (λ d. HasForm (data_of d)) }
+    ensures form { IfOk result (λ d. HasFormBy Cluster (data_of d)) }
+    ensures core { IfOk result (λ d. (written : Raw) → written.profile ≡ Core → AreNodesOf true schema.now written → HasForm (data_of d)) }
+    ensures no_numbers { IfOk result (λ d. has_numbers schema.now ≡ false → HasForm (data_of d)) }
     ensures small { IfOk result (λ d. AreSmall limits (pools_of (data_of d))) }
     ensures paths { IfOk result (λ d. HasGoodPaths schema.now (pools_of (data_of d))) }
     ensures short { IfOk result (λ d. length (compact (data_of d)) < most_bytes) }
@@ -172,6 +182,7 @@ fn write_document(
     members = with(alloc, members, "integers", list(alloc, &general.integers)?)?;
     let names = with_usual_names(alloc, general.limits.names, &suggestions.names)?;
     members = with(alloc, members, "names", text_list(alloc, &names)?)?;
+    members = with_values(alloc, members, "numbers", &general.numbers)?;
     let lists = first_lists(alloc, general.limits.paths, &suggestions.lists)?;
     members = with_object(alloc, members, "paths", lists)?;
     let present = kept_paths(alloc, &suggestions.present, without)?;
@@ -227,6 +238,21 @@ fn with_texts(
         return Ok(members);
     }
     with(alloc, members, name, text_list(alloc, texts)?)
+}
+
+/// The members with a list of these values, where there are some.
+fn with_values(
+    alloc: Global,
+    members: Members,
+    name: &str,
+    values: &[Tree],
+) -> Result<Members, AllocError>
+    ensures { IfOk result (λ ms. ms ≡ with_values_member name.now (trees_of values.now) members) }
+{
+    if values.is_empty() {
+        return Ok(members);
+    }
+    with(alloc, members, name, list(alloc, values)?)
 }
 
 /// The names, and usual ones.

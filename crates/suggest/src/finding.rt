@@ -5,12 +5,15 @@ ghost use Rattle.plan.specs.Pools.Pools.{standard};
 ghost use Rattle.suggest.specs.Internal.Finding.{none_or_one};
 ghost use Rattle.suggest.specs.Suggested.Scalars.{in_scalar, in_branches, in_scalars, in_fields};
 ghost use Rattle.suggest.specs.Suggested.Values;
+ghost use Rattle.suggest.specs.View.{tree_at};
 ghost use Rattle.suggest.specs.Suggested.Values.{bounds_with_neighbours, short_length, short_lengths, all_integers, all_lengths};
 
 use crate::putting::put_in_order;
+use jtree::{Members, Tree};
 use plan::PoolLimits;
 use schema::{Branches, Constraints, Fields, Node, Sort, Validations};
 use std::alloc::{AllocError, Global};
+use std::num::saturating_f64_to_i64;
 
 /// The most characters of a text.
 const LONGEST: u64 = 64;
@@ -97,8 +100,33 @@ fn add_constraints(found: &mut Found, constraints: &Constraints) -> Result<(), A
 {
     push_with_neighbours(&mut found.integers, constraints.minimum)?;
     push_with_neighbours(&mut found.integers, constraints.maximum)?;
+    push_written_bounds(&mut found.integers, &constraints.written)?;
     push_length(&mut found.lengths, constraints.lengths.least)?;
     push_length(&mut found.lengths, constraints.lengths.most)
+}
+
+/// Adds the bounds of a schema as it is written that are no integers, without their fractions, with their neighbours.
+fn push_written_bounds(integers: &mut Vec<i64>, written: &Option<Members>) -> Result<(), AllocError>
+    ensures { OnOk result (integers.new.items ≡ integers.old.items ++ Values.written_bounds written.now) }
+{
+    if let Some(schema) = written {
+        push_with_neighbours(integers, whole_bound(schema.get("minimum")))?;
+        push_with_neighbours(integers, whole_bound(schema.get("maximum")))?;
+    }
+    Ok(())
+}
+
+/// A bound that is no integer without its fraction, where that has 64 bits.
+fn whole_bound(bound: Option<&Tree>) -> Option<i64>
+    ensures { result ≡ Values.whole_bound (tree_at bound.entry) }
+{
+    match bound {
+        Some(Tree::Number(number)) => match saturating_f64_to_i64(number.value()) {
+            i64::MIN | i64::MAX => None,
+            whole => Some(whole),
+        },
+        _ => None,
+    }
 }
 
 /// Adds a bound with its neighbours, as far as they have 64 bits.

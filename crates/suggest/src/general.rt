@@ -8,6 +8,7 @@ ghost use Rattle.suggest.specs.Internal.Parts.{general_of, general_with};
 ghost use Rattle.suggest.specs.Suggested.Document.{letters, suggested_any};
 
 use crate::finding::find;
+use crate::halves::numbers_for;
 use jtree::{Members, Text, Tree};
 use plan::PoolLimits;
 use schema::Node;
@@ -17,6 +18,8 @@ use std::alloc::{AllocError, Global};
 #[derive(Drop)]
 pub(crate) struct General {
     pub integers: Vec<Tree>,
+    /// For places of numbers.
+    pub numbers: Vec<Tree>,
     pub strings: Vec<Tree>,
     pub any: Vec<Tree>,
     pub limits: PoolLimits,
@@ -35,9 +38,11 @@ pub(crate) fn general_pools(
 {
     let found = find(alloc, root)?;
     let integers = integer_trees(alloc, &found.integers)?;
+    let numbers = numbers_for(alloc, root, &found.integers)?;
     let strings = letter_strings(alloc, &found.lengths)?;
     Ok(General {
         integers,
+        numbers,
         strings,
         any: open_values(alloc)?,
         limits,

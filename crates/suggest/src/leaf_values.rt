@@ -108,7 +108,7 @@ fn suggested_values(
     Ok(values)
 }
 
-/// What is hinted: its default, its example and texts of its format, else some of the pools too.
+/// What is hinted: its default, its example, bounds of a number and texts of its format, else some of the pools too.
 fn hinted_values(
     alloc: Global,
     general: &General,
@@ -143,7 +143,7 @@ fn lists_itself(node: &Node) -> bool
     }
 }
 
-/// Adds its default and its example, where they are stored there.
+/// Adds its default, its example and the bounds of a number that are no integers, where they are stored there.
 fn push_own(
     alloc: Global,
     node: &Node,
@@ -153,7 +153,43 @@ fn push_own(
     ensures { OnOk result (trees_of values.new.items ≡ trees_of values.old.items ++ LeafValues.own_values (node_of node.now) (tree_at hints.now.default) (tree_at hints.now.schema)) }
 {
     push_taken(alloc, node, hints.default, values)?;
-    push_taken(alloc, node, under(hints.schema, "example"), values)
+    push_taken(alloc, node, under(hints.schema, "example"), values)?;
+    push_bounds(alloc, node, hints.schema, values)
+}
+
+/// Adds the bounds of numbers that are no integers, where they are stored there.
+fn push_bounds(
+    alloc: Global,
+    node: &Node,
+    schema: Option<&Tree>,
+    values: &mut Vec<Tree>,
+) -> Result<(), AllocError>
+    ensures { OnOk result (trees_of values.new.items ≡ trees_of values.old.items ++ filter (LeafValues.takes (node_of node.now)) (LeafValues.other_bounds (node_of node.now) (tree_at schema.entry))) }
+{
+    if !takes_numbers(node) {
+        return Ok(());
+    }
+    push_taken(alloc, node, other_number(under(schema, "minimum")), values)?;
+    push_taken(alloc, node, other_number(under(schema, "maximum")), values)
+}
+
+fn takes_numbers(node: &Node) -> bool
+    ensures { result ≡ LeafValues.takes_numbers (node_of node.now) }
+{
+    match &node.sort {
+        Sort::Scalar(scalar) => matches!(scalar.kind, ScalarKind::Number),
+        _ => false,
+    }
+}
+
+/// A number that is no integer.
+fn other_number<'a>(value: Option<&'a Tree>) -> Option<&'a Tree>
+    ensures { tree_at result ≡ LeafValues.other_number (tree_at value.entry) }
+{
+    match value {
+        Some(Tree::Number(_)) => value,
+        _ => None,
+    }
 }
 
 /// Adds a value, where there is one and it is stored there.
@@ -227,7 +263,20 @@ fn push_general(
         return push_few(alloc, node, &general.any, values);
     }
     push_few(alloc, node, &general.integers, values)?;
-    push_few(alloc, node, &general.strings, values)
+    push_few(alloc, node, others_of(general, node), values)
+}
+
+/// The values besides the integers: the numbers for a scalar of numbers, else the strings.
+fn others_of<'a>(general: &'a General, node: &Node) -> &'a [Tree]
+    ensures { trees_of result.now ≡ LeafValues.others_of (general_of general.now) (node_of node.now) }
+{
+    match &node.sort {
+        Sort::Scalar(scalar) => match scalar.kind {
+            ScalarKind::Number => general.numbers.as_slice(),
+            _ => general.strings.as_slice(),
+        },
+        _ => general.strings.as_slice(),
+    }
 }
 
 /// Adds the first of those of a pool that are stored there.

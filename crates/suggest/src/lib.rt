@@ -19,6 +19,7 @@ mod fault;
 mod finding;
 mod formats;
 mod general;
+mod halves;
 mod judging;
 pub mod laws;
 mod leaf_values;

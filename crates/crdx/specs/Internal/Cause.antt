@@ -3,6 +3,7 @@ use Rattle.std.specs.Prelude.{◌≡◌, ◌≢◌, ◌⊎◌, ℕ, List, [], ta
 use Rattle.std.specs.Borrow.{Bor}
 use Rattle.std.specs.Io.KnownBytes.{Appends, Keeps}
 use Rattle.jtree.specs.Data.{Data}
+use Rattle.schema.specs.Document.Raw.{Raw}
 use Rattle.schema.specs.Nodes.Node.{Node}
 use Rattle.schema.specs.Nodes.ByPlace.{AreNodesOf}
 use Rattle.schema.specs.Rules.Breaks.{AreViolations}
@@ -21,16 +22,16 @@ use Rattle.suggest.specs.Suggested.Wanted.{Wanted}
 use Rattle.suggest.specs.declared.fault.SuggestFault.{SuggestFault}
 use Rattle.crdx.specs.Program.FieldAnswer.{IsFieldAnswer}
 use Rattle.crdx.specs.Program.ObjectAnswer.{IsAnswerBy}
-use Rattle.crdx.specs.Program.Requested.{numbers_of, IsRequestedSchema, IsRequestedWritten, HasReadFaultAs, HasPoolsFault, IsAcceptedSchema, IsRequested, IsRequestedWalk, pool_limits_of, total_of}
+use Rattle.crdx.specs.Program.Requested.{numbers_of, IsRequestedSchema, IsRequestedWritten, HasReadFault, HasPoolsFault, IsAcceptedSchema, IsRequested, IsRequestedWalk, pool_limits_of, total_of}
 use Rattle.crdx.specs.Program.Standard.{Standard}
 use Rattle.crdx.specs.Internal.PatternsFound.{refused_of}
 use Rattle.crdx.specs.Program.RefusedPatterns.{AreRefusedPatterns}
 use Rattle.crdx.specs.Program.Objects.{HasInput, IsNoText, IsBrokenAt}
 use Rattle.crdx.specs.Program.RunResult.{IsAnswer, IsCoverBegunOut, IsCoverCut, IsInputRefused, IsWanted, Effects, WritesNothing, lines_of}
 use Rattle.crdx.specs.Program.Requested.{numbers_of, IsRequestedStandard}
-use Rattle.schema.specs.Document.Forms as form
 use Rattle.crdx.specs.Internal.LineProgress.{IsLinesCause}
 use Rattle.crdx.specs.Program.LineAnswers.{AreAnswered}
+use Rattle.schema.specs.declared.profile.Profile.{Profile}
 use Rattle.plan.specs.Pools.Pools.{Pools as PoolsData}
 use Rattle.plan.specs.declared.pool_limits.PoolLimits.{PoolLimits}
 use Rattle.plan.specs.Pools.PlanFault.{IsFirstBadPath}
@@ -66,37 +67,34 @@ IsReadFailure has before now input name NoMemory = Unit {0}
 IsReadFailure has before now input name _ = ⊥
 
 -- why a schema that was read is refused: it breaks rules
-abbrev pub IsBrokenCause : Data → Cause → Type 0
+abbrev pub IsBrokenCause : Raw → Cause → Type 0
 IsBrokenCause raw (Violations vs) = AreViolations (IsBroken raw) vs.items × (vs.items ≢ [])
 IsBrokenCause raw NoMemory = Unit {0}
 IsBrokenCause raw _ = ⊥
 
--- why no schema is read, where it has to have this form
-abbrev pub IsReadCauseAs : form.Form → Documents → ℕ → ℕ → CommonArguments → Cause → Type 0
-IsReadCauseAs form has before now arguments (Read i) = (i ≡ input.Crd) × HasFailed before now
-IsReadCauseAs form has before now arguments (Document i fault) = (i ≡ input.Crd) × IsOfBytes fault × has (numbers_of arguments) (file_name arguments.crd) (Err fault)
-IsReadCauseAs form has before now arguments (Crd fault) = HasReadFaultAs form has arguments fault
-IsReadCauseAs form has before now arguments (Place input.Crd code.KeywordForm p) = HasReadFaultAs form has arguments (s.KeywordForm p)
-IsReadCauseAs form has before now arguments (Place input.Crd code.TooLarge p) = HasReadFaultAs form has arguments (s.TooLarge p)
-IsReadCauseAs form has before now arguments NoMemory = Unit {0}
-IsReadCauseAs form has before now arguments _ = ⊥
-
+-- why no schema is read
 abbrev pub IsReadCause : Documents → ℕ → ℕ → CommonArguments → Cause → Type 0
-IsReadCause = IsReadCauseAs form.object
+IsReadCause has before now arguments (Read i) = (i ≡ input.Crd) × HasFailed before now
+IsReadCause has before now arguments (Document i fault) = (i ≡ input.Crd) × IsOfBytes fault × has (numbers_of arguments) (file_name arguments.crd) (Err fault)
+IsReadCause has before now arguments (Crd fault) = HasReadFault has arguments fault
+IsReadCause has before now arguments (Place input.Crd code.KeywordForm p) = HasReadFault has arguments (s.KeywordForm p)
+IsReadCause has before now arguments (Place input.Crd code.TooLarge p) = HasReadFault has arguments (s.TooLarge p)
+IsReadCause has before now arguments NoMemory = Unit {0}
+IsReadCause has before now arguments _ = ⊥
 
 -- why there is no schema that is taken
 abbrev pub IsSchemaCause : Documents → ℕ → ℕ → CommonArguments → Cause → Type 0
 IsSchemaCause has before now arguments cause =
-    IsReadCause has before now arguments cause ⊎ ((raw : Data) × IsRequestedSchema has arguments raw × IsBrokenCause raw cause)
+    IsReadCause has before now arguments cause ⊎ ((raw : Raw) × IsRequestedSchema has arguments raw × IsBrokenCause raw cause)
 
 -- why there are no pools
-abbrev pub IsPoolsCause : ReadDocuments → ℕ → ℕ → PoolLimits → Option InputName → Cause → Type 0
-IsPoolsCause has before now limits pools (Read i) = (i ≡ input.Pools) × HasFailed before now
-IsPoolsCause has before now limits pools (Document i fault) = (i ≡ input.Pools) × IsOfBytes fault × IsSomeAnd pools (λ name. has (file_name name) (Err fault))
-IsPoolsCause has before now limits pools (Pools fault) = HasPoolsFault has limits pools fault
-IsPoolsCause has before now limits pools (Place input.Pools code.Form p) = HasPoolsFault has limits pools (Form p)
-IsPoolsCause has before now limits pools NoMemory = Unit {0}
-IsPoolsCause has before now limits pools _ = ⊥
+abbrev pub IsPoolsCause : ReadDocuments → ℕ → ℕ → Profile → PoolLimits → Option InputName → Cause → Type 0
+IsPoolsCause has before now rules limits pools (Read i) = (i ≡ input.Pools) × HasFailed before now
+IsPoolsCause has before now rules limits pools (Document i fault) = (i ≡ input.Pools) × IsOfBytes fault × IsSomeAnd pools (λ name. has (file_name name) (Err fault))
+IsPoolsCause has before now rules limits pools (Pools fault) = HasPoolsFault has rules limits pools fault
+IsPoolsCause has before now rules limits pools (Place input.Pools code.Form p) = HasPoolsFault has rules limits pools (Form p)
+IsPoolsCause has before now rules limits pools NoMemory = Unit {0}
+IsPoolsCause has before now rules limits pools _ = ⊥
 
 -- why there is no plan: a path of the pools is bad
 abbrev pub IsPlanCause : Node → PoolsData → Cause → Type 0
@@ -129,7 +127,7 @@ IsPatternsCause raw _ = ⊥
 -- why nothing is judged by a schema as it is written
 abbrev pub IsWrittenCause : Documents → ℕ → ℕ → CommonArguments → Cause → Type 0
 IsWrittenCause has before now arguments cause =
-    IsReadCauseAs form.written_schema has before now arguments cause ⊎ ((raw : Data) × IsRequestedWritten has arguments raw × IsPatternsCause raw cause)
+    IsReadCause has before now arguments cause ⊎ ((raw : Data) × IsRequestedWritten has arguments raw × IsPatternsCause raw cause)
 
 -- why nothing is printed of a document
 abbrev pub IsObjectCause : Standard → Data → ObjectCommand → Cause → Type 0
@@ -255,4 +253,4 @@ IsSuggestionCause at_hand before now arguments raw N cause = IsObjectInputCause 
 -- why `pools` prints no document
 abbrev pub IsPoolsRequestCause : Documents → Lines → ℕ → ℕ → PoolsArguments → Cause → Type 0
 IsPoolsRequestCause has at_hand before now arguments cause = IsInputCause has before now (SuggestPools arguments) cause
-    ⊎ ((raw : Data) × (N : Node) × IsAcceptedSchema has arguments.common raw × AreNodesOf true N raw × IsSuggestionCause at_hand before now arguments raw N cause)
+    ⊎ ((raw : Raw) × (N : Node) × IsAcceptedSchema has arguments.common raw × AreNodesOf true N raw × IsSuggestionCause at_hand before now arguments raw.tree N cause)

@@ -2,6 +2,7 @@
 use Rattle.std.specs.Prelude.{◌≡◌, ◌++◌, ℕ, List, Bool, true, false}
 use Rattle.std.specs.List.{flat_map}
 use Rattle.jtree.specs.Data.{Data}
+use Rattle.schema.specs.Document.Raw.{Raw}
 use Rattle.schema.specs.Rules.Breaks.{AreViolations, reported}
 use Rattle.schema.specs.Rules.Explained.{AreExplained}
 use Rattle.schema.specs.declared.reason.Explained.{Explained}
@@ -12,10 +13,10 @@ use Rattle.definition.specs.declared.finding.Fault.{Fault}
 use Rattle.crdx.specs.Program.CheckAnswer.{Besides, IsBesides, besides_lines, has_status}
 use Rattle.crdx.specs.Program.DefinitionLines.{fault_lines}
 use Rattle.crdx.specs.Program.ViolationLines.{violation_line, explained_lines}
-use Rattle.crdx.specs.declared.profile.Profile.{Profile}
+use Rattle.schema.specs.declared.profile.Profile.{Profile}
 
 -- with the reasons where they are asked for
-abbrev pub IsViolationText : Data → Bool → List ℕ → Type 0
+abbrev pub IsViolationText : Raw → Bool → List ℕ → Type 0
 IsViolationText raw true said = (found : List Explained) × AreExplained (IsBroken raw) raw found × (said ≡ explained_lines found)
 IsViolationText raw false said = (found : List Violation) × AreViolations (IsBroken raw) found × (said ≡ flat_map (λ v. violation_line (reported v)) found)
 

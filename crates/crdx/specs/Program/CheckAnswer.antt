@@ -4,6 +4,7 @@ use Rattle.std.specs.Prelude.{◌≡◌, ◌≢◌, ◌⊎◌, ◌++◌, ℕ, Li
 use Rattle.std.specs.Str.{bytes_eq}
 use Rattle.jtree.specs.Data.{Data, text, list, Items, no_items, item}
 use Rattle.jtree.specs.Path.{under, under2}
+use Rattle.schema.specs.Document.Raw.{Raw}
 use Rattle.schema.specs.Rules.Breaks.{Break, AreBreaks, IsUnbroken, reported_of}
 use Rattle.schema.specs.Rules.Explained.{AreExplained}
 use Rattle.schema.specs.declared.reason.Explained.{Explained}
@@ -15,8 +16,8 @@ use Rattle.crdx.specs.Program.DefinitionLines.{fault_lines}
 use Rattle.crdx.specs.Program.PatternLines.{pattern_lines}
 use Rattle.crdx.specs.Program.RefusedPatterns.{Refused, AreRefusedPatterns}
 use Rattle.crdx.specs.Program.ViolationLines.{violation_lines, explained_lines}
-use Rattle.crdx.specs.declared.profile.Profile.{Profile}
-use Rattle.crdx.specs.declared.profile.Profile.TheVariants.{Core, Cluster}
+use Rattle.schema.specs.declared.profile.Profile.{Profile}
+use Rattle.schema.specs.declared.profile.Profile.TheVariants.{Core, Cluster}
 
 -- ---- the subresource `status` of a version
 
@@ -59,10 +60,10 @@ abbrev pub besides_lines : Bool → Besides → List ℕ
 besides_lines why b = pattern_lines why b.refused ++ (fault_lines b.in_schema ++ fault_lines b.in_definition)
 
 -- with `--why` or without, the exit status, and the whole text on standard output
-pub data IsCheckAnswer (document : Data) (version : List ℕ) (raw : Data) (profile : Profile) : Bool → ℕ → List ℕ → Type 0 where
-  structural : (why : Bool) → IsUnbroken (IsBroken raw) → IsBesides profile document version raw nothing → IsCheckAnswer document version raw profile why 0 (codes "structural\n")
-  violations : (breaks : List Break) (b : Besides) → AreBreaks (IsBroken raw) breaks → IsBesides profile document version raw b → (breaks ≢ []) ⊎ (b ≢ nothing)
+pub data IsCheckAnswer (document : Data) (version : List ℕ) (raw : Raw) (profile : Profile) : Bool → ℕ → List ℕ → Type 0 where
+  structural : (why : Bool) → IsUnbroken (IsBroken raw) → IsBesides profile document version raw.tree nothing → IsCheckAnswer document version raw profile why 0 (codes "structural\n")
+  violations : (breaks : List Break) (b : Besides) → AreBreaks (IsBroken raw) breaks → IsBesides profile document version raw.tree b → (breaks ≢ []) ⊎ (b ≢ nothing)
       → IsCheckAnswer document version raw profile false 1 (violation_lines (map reported_of breaks) ++ besides_lines false b)
   -- the violations with their reasons
-  explained : (found : List Explained) (b : Besides) → AreExplained (IsBroken raw) raw found → IsBesides profile document version raw b → (found ≢ []) ⊎ (b ≢ nothing)
+  explained : (found : List Explained) (b : Besides) → AreExplained (IsBroken raw) raw found → IsBesides profile document version raw.tree b → (found ≢ []) ⊎ (b ≢ nothing)
       → IsCheckAnswer document version raw profile true 1 (explained_lines found ++ besides_lines true b)

@@ -13,8 +13,8 @@ use Rattle.clap.specs.declared.error.kind.ErrorKind.{ErrorKind}
 use Rattle.clap.specs.declared.error.kind.ErrorKind.TheVariants.{DisplayHelp, DisplayVersion, OutOfMemory}
 use Rattle.crdx.specs.Program.Documents.{file_name}
 use Rattle.crdx.specs.Program.Profiles.{named as profile_named}
-use Rattle.crdx.specs.declared.profile.Profile.{Profile}
-use Rattle.crdx.specs.declared.profile.Profile.TheVariants.{Core}
+use Rattle.schema.specs.declared.profile.Profile.{Profile}
+use Rattle.schema.specs.declared.profile.Profile.TheVariants.{Core}
 use Rattle.crdx.specs.declared.arguments.request.CommonArguments.{CommonArguments}
 use Rattle.crdx.specs.declared.arguments.request.CoverArguments.{CoverArguments}
 use Rattle.crdx.specs.declared.arguments.request.ExplainArguments.{ExplainArguments}

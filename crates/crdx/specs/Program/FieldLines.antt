@@ -16,8 +16,8 @@ abbrev pub word_if : Bool → List ℕ → List ℕ
 word_if applies word = if applies then word else []
 
 abbrev pub list_type_word : Option ListType → List ℕ
-list_type_word (Some Set) = codes " list-type=set"
-list_type_word (Some Map) = codes " list-type=map"
+list_type_word (Some (Set e)) = codes " list-type=set"
+list_type_word (Some (Map e)) = codes " list-type=map"
 list_type_word _ = []
 
 abbrev pub keys_word : List (List ℕ) → List ℕ

@@ -10,22 +10,24 @@ use Rattle.jtree.specs.declared.fault.JFault.{JFault}
 use Rattle.schema.specs.Document.Crd.{IsRead}
 use Rattle.judge.specs.Patterns.{HasPattern}
 use Rattle.patterns.specs.Meaning.{is_pattern}
-use Rattle.schema.specs.Document.Forms.{Form, HasFormsOf}
-use Rattle.schema.specs.Document.Forms as form
+use Rattle.schema.specs.Document.Forms.{HasFormsOf, form_by}
 use Rattle.schema.specs.Document.Limits.{standard, large, IsWithinLimits}
+use Rattle.schema.specs.Document.Raw.{Raw}
 use Rattle.schema.specs.Document.ReadFault.{IsReadFaultOf}
 use Rattle.schema.specs.declared.limits.Limits.{Limits}
+use Rattle.schema.specs.declared.raw.Reading.{Reading}
 use Rattle.schema.specs.Rules.Breaks.{IsUnbroken}
 use Rattle.schema.specs.Nodes.Node.{Node}
 use Rattle.schema.specs.Nodes.ByPlace.{AreNodesOf}
 use Rattle.schema.specs.declared.fault.SFault.{SFault}
 use Rattle.schema.specs.declared.fault.SFault.TheVariants as s
+use Rattle.schema.specs.declared.profile.Profile.{Profile}
 use Rattle.stored.specs.Schemas.Accepted.{IsBroken}
 use Rattle.plan.specs.Pools.Pools.{Pools, AreSmall}
 use Rattle.plan.specs.Pools.Pools as pools
 use Rattle.plan.specs.declared.pool_limits.PoolLimits.{PoolLimits}
-use Rattle.plan.specs.Pools.Document.{HasForm, pools_of}
-use Rattle.plan.specs.Pools.PoolsFault.{IsPoolsFault}
+use Rattle.plan.specs.Pools.Document.{HasFormBy, pools_of}
+use Rattle.plan.specs.Pools.PoolsFault.{IsPoolsFaultBy}
 use Rattle.plan.specs.Pools.PlanFault.{HasGoodPaths}
 use Rattle.plan.specs.Samples.Question.{Question}
 use Rattle.plan.specs.declared.fault.PFault.{PFault}
@@ -51,72 +53,75 @@ numbers_of arguments = numbers_by arguments.profile
 abbrev pub limits_of : CommonArguments → Limits
 limits_of arguments = if arguments.large then large else standard
 
+-- how a definition is read
+abbrev pub reading_of : CommonArguments → Reading
+reading_of arguments = record { profile = arguments.profile; limits = limits_of arguments }
+
 abbrev pub pool_limits_of : CommonArguments → PoolLimits
 pool_limits_of arguments = if arguments.large then pools.large else pools.standard
 
--- the group, the kind and the schema of the CustomResourceDefinition and version that are named, within the limits; the schema has this form
-pub record IsRequestedAs (form : Form) (has : Documents) (arguments : CommonArguments) (group kind : List ℕ) (raw : Data) : Type 0 where
+-- The group, the kind and the schema of the CustomResourceDefinition and version that are named, within the limits. The schema has the form that
+-- it has by the profile that the arguments name.
+pub record IsRequestedTree (has : Documents) (arguments : CommonArguments) (group kind : List ℕ) (tree : Data) : Type 0 where
   pub document : Data
   pub at_hand : has (numbers_of arguments) (file_name arguments.crd) (Ok document)
-  pub read : IsRead document arguments.version.now group kind raw
-  pub forms : HasFormsOf form raw
-  pub within : IsWithinLimits (limits_of arguments) raw
+  pub read : IsRead document arguments.version.now group kind tree
+  pub forms : HasFormsOf (form_by arguments.profile) tree
+  pub within : IsWithinLimits (limits_of arguments) tree
 
-abbrev pub IsRequestedCrd : Documents → CommonArguments → List ℕ → List ℕ → Data → Type 0
-IsRequestedCrd = IsRequestedAs form.object
+-- and it is judged by that profile
+abbrev pub IsRequestedCrd : Documents → CommonArguments → List ℕ → List ℕ → Raw → Type 0
+IsRequestedCrd has arguments group kind raw = IsRequestedTree has arguments group kind raw.tree × (raw.profile ≡ arguments.profile)
 
 -- of this document
-abbrev pub IsRequestedFrom : Data → Documents → CommonArguments → List ℕ → List ℕ → Data → Type 0
-IsRequestedFrom document has arguments group kind raw = (asked : IsRequestedCrd has arguments group kind raw) × (asked.document ≡ document)
+abbrev pub IsRequestedFrom : Data → Documents → CommonArguments → List ℕ → List ℕ → Raw → Type 0
+IsRequestedFrom document has arguments group kind raw = (asked : IsRequestedCrd has arguments group kind raw) × (asked.0.document ≡ document)
 
-abbrev pub IsRequestedSchema : Documents → CommonArguments → Data → Type 0
+abbrev pub IsRequestedSchema : Documents → CommonArguments → Raw → Type 0
 IsRequestedSchema has arguments raw = (group : List ℕ) × ((kind : List ℕ) × IsRequestedCrd has arguments group kind raw)
 
 -- it is structural: no rule is broken
-pub record IsAcceptedSchema (has : Documents) (arguments : CommonArguments) (raw : Data) : Type 0 where
+pub record IsAcceptedSchema (has : Documents) (arguments : CommonArguments) (raw : Raw) : Type 0 where
   pub asked : IsRequestedSchema has arguments raw
   pub unbroken : IsUnbroken (IsBroken raw)
 
 abbrev pub HasAcceptedSchema : Documents → CommonArguments → Type 0
-HasAcceptedSchema has arguments = (raw : Data) × IsAcceptedSchema has arguments raw
+HasAcceptedSchema has arguments = (raw : Raw) × IsAcceptedSchema has arguments raw
 
 -- its root
 abbrev pub IsRequestedRoot : Documents → CommonArguments → Node → Type 0
-IsRequestedRoot has arguments N = (raw : Data) × IsAcceptedSchema has arguments raw × AreNodesOf true N raw
+IsRequestedRoot has arguments N = (raw : Raw) × IsAcceptedSchema has arguments raw × AreNodesOf true N raw
 
--- the schema that is named, as a cluster reads it
+-- the schema that is named, as it is written
 abbrev pub IsRequestedWritten : Documents → CommonArguments → Data → Type 0
-IsRequestedWritten has arguments raw = (group : List ℕ) × ((kind : List ℕ) × IsRequestedAs form.written_schema has arguments group kind raw)
+IsRequestedWritten has arguments tree = (group : List ℕ) × ((kind : List ℕ) × IsRequestedTree has arguments group kind tree)
 
--- a fault of the document that is named, read for this version within the limits, where its schema has to have this form
-abbrev pub HasReadFaultAs : Form → Documents → CommonArguments → SFault → Type 0
-HasReadFaultAs form has arguments fault = (document : Data) × has (numbers_of arguments) (file_name arguments.crd) (Ok document) × (fault ≢ s.NoMemory)
-    × IsReadFaultOf form (limits_of arguments) document arguments.version.now fault
+-- a fault of the document that is named, read for this version within the limits
+abbrev pub HasReadFault : Documents → CommonArguments → SFault → Type 0
+HasReadFault has arguments fault = (document : Data) × has (numbers_of arguments) (file_name arguments.crd) (Ok document) × (fault ≢ s.NoMemory)
+    × IsReadFaultOf (form_by arguments.profile) (limits_of arguments) document arguments.version.now fault
 
 -- there is no document of this name, or it has a fault
-abbrev pub IsRefusedAs : Form → Documents → CommonArguments → Type 0
-IsRefusedAs form has arguments = ((fault : JFault) × IsOfBytes fault × has (numbers_of arguments) (file_name arguments.crd) (Err fault)) ⊎ ((fault : SFault) × HasReadFaultAs form has arguments fault)
-
 abbrev pub IsCrdRefused : Documents → CommonArguments → Type 0
-IsCrdRefused = IsRefusedAs form.object
+IsCrdRefused has arguments = ((fault : JFault) × IsOfBytes fault × has (numbers_of arguments) (file_name arguments.crd) (Err fault)) ⊎ ((fault : SFault) × HasReadFault has arguments fault)
 
 -- the pools of the document that is named, within the limits, and empty ones where none is
-abbrev pub ArePools : Read → PoolLimits → Option InputName → Pools → Type 0
-ArePools has limits None P = P ≡ record { integers = []; strings = []; names = []; any = []; paths = no_members; fixed = no_members; present = [] }
-ArePools has limits (Some name) P = (document : Data) × has (file_name name) (Ok document) × HasForm document × (P ≡ pools_of document) × AreSmall limits P
+abbrev pub ArePools : Read → Profile → PoolLimits → Option InputName → Pools → Type 0
+ArePools has rules limits None P = P ≡ record { integers = []; numbers = []; strings = []; names = []; any = []; paths = no_members; fixed = no_members; present = [] }
+ArePools has rules limits (Some name) P = (document : Data) × has (file_name name) (Ok document) × HasFormBy rules document × (P ≡ pools_of document) × AreSmall limits P
 
 -- a fault of the document that is named as pools, read within the limits
-abbrev pub HasPoolsFault : Read → PoolLimits → Option InputName → PFault → Type 0
-HasPoolsFault has limits pools fault = IsSomeAnd pools (λ name. (document : Data) × has (file_name name) (Ok document) × (fault ≢ p.NoMemory) × IsPoolsFault limits document fault)
+abbrev pub HasPoolsFault : Read → Profile → PoolLimits → Option InputName → PFault → Type 0
+HasPoolsFault has rules limits pools fault = IsSomeAnd pools (λ name. (document : Data) × has (file_name name) (Ok document) × (fault ≢ p.NoMemory) × IsPoolsFaultBy rules limits document fault)
 
 -- there is no document where one is named, or it has a fault as pools
-abbrev pub ArePoolsRefused : Read → PoolLimits → Option InputName → Type 0
-ArePoolsRefused has limits pools = ((fault : JFault) × IsOfBytes fault × IsSomeAnd pools (λ name. has (file_name name) (Err fault))) ⊎ ((fault : PFault) × HasPoolsFault has limits pools fault)
+abbrev pub ArePoolsRefused : Read → Profile → PoolLimits → Option InputName → Type 0
+ArePoolsRefused has rules limits pools = ((fault : JFault) × IsOfBytes fault × IsSomeAnd pools (λ name. has (file_name name) (Err fault))) ⊎ ((fault : PFault) × HasPoolsFault has rules limits pools fault)
 
 -- the root of the schema that a plan is asked of, and the pools whose paths are judged by it
 pub record AreRootAndPools (has : Documents) (arguments : PlanArguments) (N : Node) (P : Pools) : Type 0 where
   pub root : IsRequestedRoot has arguments.common N
-  pub pools : ArePools (has (numbers_of arguments.common)) (pool_limits_of arguments.common) arguments.pools P
+  pub pools : ArePools (has (numbers_of arguments.common)) arguments.common.profile (pool_limits_of arguments.common) arguments.pools P
 
 -- how many samples the arguments ask for at most: the greatest number that is counted where they ask for all
 abbrev pub total_of : SampleArguments → ℕ
@@ -140,11 +145,11 @@ envelope_for group version kind (Some name) = Some (record { api_version = group
 pub record IsRequested (has : Documents) (arguments : PlanArguments) (q : Question) (e : Option Envelope) : Type 0 where
   pub group : List ℕ
   pub kind : List ℕ
-  pub raw : Data
+  pub raw : Raw
   pub asked : IsRequestedCrd has arguments.common group kind raw
   pub unbroken : IsUnbroken (IsBroken raw)
   pub root : AreNodesOf true q.root raw
-  pub pools : ArePools (has (numbers_of arguments.common)) (pool_limits_of arguments.common) arguments.pools q.pools
+  pub pools : ArePools (has (numbers_of arguments.common)) arguments.common.profile (pool_limits_of arguments.common) arguments.pools q.pools
   pub paths : HasGoodPaths q.root q.pools
   pub limit : q.limit ≡ arguments.limit
   pub envelope : e ≡ envelope_for group arguments.common.version.now kind arguments.name
@@ -163,10 +168,6 @@ HasPatterns raw = (path : Path) (p : List ℕ) → HasPattern raw path p → is_
 abbrev pub IsRequestedStandard : Documents → ObjectArguments → Standard → Type 0
 IsRequestedStandard has arguments (by_node N) = (asks_as_written arguments ≡ false) × IsRequestedRoot has arguments.common N
 IsRequestedStandard has arguments (as_written raw) = (asks_as_written arguments ≡ true) × IsRequestedWritten has arguments.common raw × HasPatterns raw
-
--- the form that the schema has to have where an object is asked about
-abbrev pub form_asked : ObjectArguments → Form
-form_asked arguments = if asks_as_written arguments then form.written_schema else form.object
 
 -- the schema as it is written has a pattern that is refused: it is none, or it is too big, of which nothing more is known
 abbrev pub HasRefusedPattern : Documents → ObjectArguments → Type 0

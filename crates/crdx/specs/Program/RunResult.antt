@@ -3,6 +3,7 @@ use Rattle.std.specs.Prelude.{◌≡◌, ◌≢◌, ◌⊎◌, ℕ, List, [], ta
 use Rattle.std.specs.Global.{Global}
 use Rattle.std.specs.Io.KnownBytes.{Appends, Keeps}
 use Rattle.jtree.specs.Data.{Data}
+use Rattle.schema.specs.Document.Raw.{Raw}
 use Rattle.schema.specs.Nodes.Node.{Node}
 use Rattle.schema.specs.Nodes.ByPlace.{AreNodesOf}
 use Rattle.schema.specs.Rules.Breaks.{Break, AreBreaks}
@@ -22,7 +23,7 @@ use Rattle.suggest.specs.Suggested.Fault.{IsSuggestFault}
 use Rattle.suggest.specs.Suggested.Wanted.{Wanted as PoolsWanted}
 use Rattle.suggest.specs.declared.fault.SuggestFault.{SuggestFault}
 use Rattle.suggest.specs.declared.fault.SuggestFault.TheVariants as suggest
-use Rattle.crdx.specs.Program.Requested.{numbers_of, pool_limits_of, total_of, IsRequestedFrom, IsRequestedSchema, IsAcceptedSchema, HasAcceptedSchema, IsCrdRefused, IsRefusedAs, AreRootAndPools, IsAfterRefused, IsRequested, IsRequestedWalk, ArePoolsRefused, IsRequestedRoot, IsRequestedStandard, form_asked, HasRefusedPattern, IsRequestedObject, IsObjectRefused}
+use Rattle.crdx.specs.Program.Requested.{numbers_of, pool_limits_of, total_of, IsRequestedFrom, IsRequestedSchema, IsAcceptedSchema, HasAcceptedSchema, IsCrdRefused, AreRootAndPools, IsAfterRefused, IsRequested, IsRequestedWalk, ArePoolsRefused, IsRequestedRoot, IsRequestedStandard, HasRefusedPattern, IsRequestedObject, IsObjectRefused}
 use Rattle.plan.specs.Pools.Pools.{Pools}
 use Rattle.plan.specs.Pools.PlanFault.{HasGoodPaths, IsFirstBadPath}
 use Rattle.plan.specs.Samples.Question.{Question}
@@ -41,11 +42,11 @@ use Rattle.crdx.specs.declared.arguments.request.Request.TheVariants.{Check, Exp
 
 -- these are all breaks of the schema that is asked for, and there are some
 abbrev pub HasBreaks : Documents → CommonArguments → List Break → Type 0
-HasBreaks has arguments breaks = (raw : Data) × IsRequestedSchema has arguments raw × AreBreaks (IsBroken raw) breaks × (breaks ≢ [])
+HasBreaks has arguments breaks = (raw : Raw) × IsRequestedSchema has arguments raw × AreBreaks (IsBroken raw) breaks × (breaks ≢ [])
 
 -- the answer to a request: the exit status, and the whole text on standard output
 pub data IsAnswer (has : Documents) : Request → ℕ → List ℕ → Type 0 where
-  checked : (arguments : CommonArguments) (document : Data) (group kind : List ℕ) (raw : Data) (status : ℕ) (answer : List ℕ)
+  checked : (arguments : CommonArguments) (document : Data) (group kind : List ℕ) (raw : Raw) (status : ℕ) (answer : List ℕ)
       → IsRequestedFrom document has arguments group kind raw → IsCheckAnswer document arguments.version.now raw arguments.profile arguments.why status answer
       → IsAnswer has (Check arguments) status answer
   fields : (arguments : ExplainArguments) (N : Node) (status : ℕ) (answer : List ℕ) → IsRequestedRoot has arguments.common N
@@ -78,7 +79,7 @@ pub data IsAnswer (has : Documents) : Request → ℕ → List ℕ → Type 0 wh
 -- document is, and the tree to go on from only where all paths are
 abbrev pub IsPlanRefused : Documents → PlanArguments → Type 0
 IsPlanRefused has arguments = IsCrdRefused has arguments.common
-    ⊎ ((HasAcceptedSchema has arguments.common × ArePoolsRefused (has (numbers_of arguments.common)) (pool_limits_of arguments.common) arguments.pools)
+    ⊎ ((HasAcceptedSchema has arguments.common × ArePoolsRefused (has (numbers_of arguments.common)) arguments.common.profile (pool_limits_of arguments.common) arguments.pools)
     ⊎ ((N : Node) × (P : Pools) × AreRootAndPools has arguments N P × (text : List ℕ) × IsFirstBadPath N P text))
 
 abbrev pub IsSamplingRefused : Documents → SampleArguments → Type 0
@@ -88,9 +89,9 @@ IsSamplingRefused has arguments = IsPlanRefused has arguments.plan
 abbrev pub IsInputRefused : Documents → Request → Type 0
 IsInputRefused has (Check arguments) = IsCrdRefused has arguments
 IsInputRefused has (Explain arguments) = IsCrdRefused has arguments.common
-IsInputRefused has (Object arguments) = IsRefusedAs (form_asked arguments) has arguments.common
+IsInputRefused has (Object arguments) = IsCrdRefused has arguments.common
     ⊎ (((S : Standard) × IsRequestedStandard has arguments S) × IsObjectRefused has arguments)
-IsInputRefused has (ObjectLines arguments) = IsRefusedAs (form_asked arguments) has arguments.common
+IsInputRefused has (ObjectLines arguments) = IsCrdRefused has arguments.common
 IsInputRefused has (SuggestPools arguments) = IsCrdRefused has arguments.common
 IsInputRefused has (Sample arguments) = IsSamplingRefused has arguments
 IsInputRefused has (Cover arguments) = IsPlanRefused has arguments.plan
@@ -179,7 +180,7 @@ pub record IsWanted (at_hand : Lines) (arguments : PoolsArguments) (w : PoolsWan
   pub without : w.without ≡ map (λ s. s.now) arguments.without.items
 
 -- the schema as written, its root, and what is asked for besides
-pub record IsPoolsRequest (has : Documents) (at_hand : Lines) (arguments : PoolsArguments) (raw : Data) (N : Node) (w : PoolsWanted) : Type 0 where
+pub record IsPoolsRequest (has : Documents) (at_hand : Lines) (arguments : PoolsArguments) (raw : Raw) (N : Node) (w : PoolsWanted) : Type 0 where
   pub schema : IsAcceptedSchema has arguments.common raw
   pub root : AreNodesOf true N raw
   pub wanted : IsWanted at_hand arguments w
@@ -191,13 +192,13 @@ pools_line arguments raw N w = line None (suggested_document (pool_limits_of arg
 -- The exit status of a run of `pools` on a schema that is accepted: the document is out, or a beginning of it, since a write failed; or 3 an
 -- input that is named has no objects, or no document is suggested.
 pub data IsPoolsResult (run : Effects) (arguments : PoolsArguments) : ℕ → Type 0 where
-  suggested : (raw : Data) (N : Node) (w : PoolsWanted) → IsPoolsRequest run.documents run.lines arguments raw N w → Appends run.output_before run.output (pools_line arguments raw N w)
+  suggested : (raw : Raw) (N : Node) (w : PoolsWanted) → IsPoolsRequest run.documents run.lines arguments raw N w → Appends run.output_before run.output (pools_line arguments raw.tree N w)
       → run.failed_writes ≡ run.failed_writes_before → IsPoolsResult run arguments 0
-  unwritten : (raw : Data) (N : Node) (w : PoolsWanted) (status : ℕ) → IsPoolsRequest run.documents run.lines arguments raw N w → (status ≡ 4) ⊎ (status ≡ 5) → HasFailed run.failed_writes_before run.failed_writes
-      → (n : ℕ) → Appends run.output_before run.output (take n (pools_line arguments raw N w)) → IsPoolsResult run arguments status
+  unwritten : (raw : Raw) (N : Node) (w : PoolsWanted) (status : ℕ) → IsPoolsRequest run.documents run.lines arguments raw N w → (status ≡ 4) ⊎ (status ≡ 5) → HasFailed run.failed_writes_before run.failed_writes
+      → (n : ℕ) → Appends run.output_before run.output (take n (pools_line arguments raw.tree N w)) → IsPoolsResult run arguments status
   unread_objects : HasAcceptedSchema run.documents arguments.common → AreRefused (numbers_of arguments.common) run.lines (map (λ s. s.now) arguments.from.items) → WritesNothing run → IsPoolsResult run arguments 3
-  not_suggested : (raw : Data) (N : Node) (w : PoolsWanted) (fault : SuggestFault) → IsPoolsRequest run.documents run.lines arguments raw N w → fault ≢ suggest.NoMemory
-      → IsSuggestFault (pool_limits_of arguments.common) raw N w fault → WritesNothing run → IsPoolsResult run arguments 3
+  not_suggested : (raw : Raw) (N : Node) (w : PoolsWanted) (fault : SuggestFault) → IsPoolsRequest run.documents run.lines arguments raw N w → fault ≢ suggest.NoMemory
+      → IsSuggestFault (pool_limits_of arguments.common) raw.tree N w fault → WritesNothing run → IsPoolsResult run arguments 3
 
 -- The exit status of a run with these effects: 3 an input is refused, 4 a read or a write failed, 5 out of memory, if only for
 -- the line on a failed write.

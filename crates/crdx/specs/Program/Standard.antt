@@ -12,8 +12,8 @@ use Rattle.std.specs.Option.{is_some}
 use Rattle.crdx.specs.declared.arguments.request.ObjectArguments.{ObjectArguments}
 use Rattle.crdx.specs.declared.arguments.request.ObjectCommand.{ObjectCommand}
 use Rattle.crdx.specs.declared.arguments.request.ObjectCommand.TheVariants.{Validate}
-use Rattle.crdx.specs.declared.profile.Profile.{Profile}
-use Rattle.crdx.specs.declared.profile.Profile.TheVariants.{Cluster}
+use Rattle.schema.specs.declared.profile.Profile.{Profile}
+use Rattle.schema.specs.declared.profile.Profile.TheVariants.{Cluster}
 
 pub data Standard : Type 0 where
   by_node : Node → Standard

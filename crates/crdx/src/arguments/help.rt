@@ -164,13 +164,14 @@ Codes of an input that is refused:
          values in an enum                 64, with --large  1024
   P1   The pools have the wrong form. They are an object with any of
          integers                a list of integers of 64 bits
+         numbers                 with --profile cluster: a list of numbers
          strings, names          lists of strings
          any                     a list of any values
          paths, fixed            objects of lists of any values
          present                 a list of strings
   P2   The pools are too large: more than 32 names, or more than 64 (with
        --large 1024)
-         integers, strings or values of any
+         integers, numbers, strings or values of any
          paths in paths, fixed or present
          values at a path
        Or `crdx pools` would print such pools, or more than 1 MiB.
@@ -369,6 +370,7 @@ pub(super) const POOLS: CommandHelp = CommandHelp {
 It has at most 64 values in each of these lists:
 
     integers   0, 1, and each minimum and maximum with its two neighbours
+    numbers    the halves after these, where the schema has numbers
     strings    strings of one letter, and of as many letters as each minLength
                and maxLength up to 64 says
     names      two names
@@ -501,16 +503,18 @@ pub(super) const WHY_LONG: &str = "Prints below the line of a rule each reason: 
 wrong with it, and what can be done. Below the line of any other
 refusal: what was found, and what is allowed.";
 
-pub(super) const PROFILE: &str = "How documents are read: core or cluster";
+pub(super) const PROFILE: &str = "How documents and schemas are read: core or cluster";
 
 pub(super) const PROFILE_LONG: &str =
     "core, which is usual, reads integers of 64 bits alone, and refuses a
 document that has another number (J1). cluster reads each number of
 JSON within the range of floats, as a cluster does: 1.0 and 1e2 are
 the integers 1 and 100, and 0.5 stays as it is written. With cluster
-`validate` judges an object by the schema as it is written, as the API
-server does, and `check` compiles the patterns of the schema.
-Elsewhere schemas are judged alike under both.";
+`type: number` and bounds that are fractions are accepted, keywords
+have the forms that a cluster reads, and values are compared with
+bounds and enums as the API server does. `validate` judges an object
+by the schema as it is written, and `check` judges the definition and
+compiles its patterns. All else is judged alike under both.";
 
 pub(super) const FROM: &str = "A JSON file of objects whose values are listed";
 
@@ -544,6 +548,7 @@ pub(super) const POOLS_OPTION_LONG: &str =
 input. Without it there are none but booleans and those of enums. It
 is an object with any of these members:
   integers  the integers
+  numbers   with --profile cluster: more values of places of numbers
   strings   the strings
   names     the names of members of maps, at most 32
   any       the values of places that the schema leaves open

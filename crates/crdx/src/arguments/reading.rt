@@ -18,10 +18,11 @@ use crate::arguments::request::{
     PlanArguments, PoolsArguments, Request, SampleArguments,
 };
 use crate::inputs::InputName;
-use crate::profile::Profile;
+use crate::profile::named;
 use clap::error::ErrorKind;
 use clap::parser::ValueSource;
 use clap::{ArgMatches, Error};
+use schema::Profile;
 use std::alloc::{AllocError, Global};
 
 /// What the arguments ask for; the first of them is the program's name, which is passed over.
@@ -122,7 +123,7 @@ fn profile_of(matches: &ArgMatches<'_>) -> Profile
     ensures { result ≡ line.profile_by (first_of (codes "profile") (rows_of (found_of matches.now))) }
 {
     match matches.get_str("profile") {
-        Some(name) => Profile::named(name),
+        Some(name) => named(name),
         None => Profile::Core,
     }
 }

@@ -3,7 +3,7 @@ ghost use Rattle.std.specs.Prelude.{◌≤◌, ◌≡◌};
 ghost use Rattle.crdx.specs.Program.Standard as standard;
 
 use crate::inputs::InputName;
-use crate::profile::Profile;
+use schema::Profile;
 
 /// The arguments that every command takes.
 #[derive(Clone, Copy, Drop)]

@@ -36,10 +36,10 @@ pub(crate) struct WrittenJudge<'s> {
 impl<'s> WrittenJudge<'s> {
     /// What judges by this schema.
     pub fn new(alloc: Global, written: &'s WrittenSchema) -> Result<WrittenJudge<'s>, AllocError>
-        ensures { IfOk result (λ j. data_of j.schema.now ≡ data_of written.now.schema) }
+        ensures { IfOk result (λ j. data_of j.schema.now ≡ written.now.schema.tree) }
     {
         Ok(WrittenJudge {
-            schema: &written.schema,
+            schema: written.schema.tree(),
             tests: PatternTests::new(alloc, written.patterns.as_slice())?,
         })
     }
@@ -79,8 +79,8 @@ fn answer_by<'a, I: Inputs>(
     inputs: &mut I,
 ) -> Result<Answer, Refusal<'a>>
     ensures answer { IfOk result (λ a. (document : Data) × I.has inputs.old (numbers_of arguments.now.common) (file_name arguments.now.object) (Ok document)
-        × IsWrittenAnswer (data_of written.now.schema) document a.status (string_bytes a.out)) }
-    ensures cause { IfErr result (λ r. IsDocumentCause (I.has inputs.old) (I.failures inputs.old) (I.failures inputs.new) (as_written (data_of written.now.schema)) arguments.now r.cause) }
+        × IsWrittenAnswer written.now.schema.tree document a.status (string_bytes a.out)) }
+    ensures cause { IfErr result (λ r. IsDocumentCause (I.has inputs.old) (I.failures inputs.old) (I.failures inputs.new) (as_written written.now.schema.tree) arguments.now r.cause) }
 {
     let profile = arguments.common.profile;
     let document = read_document(inputs, profile, Input::Object, arguments.object)?;

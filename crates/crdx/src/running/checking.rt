@@ -12,7 +12,6 @@ ghost use Rattle.crdx.specs.declared.arguments.request.Request.TheVariants.{Chec
 use crate::arguments::CommonArguments;
 use crate::inputs::Inputs;
 use crate::phrases::{phrase, reason_phrase};
-use crate::profile::Profile;
 use crate::running::answer::{Answer, json_text};
 use crate::running::definition_faults::fault_text;
 use crate::running::documents::read_definition;
@@ -21,7 +20,7 @@ use crate::running::lines::{Lines, all_lines};
 use crate::running::refusal::Refusal;
 use crate::running::schema_patterns::{pattern_lines, refused_patterns};
 use jtree::Tree;
-use schema::{Explained, Finding, RawSchema, Violation};
+use schema::{Explained, Finding, Profile, RawSchema, Violation};
 use std::alloc::{AllocError, Global};
 use stored::{explained, violations};
 

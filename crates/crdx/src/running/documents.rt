@@ -3,12 +3,12 @@ ghost use Rattle.std.specs.Prelude.{◌≡◌, true, Ok, IfOk, IfErr, OnOk, opti
 ghost use Rattle.jtree.specs.Data.{Data};
 ghost use Rattle.jtree.specs.ReadsWith.{ReadsWith};
 ghost use Rattle.jtree.specs.View.{data_of};
-ghost use Rattle.schema.specs.Document.Forms as form;
+ghost use Rattle.schema.specs.Document.Raw.{Raw};
 ghost use Rattle.schema.specs.Nodes.ByPlace.{AreNodesOf};
 ghost use Rattle.schema.specs.Rules.Breaks.{IsUnbroken};
 ghost use Rattle.stored.specs.Schemas.Accepted.{IsBroken};
-ghost use Rattle.crdx.specs.Internal.Cause.{IsReadFailure, IsReadCause, IsReadCauseAs, IsSchemaCause, IsWrittenCause, IsPoolsCause, IsAfterCause, IsTextCause};
-ghost use Rattle.crdx.specs.Program.Requested.{numbers_of, limits_of, pool_limits_of, ArePools, IsAfter};
+ghost use Rattle.crdx.specs.Internal.Cause.{IsReadFailure, IsReadCause, IsSchemaCause, IsWrittenCause, IsPoolsCause, IsAfterCause, IsTextCause};
+ghost use Rattle.crdx.specs.Program.Requested.{numbers_of, limits_of, reading_of, pool_limits_of, ArePools, IsAfter};
 ghost use Rattle.crdx.specs.Program.Requested.{IsRequestedCrd, IsRequestedFrom, IsRequestedWritten, HasPatterns};
 ghost use Rattle.crdx.specs.Program.Documents.{AreAmong, AreLinesAmong, file_name};
 ghost use Rattle.crdx.specs.Program.Envelope.{body_of as body};
@@ -17,7 +17,7 @@ ghost use Rattle.crdx.specs.Program.Profiles.{numbers_by};
 use crate::arguments::{CommonArguments, PlanArguments};
 use crate::envelope::split;
 use crate::inputs::{InFault, InputName, Inputs};
-use crate::profile::Profile;
+use crate::profile::numbers_by;
 use crate::running::causes::{Cause, Input};
 use crate::running::refusal::{Refusal, Subject};
 use crate::running::schema_formats::compile_formats;
@@ -25,7 +25,7 @@ use crate::running::schema_patterns::compile_patterns;
 use jtree::{JFault, Text, Tree};
 use patterns::Pattern;
 use plan::{PoolLimits, Pools};
-use schema::{Crd, Limits, Written, read_crd_within, read_written};
+use schema::{Crd, Limits, Profile, RawSchema, Reading, read_crd_by};
 use std::alloc::Global;
 use stored::{Schema, accept};
 
@@ -48,7 +48,7 @@ pub(crate) struct Accepted {
 /// A schema as it is written, with its patterns and the expressions of its formats.
 #[derive(Drop)]
 pub(crate) struct WrittenSchema {
-    pub schema: Tree,
+    pub schema: RawSchema,
     pub patterns: Vec<Pattern>,
 }
 
@@ -65,7 +65,7 @@ pub(crate) fn accepted_schema<'a, I: Inputs>(
     arguments: &CommonArguments<'a>,
     inputs: &mut I,
 ) -> Result<Accepted, Refusal<'a>>
-    ensures accepted { IfOk result (λ a. (raw : Data) × IsRequestedCrd (I.has inputs.old) arguments.now a.group a.kind raw × IsUnbroken (IsBroken raw) × AreNodesOf true a.schema raw) }
+    ensures accepted { IfOk result (λ a. (raw : Raw) × IsRequestedCrd (I.has inputs.old) arguments.now a.group a.kind raw × IsUnbroken (IsBroken raw) × AreNodesOf true a.schema raw) }
     ensures cause { IfErr result (λ r. IsSchemaCause (I.has inputs.old) (I.failures inputs.old) (I.failures inputs.new) arguments.now r.cause) }
     ensures stays { AreAmong (I.has inputs.new) (I.has inputs.old) }
     ensures lines { AreLinesAmong (I.lines inputs.new) (I.lines inputs.old) }
@@ -99,8 +99,7 @@ pub(crate) fn read_definition<'a, I: Inputs>(
     ensures unfailed { OnOk result (I.failures inputs.new ≡ I.failures inputs.old) }
 {
     let document = read_document(inputs, arguments.profile, Input::Crd, arguments.crd)?;
-    let limits = limits_of(arguments);
-    match read_crd_within(alloc, &document, arguments.version, limits) {
+    match read_crd_by(alloc, &document, arguments.version, reading_of(arguments)) {
         Ok(crd) => Ok(Definition { document, crd }),
         Err(fault) => Err(Refusal {
             cause: fault.into(),
@@ -115,55 +114,36 @@ pub(crate) fn written_schema<'a, I: Inputs>(
     arguments: &CommonArguments<'a>,
     inputs: &mut I,
 ) -> Result<WrittenSchema, Refusal<'a>>
-    ensures written { IfOk result (λ w. IsRequestedWritten (I.has inputs.old) arguments.now (data_of w.schema)) }
-    ensures patterns { IfOk result (λ w. HasPatterns (data_of w.schema)) }
+    ensures written { IfOk result (λ w. IsRequestedWritten (I.has inputs.old) arguments.now w.schema.tree) }
+    ensures patterns { IfOk result (λ w. HasPatterns w.schema.tree) }
     ensures cause { IfErr result (λ r. IsWrittenCause (I.has inputs.old) (I.failures inputs.old) (I.failures inputs.new) arguments.now r.cause) }
     ensures stays { AreAmong (I.has inputs.new) (I.has inputs.old) }
     ensures lines { AreLinesAmong (I.lines inputs.new) (I.lines inputs.old) }
     ensures unfailed { OnOk result (I.failures inputs.new ≡ I.failures inputs.old) }
 {
-    let schema = read_schema(alloc, arguments, inputs)?;
-    match compile_patterns(alloc, &schema) {
+    let Definition { document: _, crd } = read_definition(alloc, arguments, inputs)?;
+    let schema = crd.raw;
+    match compile_patterns(alloc, schema.tree()) {
         Ok(mut patterns) => {
-            compile_formats(alloc, &schema, &mut patterns)?;
+            compile_formats(alloc, schema.tree(), &mut patterns)?;
             Ok(WrittenSchema { schema, patterns })
         }
         Err(cause) => Err(cause.into()),
     }
 }
 
-/// The schema of a version of the CustomResourceDefinition of this name, as a cluster reads it.
-fn read_schema<'a, I: Inputs>(
-    alloc: Global,
-    arguments: &CommonArguments<'a>,
-    inputs: &mut I,
-) -> Result<Tree, Refusal<'a>>
-    ensures ok { IfOk result (λ t. IsRequestedWritten (I.has inputs.old) arguments.now (data_of t)) }
-    ensures cause { IfErr result (λ r. IsReadCauseAs form.written_schema (I.has inputs.old) (I.failures inputs.old) (I.failures inputs.new) arguments.now r.cause) }
-    ensures stays { AreAmong (I.has inputs.new) (I.has inputs.old) }
-    ensures lines { AreLinesAmong (I.lines inputs.new) (I.lines inputs.old) }
-    ensures unfailed { OnOk result (I.failures inputs.new ≡ I.failures inputs.old) }
+/// How a definition is read: by the profile that the arguments name, within the limits that they ask for.
+pub(crate) fn reading_of(arguments: &CommonArguments<'_>) -> Reading
+    ensures { result ≡ reading_of arguments.now }
 {
-    let document = read_document(inputs, arguments.profile, Input::Crd, arguments.crd)?;
-    let limits = limits_of(arguments);
-    match read_written(alloc, &document, arguments.version, limits) {
-        Ok(
-            Written {
-                group: _,
-                kind: _,
-                version: _,
-                schema,
-            },
-        ) => Ok(schema),
-        Err(fault) => Err(Refusal {
-            cause: fault.into(),
-            subject: Subject::Written(document),
-        }),
+    Reading {
+        profile: arguments.profile,
+        limits: limits_of(arguments),
     }
 }
 
 /// The limits of a definition that the arguments ask for.
-pub(crate) fn limits_of(arguments: &CommonArguments<'_>) -> Limits
+fn limits_of(arguments: &CommonArguments<'_>) -> Limits
     ensures { result ≡ limits_of arguments.now }
 {
     schema::laws::limits_by_name();
@@ -192,8 +172,8 @@ pub(crate) fn pools_of<'a, I: Inputs>(
     arguments: &PlanArguments<'a>,
     inputs: &mut I,
 ) -> Result<PoolsRead, Refusal<'a>>
-    ensures ok { IfOk result (λ read. ArePools (I.has inputs.old (numbers_of arguments.now.common)) (pool_limits_of arguments.now.common) arguments.now.pools read.pools) }
-    ensures cause { IfErr result (λ r. IsPoolsCause (I.has inputs.old (numbers_of arguments.now.common)) (I.failures inputs.old) (I.failures inputs.new) (pool_limits_of arguments.now.common) arguments.now.pools r.cause) }
+    ensures ok { IfOk result (λ read. ArePools (I.has inputs.old (numbers_of arguments.now.common)) arguments.now.common.profile (pool_limits_of arguments.now.common) arguments.now.pools read.pools) }
+    ensures cause { IfErr result (λ r. IsPoolsCause (I.has inputs.old (numbers_of arguments.now.common)) (I.failures inputs.old) (I.failures inputs.new) arguments.now.common.profile (pool_limits_of arguments.now.common) arguments.now.pools r.cause) }
 {
     let Some(name) = arguments.pools else {
         return Ok(PoolsRead {
@@ -203,7 +183,7 @@ pub(crate) fn pools_of<'a, I: Inputs>(
     };
     let document = read_document(inputs, arguments.common.profile, Input::Pools, name)?;
     let limits = pool_limits_of(&arguments.common);
-    match Pools::read_within(alloc, &document, limits) {
+    match Pools::read_by(alloc, &document, arguments.common.profile, limits) {
         Ok(pools) => Ok(PoolsRead {
             document: Some(document),
             pools,
@@ -229,7 +209,7 @@ pub(crate) fn read_document<'a, I: Inputs>(
     ensures unfailed { OnOk result (I.failures inputs.new ≡ I.failures inputs.old) }
 {
     let subject = Subject::Input(name);
-    match inputs.tree(name, profile.numbers()) {
+    match inputs.tree(name, numbers_by(profile)) {
         Ok(tree) => Ok(tree),
         Err(InFault::Failed) => {
             let cause = Cause::Read(input);
@@ -263,7 +243,7 @@ fn body_of<'a>(alloc: Global, profile: Profile, text: &'a str) -> Result<Tree, R
     ensures ok { IfOk result (λ t. (document : Data) × ReadsWith (numbers_by profile) text.now document × (data_of t ≡ body document)) }
     ensures cause { IfErr result (λ r. IsTextCause (numbers_by profile) text.now r.cause) }
 {
-    match Tree::from_bytes_with(alloc, text.as_bytes(), profile.numbers()) {
+    match Tree::from_bytes_with(alloc, text.as_bytes(), numbers_by(profile)) {
         Ok(mut tree) => {
             drop(split(&mut tree));
             Ok(tree)

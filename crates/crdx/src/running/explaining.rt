@@ -125,8 +125,8 @@ fn list_type_word(list_type: Option<ListType>) -> &'static str
     ensures { result.now ≡ said.list_type_word list_type }
 {
     match list_type {
-        Some(ListType::Set) => " list-type=set",
-        Some(ListType::Map) => " list-type=map",
+        Some(ListType::Set(_)) => " list-type=set",
+        Some(ListType::Map(_)) => " list-type=map",
         Some(ListType::Atomic) | None => "",
     }
 }

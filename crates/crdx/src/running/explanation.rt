@@ -11,8 +11,8 @@ mod values;
 use crate::arguments::CommonArguments;
 use crate::inputs::{InputName, Inputs};
 use crate::running::causes::Cause;
-use crate::running::documents::{limits_of, pool_limits_of};
-use crate::running::explanation::definitions::{definition_text, written_text};
+use crate::running::documents::{pool_limits_of, reading_of};
+use crate::running::explanation::definitions::definition_text;
 use crate::running::explanation::documents::{after_text, document_text, unread_text};
 use crate::running::explanation::fields::field_text;
 use crate::running::explanation::objects::unstored_text;
@@ -23,7 +23,7 @@ use crate::running::refusal::{Refusal, Subject};
 use crate::running::schema_patterns::pattern_lines;
 use jtree::Tree;
 use plan::{Plan, SizeSet};
-use schema::{Crd, read_crd_within};
+use schema::{Crd, read_crd_by};
 use std::alloc::{AllocError, Global};
 use stored::explained;
 
@@ -89,14 +89,9 @@ fn subject_text(
         Subject::Bytes(bytes) => document_text(alloc, bytes.as_slice(), None),
         Subject::Text(text) => document_text(alloc, text.as_bytes(), None),
         Subject::Definition(document) => {
-            definition_text(alloc, document, arguments.version, limits_of(arguments))
+            definition_text(alloc, document, arguments.version, reading_of(arguments))
         }
-        Subject::Written(document) => {
-            written_text(alloc, document, arguments.version, limits_of(arguments))
-        }
-        Subject::Pools(document) => {
-            pools_text(alloc, document, cause, pool_limits_of(arguments))
-        }
+        Subject::Pools(document) => pools_text(alloc, document, cause, arguments),
         Subject::Paths { definition, pools } => {
             path_text(alloc, definition, pools.as_ref(), cause, arguments)
         }
@@ -136,7 +131,5 @@ fn crd_again(
     document: &Tree,
     arguments: &CommonArguments<'_>,
 ) -> Result<Crd, AllocError> {
-    read_crd_within(alloc, document, arguments.version, limits_of(arguments)).map_err(
-        |_| AllocError,
-    )
+    read_crd_by(alloc, document, arguments.version, reading_of(arguments)).map_err(|_| AllocError)
 }

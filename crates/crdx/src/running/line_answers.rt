@@ -20,7 +20,7 @@ ghost use Rattle.crdx.specs.Program.RunResult.{effects};
 
 use crate::arguments::{ObjectArguments, ObjectCommand};
 use crate::inputs::{InFault, InputName, Inputs};
-use crate::profile::Profile;
+use crate::profile::numbers_by;
 use crate::running::answer::Answer;
 use crate::running::as_written::WrittenJudge;
 use crate::running::causes::{Cause, Input};
@@ -33,7 +33,7 @@ use crate::running::refusal::{Refusal, Subject};
 use crate::running::reporting::{newlines, say};
 use crate::sink::{Sink, put_all};
 use jtree::{JFault, Tree};
-use schema::Node;
+use schema::{Node, Profile};
 use std::alloc::{AllocError, Global};
 
 /// What is asked about each line.
@@ -282,7 +282,7 @@ fn parse_line(
     ensures document { IfOk result (λ read. IfOk read (λ t. ReadsWith (numbers_by profile) line.now (data_of t))) }
     ensures none { IfOk result (λ read. IfErr read (λ fault. IsOfBytes fault × IsNoDocumentWith (numbers_by profile) line.now fault)) }
 {
-    match Tree::from_bytes_with(alloc, line, profile.numbers()) {
+    match Tree::from_bytes_with(alloc, line, numbers_by(profile)) {
         Ok(document) => Ok(Ok(document)),
         Err(JFault::NoMemory) => Err(AllocError),
         Err(fault) => Ok(Err(fault)),

@@ -17,10 +17,11 @@ ghost use Rattle.crdx.specs.declared.running.causes.Input.TheVariants.{Object};
 use crate::arguments::input_named;
 use crate::envelope::split;
 use crate::inputs::{InFault, Inputs};
-use crate::profile::Profile;
+use crate::profile::numbers_by;
 use crate::running::causes::{Cause, Input};
 use crate::running::refusal::{Refusal, Subject};
 use jtree::{JFault, MOST_BYTES, Tree};
+use schema::Profile;
 use std::alloc::{AllocError, Global};
 
 /// The bodies of the documents of the inputs that these words name, one input after the other: a file, or for `-` the standard input.
@@ -102,7 +103,7 @@ fn read_lines<I: Inputs>(
 fn document_of(alloc: Global, profile: Profile, line: &[u8]) -> Result<Option<Tree>, AllocError>
     ensures { IfOk result (λ d. MatchOption d (IsRefused (numbers_by profile) line.now) (λ t. ReadsWith (numbers_by profile) line.now (data_of t))) }
 {
-    match Tree::from_bytes_with(alloc, line, profile.numbers()) {
+    match Tree::from_bytes_with(alloc, line, numbers_by(profile)) {
         Ok(document) => Ok(Some(document)),
         Err(JFault::NoMemory) => Err(AllocError),
         Err(_) => Ok(None),
@@ -155,7 +156,7 @@ fn add_line(
     ensures added { OnOk result ((d : Data) × ReadsWith (numbers_by profile) line.now d × AreAdded (d ∷ []) objects.old.items objects.new.items) }
     ensures cause { IfErr result (IsBrokenLine (numbers_by profile) number line.now) }
 {
-    match Tree::from_bytes_with(alloc, line, profile.numbers()) {
+    match Tree::from_bytes_with(alloc, line, numbers_by(profile)) {
         Ok(document) => match push_body(objects, document) {
             Ok(()) => Ok(()),
             Err(_) => Err(Cause::NoMemory),
@@ -212,7 +213,7 @@ fn add_text(
     ensures added { OnOk result ((d : Data) × ReadsWith (numbers_by profile) text.items d × AreAdded (d ∷ []) objects.old.items objects.new.items) }
     ensures cause { IfErr result (λ r. IsRefusedText (numbers_by profile) text.items r.cause) }
 {
-    match Tree::from_bytes_with(alloc, text.as_slice(), profile.numbers()) {
+    match Tree::from_bytes_with(alloc, text.as_slice(), numbers_by(profile)) {
         Ok(document) => match push_body(objects, document) {
             Ok(()) => Ok(()),
             Err(error) => Err(error.into()),

@@ -27,8 +27,6 @@ pub(crate) enum Subject<'a> {
     Text(&'a str),
     /// A CustomResourceDefinition.
     Definition(Tree),
-    /// A CustomResourceDefinition whose schema is taken as it is written.
-    Written(Tree),
     /// A pools document.
     Pools(Tree),
     /// A CustomResourceDefinition, and the pools document for its schema.

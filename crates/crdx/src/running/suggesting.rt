@@ -1,7 +1,7 @@
 //! What `pools` answers.
 ghost use Rattle.std.specs.Prelude.{◌≡◌, None, true, IfOk, IfErr, string_bytes};
-ghost use Rattle.jtree.specs.Data.{Data};
 ghost use Rattle.jtree.specs.View.{data_of};
+ghost use Rattle.schema.specs.Document.Raw.{Raw};
 ghost use Rattle.schema.specs.Nodes.Node.{Node};
 ghost use Rattle.schema.specs.Nodes.ByPlace.{AreNodesOf};
 ghost use Rattle.schema.specs.Rules.Breaks.{IsUnbroken};
@@ -44,8 +44,8 @@ pub(crate) fn suggest_pools<'a, I: Inputs>(
     inputs: &mut I,
 ) -> Result<Answer, Refusal<'a>>
     ensures status { IfOk result (λ a. a.status ≡ 0) }
-    ensures answer { IfOk result (λ a. (raw : Data) × (N : Node) × (w : WantedData) × IsPoolsRequest (I.has inputs.old) (I.lines inputs.old) arguments.now raw N w
-        × (string_bytes a.out ≡ pools_line arguments.now raw N w)) }
+    ensures answer { IfOk result (λ a. (raw : Raw) × (N : Node) × (w : WantedData) × IsPoolsRequest (I.has inputs.old) (I.lines inputs.old) arguments.now raw N w
+        × (string_bytes a.out ≡ pools_line arguments.now raw.tree N w)) }
     ensures cause { IfErr result (λ r. IsPoolsRequestCause (I.has inputs.old) (I.lines inputs.old) (I.failures inputs.old) (I.failures inputs.new) arguments.now r.cause) }
 {
     let Definition { document, crd } = match read_definition(alloc, &arguments.common, inputs) {
@@ -67,7 +67,7 @@ pub(crate) fn suggest_pools<'a, I: Inputs>(
 
 /// A schema that breaks no rule, with a copy of it as it is written.
 fn accept_written(alloc: Global, raw: RawSchema) -> Result<Written, Cause>
-    ensures raw { IfOk result (λ w. data_of w.raw ≡ raw) }
+    ensures raw { IfOk result (λ w. data_of w.raw ≡ raw.tree) }
     ensures unbroken { IfOk result (λ w. IsUnbroken (IsBroken raw) × AreNodesOf true w.schema raw) }
     ensures cause { IfErr result (IsBrokenCause raw) }
 {

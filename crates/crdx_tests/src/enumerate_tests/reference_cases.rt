@@ -8,6 +8,7 @@ use crate::support::pages::{WalkInput, listed, plain_lines, walked};
 use crate::support::report::Report;
 use crate::support::rows::{Kind, Row, rows_of, try_tables};
 use jtree::Tree;
+use schema::Profile;
 use std::alloc::Global;
 use std::test::Fail;
 
@@ -147,6 +148,7 @@ fn samples(rt: HostRuntime) -> Result<(), Fail> {
 fn are_plain(report: &mut Report, alloc: Global, schema: &str, pools: &str, name: &str) {
     for limit in 1..9 {
         let given = Given {
+            profile: Profile::Core,
             schema,
             pools,
             limit,

@@ -3,7 +3,10 @@ use crate::support::comparison::compare_plan;
 use crate::support::given::Given;
 use crate::support::report::Report;
 use crate::support::rows::{Row, rows_of};
-use crate::support::small_nodes::{HOLDERS, HOLDERS_OF_SCALARS, LEAVES, NODES, PRESENCE, SCALARS};
+use crate::support::small_nodes::{
+    HOLDERS, HOLDERS_OF_SCALARS, LEAVES, NODES, NUMBERS, PRESENCE, SCALARS,
+};
+use schema::Profile;
 use std::alloc::{AllocError, Global};
 use std::test::Fail;
 
@@ -13,9 +16,10 @@ const POOLS: &str =
 const FEW: &str =
     r#"{"any":[[true,[]],false],"integers":[7],"names":["p","a/b"],"strings":["bb"]}"#;
 
-/// Pools, a limit, and what their name adds to that of a row.
+/// A profile, pools, a limit, and what their name adds to that of a row.
 #[derive(Clone, Copy)]
 struct Over<'a> {
+    profile: Profile,
     pools: &'a str,
     limit: u32,
     name: &'a str,
@@ -36,6 +40,7 @@ fn one_node(
     );
     let schema = format!(in alloc; "{head}{schema}{tail}")?;
     let given = Given {
+        profile: over.profile,
         schema: schema.as_str(),
         pools: over.pools,
         limit: over.limit,
@@ -63,6 +68,7 @@ fn all_nodes(
 
 fn all_plans(report: &mut Report, alloc: Global, pools: &str, limit: u32) -> Result<(), Fail> {
     let over = Over {
+        profile: Profile::Core,
         pools,
         limit,
         name: "",
@@ -90,6 +96,25 @@ fn plans_over_few_values(rt: HostRuntime) -> Result<(), Fail> {
 fn plans_without_pools(rt: HostRuntime) -> Result<(), Fail> {
     let mut report = Report::new(rt.alloc());
     all_plans(&mut report, rt.alloc(), "{}", 8)?;
+    report.end(&rt)
+}
+
+// With one value twice.
+const NUMBER_POOLS: &str =
+    r#"{"integers":[2,1],"names":["q"],"numbers":[0.50,1.5,0.5],"strings":["a"]}"#;
+
+#[test]
+fn plans_of_numbers(rt: HostRuntime) -> Result<(), Fail> {
+    let mut report = Report::new(rt.alloc());
+    let over = Over {
+        profile: Profile::Cluster,
+        pools: NUMBER_POOLS,
+        limit: 6,
+        name: "",
+    };
+    for holders in [HOLDERS, HOLDERS_OF_SCALARS] {
+        all_nodes(&mut report, rt.alloc(), holders, &[NUMBERS], over)?;
+    }
     report.end(&rt)
 }
 
@@ -129,6 +154,7 @@ fn listed_nodes(
     let pools = format!(in alloc; r#"{front}{{"{path}":{list}}}}}"#)?;
     let name = format!(in alloc; ", {}", row.name())?;
     let over = Over {
+        profile: Profile::Core,
         pools: pools.as_str(),
         limit: 6,
         name: name.as_str(),
@@ -223,6 +249,7 @@ fn asked_node(
     let pools = format!(in alloc; r#"{{"integers":[0],"names":["p"],"present":{present}}}"#)?;
     let name = format!(in alloc; ", {present}")?;
     let over = Over {
+        profile: Profile::Core,
         pools: pools.as_str(),
         limit: 6,
         name: name.as_str(),

@@ -1,19 +1,20 @@
 //! Plans over words of 128 bits: limits above 63, and the same pages as over words of 64 bits below.
 use crate::support::documents::THIRTY_ONE;
 use crate::support::given::{Given, given_of, made};
-use crate::support::harness::{is_said, pools_of, schema_of};
+use crate::support::harness::is_said;
 use crate::support::pages::{lines_of, list_before_three, next_three_lists};
 use crate::support::report::Report;
 use crate::support::rows::{Kind, Row, try_tables};
 use enumerate::page;
 use jtree::Tree;
 use plan::{Meter, Plan};
+use schema::Profile;
 use std::alloc::Global;
 use std::test::Fail;
 
 fn wide(alloc: Global, given: Given<'_>) -> Result<Plan<u128>, Fail> {
-    let schema = schema_of(alloc, given.schema)?;
-    let pools = pools_of(alloc, given.pools)?;
+    let schema = given.schema(alloc)?;
+    let pools = given.pools(alloc)?;
     Ok(Plan::new(alloc, schema, pools, given.limit)?)
 }
 
@@ -35,6 +36,7 @@ fn is_next(
 /// One page amid 8^31 samples of 126 nodes.
 fn try_thirty_one(report: &mut Report, alloc: Global) -> Result<(), Fail> {
     let given = Given {
+        profile: Profile::Core,
         schema: THIRTY_ONE,
         pools: "{}",
         limit: 127,

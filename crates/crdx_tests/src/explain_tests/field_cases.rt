@@ -14,7 +14,7 @@ use stored::Schema;
 fn field_text(alloc: Global, field: &Field) -> Result<String, Fail> {
     let mut text = String::from_str(alloc, field.type_text.as_str())?;
     push_flag(&mut text, field.required, "required")?;
-    let is_map_list = field.list_type == Some(ListType::Map);
+    let is_map_list = matches!(field.list_type, Some(ListType::Map(_)));
     push_flag(&mut text, is_map_list, "map list")?;
     let is_granular = field.map_type == Some(MapType::Granular);
     push_flag(&mut text, is_granular, "granular")?;

@@ -5,7 +5,7 @@ use crate::support::report::Report;
 use crate::support::rows::{Kind, Row, all_rows, try_tables};
 use crate::support::texts::{border_of, repeated};
 use jtree::lines::{LineFeed, LineSource};
-use jtree::{JFault, Number, Numbers, Tree};
+use jtree::{Equality, JFault, Number, Numbers, Tree, TreeKey};
 use std::alloc::{AllocError, Global};
 use std::fmt::Write;
 use std::test::Fail;
@@ -185,8 +185,32 @@ impl Kind for PairRow {
         let turned = later.has_value_of(&earlier);
         report.is_value("by value, turned round", &turned, &same);
         report.holds("of its own value", later.has_value_of(&later));
+        compare_by_equality(report, &earlier, &later, same);
         Ok(())
     }
+}
+
+/// Two trees of which the first is before the second in both orders, but where they are the same by the values of their numbers.
+fn compare_by_equality(report: &mut Report, earlier: &Tree, later: &Tree, same: bool) {
+    let exact = earlier.compare_by(later, Equality::Exact);
+    report.holds("less exactly", exact.is_lt());
+    let other = !earlier.is_equal_by(later, Equality::Exact);
+    report.holds("another exactly", other);
+    let equal = earlier.is_equal_by(later, Equality::ByValue);
+    report.is_value("equal by value", &equal, &same);
+    let order = earlier.compare_by(later, Equality::ByValue);
+    report.is_value("they tie by value", &order.is_eq(), &same);
+    report.is_value("or are less", &order.is_lt(), &!same);
+    let key = key_of(earlier, Equality::ByValue);
+    let next = key_of(later, Equality::ByValue);
+    report.is_value("keys by value", &(key == next), &same);
+    let first = key_of(later, Equality::Exact);
+    report.holds("exact keys first", first < key);
+    report.holds("keys, exactly", key_of(earlier, Equality::Exact) < first);
+}
+
+fn key_of<'a>(tree: &'a Tree, equality: Equality) -> TreeKey<'a> {
+    TreeKey { tree, equality }
 }
 
 #[test]

@@ -4,6 +4,7 @@ use crate::support::pools::{DocumentRow, limits_of, outcome};
 use crate::support::report::Report;
 use crate::support::rows::{Kind, Row, all_rows, try_tables};
 use plan::PoolLimits;
+use schema::Profile;
 use std::alloc::{AllocError, Global};
 use std::fmt::Write;
 use std::test::Fail;
@@ -83,15 +84,44 @@ fn repeated(alloc: Global, row: &Row) -> Result<String, AllocError> {
 /// The beginning of a document, an entry with its comma, how many there are, the text after them, and what is answered.
 #[derive(Drop)]
 struct Long {
+    profile: Profile,
     limits: PoolLimits,
 }
 
 impl Kind for Long {
     fn attempt(&self, report: &mut Report, alloc: Global, row: &Row) -> Result<(), Fail> {
         let document = repeated(alloc, row)?;
-        let found = outcome(alloc, document.as_str(), self.limits);
+        let found = outcome(alloc, document.as_str(), self.profile, self.limits);
         is_said(report, "what is read", found, row.text("wanted"))
     }
+}
+
+/// The pools that a cluster's profile has besides.
+static NUMBERS: &str = r#"
+2 rows: name | head | entry | count | tail | wanted
+64 numbers | {"numbers":[ | 0.5, | 63 | 0.5]} | 0 0 0 0 0 0 0
+65 numbers | {"numbers":[ | 0.5, | 64 | 0.5]} | P2 numbers 65 64
+"#;
+
+static FEW_NUMBERS: &str = r#"
+4 rows: name | document | wanted
+as many numbers as there may be | {"numbers":[0.5]} | 0 0 0 0 0 0 0
+too many names and numbers | {"numbers":[0.5,1],"names":["a","b","c"]} | P2 names 3 2
+too many numbers and paths | {"paths":{"/a":[1],"/b":[2],"/c":[],"/d":[]},"numbers":[0.5,0.5]} | P2 numbers 2 1
+a text among too many numbers | {"numbers":[0.5,1,"x"]} | P1 "/numbers/2"
+"#;
+
+fn all_of_numbers(report: &mut Report, alloc: Global, few: PoolLimits) {
+    let long = Long {
+        profile: Profile::Cluster,
+        limits: PoolLimits::STANDARD,
+    };
+    let short = DocumentRow {
+        profile: Profile::Cluster,
+        limits: few,
+    };
+    all_rows(report, alloc, &long, &[NUMBERS]);
+    all_rows(report, alloc, &short, &[FEW_NUMBERS]);
 }
 
 #[test]
@@ -102,9 +132,11 @@ fn limits(rt: HostRuntime) -> Result<(), Fail> {
         paths: 3,
     };
     let standard = Long {
+        profile: Profile::Core,
         limits: PoolLimits::STANDARD,
     };
     let large = Long {
+        profile: Profile::Core,
         limits: PoolLimits::LARGE,
     };
     let alloc = rt.alloc();
@@ -116,7 +148,12 @@ fn limits(rt: HostRuntime) -> Result<(), Fail> {
         &[PATHS_AND_SCALARS, NAMES_AND_TREES],
     );
     all_rows(&mut report, alloc, &large, &[LARGE]);
-    all_rows(&mut report, alloc, &DocumentRow { limits: few }, &[FEW]);
+    let few_of_all = DocumentRow {
+        profile: Profile::Core,
+        limits: few,
+    };
+    all_rows(&mut report, alloc, &few_of_all, &[FEW]);
+    all_of_numbers(&mut report, alloc, few);
     report.end(&rt)
 }
 
@@ -150,7 +187,7 @@ impl Kind for ManyPaths {
     fn attempt(&self, report: &mut Report, alloc: Global, row: &Row) -> Result<(), Fail> {
         let document = many_paths(alloc, row.text("pool"), row.count("count"))?;
         let limits = limits_of(row.text("limits"))?;
-        let found = outcome(alloc, document.as_str(), limits);
+        let found = outcome(alloc, document.as_str(), Profile::Core, limits);
         is_said(report, "what is read", found, row.text("wanted"))
     }
 }

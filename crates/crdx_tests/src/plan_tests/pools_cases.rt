@@ -3,9 +3,10 @@ use crate::support::harness::{is_said, pools_of};
 use crate::support::pages::lines_of;
 use crate::support::pools::{DocumentRow, counts, said};
 use crate::support::report::Report;
-use crate::support::rows::try_tables;
-use jtree::{Text, Tree};
+use crate::support::rows::{Kind, Row, try_tables};
+use jtree::{Numbers, Text, Tree};
 use plan::{PFault, PoolLimits, Pools};
+use schema::Profile;
 use std::alloc::Global;
 use std::test::Fail;
 
@@ -66,10 +67,56 @@ any trees before an entry | {"any":["x",1],"integers":[1,"x"]} | P1 "/integers/1
 #[test]
 fn forms(rt: HostRuntime) -> Result<(), Fail> {
     let kind = DocumentRow {
+        profile: Profile::Core,
         limits: PoolLimits::STANDARD,
     };
     let tables = &[FIXED_AND_PRESENT, VALUES_AND_PATHS, FORMS, NAMES];
     try_tables(&rt, rt.alloc(), &kind, tables)
+}
+
+// The code and the pointer, or how many integers and numbers there are.
+static BY_PROFILE: &str = r#"
+11 rows: name | document | core | cluster
+nothing | {} | 0 0 | 0 0
+numbers | {"numbers":[0.5,1,0.50]} | P1 "/numbers" | 0 3
+integers and numbers | {"integers":[1],"numbers":[2]} | P1 "/numbers" | 1 1
+no numbers | {"numbers":[]} | P1 "/numbers" | 0 0
+a number for numbers | {"numbers":0.5} | P1 "/numbers" | P1 "/numbers"
+a text among numbers | {"numbers":[0.5,"x"]} | P1 "/numbers" | P1 "/numbers/1"
+null among numbers | {"numbers":[null]} | P1 "/numbers" | P1 "/numbers/0"
+a number among integers | {"integers":[1,0.5]} | P1 "/integers/1" | P1 "/integers/1"
+a number that is whole among integers | {"integers":[1.0,1e2]} | 2 0 | 2 0
+another name | {"number":[1]} | P1 "/number" | P1 "/number"
+numbers in lists of any values | {"any":[0.5],"fixed":{"/a":[0.5]},"paths":{"/a":[1.5]}} | 0 0 | 0 0
+"#;
+
+fn read_as(alloc: Global, document: &Tree, profile: Profile) -> Result<String, Fail> {
+    match Pools::read_by(alloc, document, profile, PoolLimits::STANDARD) {
+        Ok(pools) => {
+            let (integers, numbers) = (pools.integers().len(), pools.numbers().len());
+            Ok(format!(in alloc; "{integers} {numbers}")?)
+        }
+        Err(fault) => Ok(said(alloc, &fault)?),
+    }
+}
+
+/// A document, and what is read of it by each profile.
+struct ProfileRow;
+
+impl Kind for ProfileRow {
+    fn attempt(&self, report: &mut Report, alloc: Global, row: &Row) -> Result<(), Fail> {
+        let bytes = row.text("document").as_bytes();
+        let document = Tree::from_bytes_with(alloc, bytes, Numbers::All)?;
+        let core = read_as(alloc, &document, Profile::Core);
+        is_said(report, "by the core profile", core, row.text("core"))?;
+        let cluster = read_as(alloc, &document, Profile::Cluster);
+        is_said(report, "by a cluster", cluster, row.text("cluster"))
+    }
+}
+
+#[test]
+fn by_profile(rt: HostRuntime) -> Result<(), Fail> {
+    try_tables(&rt, rt.alloc(), &ProfileRow, &[BY_PROFILE])
 }
 
 fn are_texts(report: &mut Report, found: &[Text], wanted: &[&str]) {

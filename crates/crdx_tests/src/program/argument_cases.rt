@@ -2,12 +2,12 @@
 use crate::support::harness::{is_said, words_of};
 use crate::support::report::Report;
 use crate::support::rows::{Kind, Row, try_tables};
-use crdx::Profile;
 use crdx::arguments::{
     CommonArguments, CoverArguments, ExplainArguments, ObjectArguments, ObjectCommand,
     PoolsArguments, Request, SampleArguments, parse_arguments,
 };
 use crdx::inputs::InputName;
+use schema::Profile;
 use std::alloc::{AllocError, Global};
 use std::fmt::Write;
 use std::test::Fail;

@@ -44,7 +44,7 @@ leaves | crdx leaves crd.json v1 object.json --profile cluster | @PLACES | {"i":
 "#;
 
 static OTHERS: &str = r#"
-9 rows: name | command | schema | second | status
+14 rows: name | command | schema | second | status
 with core, which is usual | crdx validate crd.json v1 object.json --profile core | @PLACES | {"o":0.5} | 3
     ! crdx: object: J1
 without a profile | crdx validate crd.json v1 object.json | @PLACES | {"o":1.0} | 3
@@ -56,8 +56,8 @@ on lines | crdx validate crd.json v1 object.json --lines --profile cluster | @PL
 completed on lines | crdx default crd.json v1 object.json --lines --profile cluster | @PLACES | {"o":0.50}␊{"o":-0}␊ | 0
     > {"o":0.50}
     > {"o":0}
-a bound that is no integer | crdx check crd.json v1 --profile cluster | {"type":"object","properties":{"a":{"type":"integer","minimum":0.5}}} | {} | 3
-    ! crdx: crd: S3 "/properties/a/minimum"
+a bound that is no integer | crdx check crd.json v1 --profile cluster | {"type":"object","properties":{"a":{"type":"integer","minimum":0.5}}} | {} | 0
+    > structural
 a whole bound | crdx check crd.json v1 --profile cluster | {"type":"object","properties":{"a":{"type":"integer","minimum":1.0}}} | {} | 0
     > structural
 samples over fractions | crdx sample crd.json v1 --pools pools.json --limit 2 --profile cluster
@@ -76,6 +76,27 @@ a cover | crdx cover crd.json v1 --pools pools.json --profile cluster
     | {"type":"object","properties":{"o":{"x-kubernetes-preserve-unknown-fields":true}}} | {"any":[0.5]} | 0
     > {"o":0.5}
     ! crdx: all paths are in some sample
+numbers beside integers | crdx sample crd.json v1 --pools pools.json --limit 2 --profile cluster
+    | {"type":"object","properties":{"a":{"type":"integer"}}} | {"integers":[3],"numbers":[0.5,1]} | 0
+    > {}
+    > {"a":3}
+    ! crdx: end
+a text among numbers | crdx sample crd.json v1 --pools pools.json --limit 2 --profile cluster --why
+    | {"type":"object","properties":{"a":{"type":"integer"}}} | {"numbers":[0.5,"x"]} | 3
+    ! crdx: pools: P1 "/numbers/1"
+    !     found "x"; allowed is a number
+no list of numbers | crdx sample crd.json v1 --pools pools.json --limit 2 --profile cluster --why
+    | {"type":"object","properties":{"a":{"type":"integer"}}} | {"numbers":0.5} | 3
+    ! crdx: pools: P1 "/numbers"
+    !     found 0.5; allowed is a list of numbers
+numbers without the profile | crdx sample crd.json v1 --pools pools.json --limit 2 --why
+    | {"type":"object","properties":{"a":{"type":"integer"}}} | {"numbers":[1]} | 3
+    ! crdx: pools: P1 "/numbers"
+    !     found a list; allowed are the members "any", "fixed", "integers", "names", "paths", "present" and "strings"
+another pool | crdx sample crd.json v1 --pools pools.json --limit 2 --profile cluster --why
+    | {"type":"object","properties":{"a":{"type":"integer"}}} | {"floats":[1]} | 3
+    ! crdx: pools: P1 "/floats"
+    !     found a list; allowed are the members "any", "fixed", "integers", "names", "numbers", "paths", "present" and "strings"
 "#;
 
 static WRITTEN: &str = r#"
@@ -226,8 +247,8 @@ in branches of junctors | crdx check crd.json v1 --profile cluster
 beside no type | crdx check crd.json v1 --profile cluster | {"type":"object","properties":{"a":{"pattern":"("},"b":{"type":"string","default":1}}} | - | 1
     > V01 "/properties/a"
     > C01 "/properties/a"
-what is no text | crdx check crd.json v1 --profile cluster | {"type":"object","properties":{"a":{"type":"string","pattern":1}}} | - | 1
-    > V17 "/properties/a"
+what is no text | crdx check crd.json v1 --profile cluster | {"type":"object","properties":{"a":{"type":"string","pattern":1}}} | - | 3
+    ! crdx: crd: S3 "/properties/a/pattern"
 good ones alone | crdx check crd.json v1 --profile cluster | @PATTERN | - | 1
     > V17 "/properties/a"
 none | crdx check crd.json v1 --profile cluster | {"type":"object","properties":{"a":{},"pattern":{"type":"string"}}} | - | 1

@@ -5,7 +5,7 @@ ghost use Rattle.plan.specs.Samples.Candidates.{sort_of};
 ghost use Rattle.plan.specs.declared.sort.Sort.TheVariants as sort;
 
 use crate::support::given::{Given, made};
-use crate::support::harness::{is_same, pools_of, schema_of};
+use crate::support::harness::is_same;
 use crate::support::plain_cover::try_cover;
 use crate::support::plain_stored::{Before, is_plainly_stored};
 use crate::support::plans::{are_sizes, item_of, more_of, place_of, rest_of, slot_of};
@@ -385,8 +385,8 @@ fn try_made(
     given: Given<'_>,
     meter: &mut Meter,
 ) -> Result<Vec<Tree>, Fail> {
-    let schema = schema_of(alloc, given.schema)?;
-    let pools = pools_of(alloc, given.pools)?;
+    let schema = given.schema(alloc)?;
+    let pools = given.pools(alloc)?;
     let of = Compared {
         alloc,
         plan,

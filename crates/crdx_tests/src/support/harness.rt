@@ -3,9 +3,9 @@ use crate::support::fakes::{FailingSink, FakeInputs, Reads};
 use crate::support::phrases::with_phrases;
 use crate::support::report::Report;
 use crate::support::rows::{Kind, Row};
-use jtree::Tree;
-use plan::Pools;
-use schema::{Crd, SFault, read_crd};
+use jtree::{Numbers, Tree};
+use plan::{PoolLimits, Pools};
+use schema::{Crd, Limits, Profile, Reading, SFault, read_crd, read_crd_by};
 use std::alloc::{AllocError, Global};
 use std::test::Fail;
 use stored::{Schema, accept};
@@ -199,6 +199,22 @@ pub fn is_same(found: Option<&Tree>, wanted: &Tree) -> bool {
 pub fn schema_of(alloc: Global, schema: &str) -> Result<Schema, Fail> {
     let crd = crd_of(alloc, schema)??;
     Ok(accept(alloc, crd.raw)?)
+}
+
+/// The accepted schema of a definition with this schema, by a profile.
+pub fn schema_by(alloc: Global, profile: Profile, schema: &str) -> Result<Schema, Fail> {
+    let document = definition(alloc, schema)?;
+    let document = Tree::from_bytes_with(alloc, document.as_bytes(), Numbers::All)?;
+    let limits = Limits::STANDARD;
+    let crd = read_crd_by(alloc, &document, "v1", Reading { profile, limits })?;
+    Ok(accept(alloc, crd.raw)?)
+}
+
+/// The pools of a document, by a profile.
+pub fn pools_by(alloc: Global, profile: Profile, pools: &str) -> Result<Pools, Fail> {
+    let document = Tree::from_bytes_with(alloc, pools.as_bytes(), Numbers::All)?;
+    let limits = PoolLimits::STANDARD;
+    Ok(Pools::read_by(alloc, &document, profile, limits)?)
 }
 
 /// The pools of a document.

@@ -27,6 +27,7 @@ fn sort_keyword(sort: &Sort) -> &str {
         Sort::Scalar(scalar) => match scalar.kind {
             ScalarKind::Boolean => "boolean",
             ScalarKind::Integer => "integer",
+            ScalarKind::Number => "number",
             ScalarKind::String => "string",
             ScalarKind::IntOrString => "int-or-string",
         },
@@ -88,8 +89,8 @@ fn push_map(out: &mut String, map: &MapNode) -> Result<(), Fail> {
 
 fn push_list(out: &mut String, list: &ListNode) -> Result<(), Fail> {
     push_keyword(out, "of", sort_keyword(&list.item.node.sort))?;
-    push_flag(out, list.list_type == ListType::Set, "set")?;
-    push_flag(out, list.list_type == ListType::Map, "map")?;
+    push_flag(out, matches!(list.list_type, ListType::Set(_)), "set")?;
+    push_flag(out, matches!(list.list_type, ListType::Map(_)), "map")?;
     for key in &list.keys {
         push_keyword(out, "key", key.as_str())?;
     }

@@ -1,7 +1,6 @@
 //! Samples as lines, and walks on a sink.
 use crate::support::fakes::FailingSink;
 use crate::support::given::{Given, made};
-use crate::support::harness::{pools_of, schema_of};
 use crate::support::reference::plain_parts;
 use crdx::walk::{WFault, Walked, walk};
 use jtree::{JFault, Tree};
@@ -62,8 +61,8 @@ pub fn walked(
 
 /// All samples, by the plain reference.
 pub fn listed(alloc: Global, given: Given<'_>) -> Result<Vec<Tree>, Fail> {
-    let pools = pools_of(alloc, given.pools)?;
-    let schema = schema_of(alloc, given.schema)?;
+    let pools = given.pools(alloc)?;
+    let schema = given.schema(alloc)?;
     let limit = u64::from(given.limit);
     Ok(plain_parts(alloc, schema.root(), "", &pools, limit)?)
 }

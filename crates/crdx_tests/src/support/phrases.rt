@@ -74,6 +74,7 @@ KeyNotScalar lists a key that is not a scalar; crdx-relax makes the list atomic
 NullableKey lists a key that is nullable; crdx-relax makes the list atomic
 OptionalKey lists a key that items may lack; require it, or give it a default
 NotInScalarBranches not a keyword of a scalar's junctors for crdx; crdx-relax drops the junctor
+EnumOfOtherKind lists a value of another type; crdx-relax leaves it out
 NotOfScalars not a keyword of scalars for crdx; crdx-relax drops it
 "#;
 

@@ -1,7 +1,6 @@
 //! What `cover` answers, by the definitions alone: of all samples the first one with each path, and with each value at it. It is slow,
 //! and uses nothing of `cover` but the names of its answer.
 use crate::support::given::{Given, made};
-use crate::support::harness::{pools_of, schema_of};
 use crate::support::reference::plain_parts;
 use crate::support::report::Report;
 use cover::{Covered, Line, Wanted, cover};
@@ -206,12 +205,7 @@ pub fn try_cover(
     given: Given<'_>,
     samples: &[Tree],
 ) -> Result<(), Fail> {
-    let wanted = plain_cover(
-        alloc,
-        &schema_of(alloc, given.schema)?,
-        &pools_of(alloc, given.pools)?,
-        samples,
-    )?;
+    let wanted = plain_cover(alloc, &given.schema(alloc)?, &given.pools(alloc)?, samples)?;
     let found = text_of(alloc, &cover(alloc, made(alloc, given)?, true)?)?;
     report.is_text("a cover", found.as_str(), wanted.as_str());
     Ok(())

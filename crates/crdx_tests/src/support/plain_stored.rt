@@ -1,6 +1,7 @@
 //! What is stored at a node, by the rules alone: what is valid there, and is left as it is by pruning and by defaulting. It uses nothing
 //! of `stored`.
-use jtree::{Items, Members, Text, Tree};
+use jtree::{Equality, Items, Members, Text, Tree};
+use judge::{is_long, is_short, passes_enum, passes_maximum, passes_minimum};
 use schema::{
     Bounds, Branches, Constraints, Fields, ListNode, ListType, Node, ObjectNode, ScalarKind, Sort,
     Validations,
@@ -119,18 +120,28 @@ fn repeats_any(list: &ListNode, earlier: &[Tree], item: &Tree) -> bool {
 /// In a set equal items repeat, in a map list objects that have the same under each key.
 fn repeats(list: &ListNode, item: &Tree, other: &Tree) -> bool {
     match (list.list_type, item, other) {
-        (ListType::Set, _, _) => *item == *other,
-        (ListType::Map, Tree::Object(members), Tree::Object(others)) => {
-            have_same_keys(&list.keys, members, others)
+        (ListType::Set(equality), _, _) => are_equal(item, other, equality),
+        (ListType::Map(equality), Tree::Object(members), Tree::Object(others)) => {
+            have_same_keys(&list.keys, members, others, equality)
         }
         _ => false,
     }
 }
 
-fn have_same_keys(keys: &[Text], members: &Members, others: &Members) -> bool {
+/// Whether the two are the same, or numbers of the same value where values are compared: items of sets and keys are scalars.
+fn are_equal(value: &Tree, other: &Tree, equality: Equality) -> bool {
+    match (equality, value, other) {
+        (Equality::ByValue, Tree::Number(number), Tree::Number(second)) => {
+            number.has_value_of(second)
+        }
+        _ => *value == *other,
+    }
+}
+
+fn have_same_keys(keys: &[Text], members: &Members, others: &Members, equality: Equality) -> bool {
     for key in keys {
         let is_same = match (members.get(key.as_str()), others.get(key.as_str())) {
-            (Some(value), Some(other)) => *value == *other,
+            (Some(value), Some(other)) => are_equal(value, other, equality),
             (None, None) => true,
             _ => false,
         };
@@ -142,11 +153,12 @@ fn have_same_keys(keys: &[Text], members: &Members, others: &Members) -> bool {
 }
 
 fn is_of_kind(kind: ScalarKind, value: &Tree) -> bool {
-    match value {
-        Tree::Bool(_) => kind == ScalarKind::Boolean,
-        Tree::Int(_) => kind == ScalarKind::Integer || kind == ScalarKind::IntOrString,
-        Tree::Text(_) => kind == ScalarKind::String || kind == ScalarKind::IntOrString,
-        Tree::Null | Tree::Number(_) | Tree::List(_) | Tree::Object(_) => false,
+    match kind {
+        ScalarKind::Boolean => matches!(value, Tree::Bool(_)),
+        ScalarKind::Integer => matches!(value, Tree::Int(_)),
+        ScalarKind::Number => matches!(value, Tree::Int(_) | Tree::Number(_)),
+        ScalarKind::String => matches!(value, Tree::Text(_)),
+        ScalarKind::IntOrString => matches!(value, Tree::Int(_) | Tree::Text(_)),
     }
 }
 
@@ -224,14 +236,26 @@ fn is_seen(name: &Text, before: Before<'_>) -> bool {
     false
 }
 
-/// Bounds are asked of integers alone, and lengths of texts alone, in Unicode scalar values.
+/// A schema that is kept as it is written is asked by `judge`. By the others bounds are asked of integers alone, and lengths of texts alone, in
+/// Unicode scalar values.
 fn meets_constraints(constraints: &Constraints, value: &Tree) -> bool {
+    if let Some(schema) = &constraints.written {
+        return meets_written(schema, value);
+    }
     let is_within_bounds = match value {
         Tree::Int(number) => is_at_least(constraints, *number) && is_at_most(constraints, *number),
         Tree::Text(text) => is_within(constraints.lengths, text.as_str().chars().count() as u64),
         Tree::Null | Tree::Bool(_) | Tree::Number(_) | Tree::List(_) | Tree::Object(_) => true,
     };
     is_within_bounds && is_choice(constraints, value)
+}
+
+fn meets_written(schema: &Members, value: &Tree) -> bool {
+    passes_enum(schema.get("enum"), value)
+        && passes_minimum(schema, value)
+        && passes_maximum(schema, value)
+        && is_long(schema, value)
+        && is_short(schema, value)
 }
 
 fn is_at_least(constraints: &Constraints, number: i64) -> bool {

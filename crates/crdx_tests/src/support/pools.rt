@@ -2,8 +2,9 @@
 use crate::support::harness::is_said;
 use crate::support::report::Report;
 use crate::support::rows::{Kind, Row};
-use jtree::Tree;
+use jtree::{Numbers, Tree};
 use plan::{Oversized, PFault, PoolLimits, PoolName, Pools, oversized_pool};
+use schema::Profile;
 use std::alloc::{AllocError, Global};
 use std::test::Fail;
 
@@ -36,6 +37,7 @@ fn name_of(pool: PoolName<'_>) -> &str {
         PoolName::FixedAt(path) => path,
         PoolName::Integers => "integers",
         PoolName::Names => "names",
+        PoolName::Numbers => "numbers",
         PoolName::Paths => "paths",
         PoolName::At(path) => path,
         PoolName::Present => "present",
@@ -52,28 +54,40 @@ fn too_many(alloc: Global, oversized: Option<Oversized<'_>>) -> Result<String, A
 }
 
 /// What is read, counted, or the fault.
-fn outcome_of(alloc: Global, document: &Tree, limits: PoolLimits) -> Result<String, AllocError> {
-    match Pools::read_within(alloc, document, limits) {
+fn outcome_of(
+    alloc: Global,
+    document: &Tree,
+    profile: Profile,
+    limits: PoolLimits,
+) -> Result<String, AllocError> {
+    match Pools::read_by(alloc, document, profile, limits) {
         Ok(pools) => counts(alloc, &pools),
         Err(PFault::TooLarge) => too_many(alloc, oversized_pool(document, limits)),
         Err(fault) => said(alloc, &fault),
     }
 }
 
-pub fn outcome(alloc: Global, document: &str, limits: PoolLimits) -> Result<String, Fail> {
-    let document = Tree::from_bytes(alloc, document.as_bytes())?;
-    Ok(outcome_of(alloc, &document, limits)?)
+/// Of a document with any number.
+pub fn outcome(
+    alloc: Global,
+    document: &str,
+    profile: Profile,
+    limits: PoolLimits,
+) -> Result<String, Fail> {
+    let document = Tree::from_bytes_with(alloc, document.as_bytes(), Numbers::All)?;
+    Ok(outcome_of(alloc, &document, profile, limits)?)
 }
 
 /// A document, and how many entries there are in each pool, or the fault.
 #[derive(Drop)]
 pub struct DocumentRow {
+    pub profile: Profile,
     pub limits: PoolLimits,
 }
 
 impl Kind for DocumentRow {
     fn attempt(&self, report: &mut Report, alloc: Global, row: &Row) -> Result<(), Fail> {
-        let found = outcome(alloc, row.text("document"), self.limits);
+        let found = outcome(alloc, row.text("document"), self.profile, self.limits);
         is_said(report, "what is read", found, row.text("wanted"))
     }
 }

@@ -42,7 +42,7 @@ pub fn plain_values(
     limit: u64,
 ) -> Result<Vec<Tree>, AllocError> {
     if let Some(list) = pools.fixed_at(path) {
-        return within(alloc, copies(alloc, list)?, limit);
+        return within(alloc, leasts(alloc, list)?, limit);
     }
     let mut values = values_of(alloc, &node.sort, path, pools, limit.saturating_sub(1))?;
     if node.nullable {
@@ -114,10 +114,10 @@ fn values_of(
 ) -> Result<Vec<Tree>, AllocError> {
     match sort {
         Sort::Scalar(scalar) => match pools.list_at(path) {
-            Some(list) => copies(alloc, list),
-            None => scalars(alloc, scalar, pools),
+            Some(list) => leasts(alloc, list),
+            None => leasts(alloc, &scalars(alloc, scalar, pools)?),
         },
-        Sort::Open => copies(alloc, pools.list_at(path).unwrap_or(pools.any())),
+        Sort::Open => leasts(alloc, pools.list_at(path).unwrap_or(pools.any())),
         Sort::Object(object) => {
             let choices = field_choices(alloc, &object.fields, path, pools, room)?;
             objects(alloc, &choices, room)
@@ -366,6 +366,36 @@ fn copies(alloc: Global, trees: &[Tree]) -> Result<Vec<Tree>, AllocError> {
     Ok(values)
 }
 
+/// Those but numbers of which a lesser one has the same value.
+fn leasts(alloc: Global, trees: &[Tree]) -> Result<Vec<Tree>, AllocError> {
+    let mut values = Vec::new(alloc);
+    for tree in trees {
+        if !has_lesser(trees, tree) {
+            values.push(copied(alloc, tree)?)?;
+        }
+    }
+    Ok(values)
+}
+
+fn has_lesser(trees: &[Tree], tree: &Tree) -> bool {
+    for other in trees {
+        if is_lesser(other, tree) {
+            return true;
+        }
+    }
+    false
+}
+
+/// Whether the first is a number of the value of the second, and before it.
+fn is_lesser(tree: &Tree, other: &Tree) -> bool {
+    match (tree, other) {
+        (Tree::Number(number), Tree::Number(second)) => {
+            number.has_value_of(second) && *tree < *other
+        }
+        _ => false,
+    }
+}
+
 fn scalars(alloc: Global, scalar: &ScalarNode, pools: &Pools) -> Result<Vec<Tree>, AllocError> {
     match &scalar.validations.constraints.choices {
         Some(choices) => copies(alloc, &choices.items),
@@ -379,8 +409,14 @@ fn scalars_of(alloc: Global, kind: ScalarKind, pools: &Pools) -> Result<Vec<Tree
         values.push(Tree::Bool(false))?;
         values.push(Tree::Bool(true))?;
     }
-    if kind == ScalarKind::Integer || kind == ScalarKind::IntOrString {
+    if matches!(
+        kind,
+        ScalarKind::Integer | ScalarKind::Number | ScalarKind::IntOrString
+    ) {
         push_integers(&mut values, pools)?;
+    }
+    if kind == ScalarKind::Number {
+        push_numbers(alloc, &mut values, pools)?;
     }
     if kind == ScalarKind::String || kind == ScalarKind::IntOrString {
         push_strings(alloc, &mut values, pools)?;
@@ -391,6 +427,13 @@ fn scalars_of(alloc: Global, kind: ScalarKind, pools: &Pools) -> Result<Vec<Tree
 fn push_integers(values: &mut Vec<Tree>, pools: &Pools) -> Result<(), AllocError> {
     for integer in pools.integers() {
         values.push(Tree::Int(*integer))?;
+    }
+    Ok(())
+}
+
+fn push_numbers(alloc: Global, values: &mut Vec<Tree>, pools: &Pools) -> Result<(), AllocError> {
+    for number in pools.numbers() {
+        values.push(copied(alloc, number)?)?;
     }
     Ok(())
 }

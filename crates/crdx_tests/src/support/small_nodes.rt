@@ -47,6 +47,18 @@ integers but one | {"type":"integer","not":{"enum":[1]}}
 texts of one branch | {"type":"string","oneOf":[{"maxLength":1},{"enum":["a","bb"]}]}
 "#;
 
+/// Nodes by the profile of a cluster: of numbers, and of integers whose bounds are cut. None is nullable.
+pub static NUMBERS: &str = r#"
+7 rows: name | schema
+numbers | {"type":"number"}
+some numbers, one value twice | {"type":"number","enum":[0.50,2,0.5,1.0]}
+numbers within bounds | {"type":"number","minimum":0.5,"maximum":2}
+numbers but one | {"type":"number","not":{"enum":[0.5]}}
+numbers of one branch | {"type":"number","oneOf":[{"minimum":1},{"maximum":1.5}]}
+integers within bounds that are cut | {"type":"integer","minimum":0.5,"maximum":1.5}
+integers or texts above a bound that is cut | {"x-kubernetes-int-or-string":true,"minimum":1.5}
+"#;
+
 /// Other scalars, and open nodes.
 pub static LEAVES: &str = r#"
 4 rows: name | schema

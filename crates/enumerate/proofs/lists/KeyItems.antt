@@ -26,7 +26,8 @@ use Rattle.enumerate.specs.View.{trees_of}
 use Rattle.enumerate.specs.Internal.Nodes.{site, IsPartOf, HasSizeAt, FreeLaw}
 use Rattle.enumerate.specs.Internal.Rows.{slots_from, row_demand, key_values, used_keys, AreUsed, IsOpen, IsRow}
 use Rattle.enumerate.specs.Internal.Lists.{AreFirst, IsUnusedItem}
-use Rattle.enumerate.proofs.lists.UnusedItems.{own_keys, among_parts}
+use Rattle.enumerate.proofs.lists.UnusedItems.{own_keys}
+use Rattle.enumerate.proofs.lists.Whole.{among_parts}
 use Rattle.enumerate.proofs.lists.Whole.{any_false, false_any}
 use Rattle.enumerate.proofs.walks.Least.{least_same}
 use Rattle.enumerate.proofs.lists.Lemmas.{counted, few_items}

@@ -50,4 +50,4 @@ module _ (q : Question) (i c : ℕ) (laws : HasItems q i c) where
       let r = some_items q i c laws (items_of used) k within first (subst (λ t. HasMore q.pools q.limit (site q i) t k) (sym (counted used)) at) in
       let f = first_item_unused (items_of used) k r.0 first within (from_some (length used) more.items many) r.1 in
       let size : node_count f.0 ≡ n = omega (arith, set.one f.0 f.1.part.part, set.one has.part has.is, has.nodes_are) in
-      (f.0, (set_item_unused q i c n used f.0 set).1 (subst (λ x. IsUnusedItem q i c x (items_of used) f.0) size f.1))
+      (f.0, (set_item_unused q i c n used f.0 set first.are).1 (subst (λ x. IsUnusedItem q i c x (items_of used) f.0) size f.1))

@@ -30,19 +30,14 @@ use Rattle.enumerate.specs.Internal.Lists.{IsUnusedItem}
 use Rattle.enumerate.specs.Internal.Membership.{still_left, IsUnusedRow}
 use Rattle.enumerate.proofs.walks.Membership.{row_of, row_from}
 use Rattle.enumerate.proofs.rows.Lemmas.{among_filter, filter_among}
-use Rattle.enumerate.proofs.lists.Whole.{any_false, false_any}
+use Rattle.enumerate.proofs.lists.Whole.{any_false, false_any, among_parts}
 use Rattle.std.proofs.lemmas.Bool.{false_from_ne_true}
 
 -- ---- which items are alike
 
-pub any_found : (P : Pools) (s M : Site) (ts : List Tree) (t : Tree) → AreSetItems P s M → any_item (λ u. alike_at s u (data_of t)) (items_of ts) ≡ has_tree ts t
-any_found P s M [] t set = refl
-any_found P s M (u ∷ ts) t set = rw (set.alike (data_of u) (data_of t), any_found P s M ts t set) refl
-
-pub among_parts : (P : Pools) (M : Site) (ts : List Tree) → AreParts P M (items_of ts) → (u : Data) → Among (trees_of ts) u → IsPart P M u
-among_parts P M [] h u a = absurd a
-among_parts P M (t ∷ ts) h u (inl same) = subst (IsPart P M) same h.0
-among_parts P M (t ∷ ts) h u (inr a) = among_parts P M ts h.1 u a
+pub any_found : (P : Pools) (s M : Site) (ts : List Tree) (t : Tree) → AreSetItems P s M → AreParts P M (items_of ts) → IsPart P M (data_of t) → any_item (λ u. alike_at s u (data_of t)) (items_of ts) ≡ has_tree ts t
+any_found P s M [] t set are part = refl
+any_found P s M (u ∷ ts) t set are part = rw (set.alike (data_of u) (data_of t) are.0 part, any_found P s M ts t set are.1 part) refl
 
 -- ---- the keys of rows
 

@@ -16,7 +16,7 @@ use Rattle.stored.specs.Objects.Tests.{is_same}
 use Rattle.plan.specs.Samples.Part.{IsPart}
 use Rattle.plan.specs.Samples.Sites.{Site, item_site}
 use Rattle.plan.specs.Samples.Sizes.{HasMore}
-use Rattle.plan.specs.Samples.RuleOfParts.{RuleOfParts, alike_at, admits_null}
+use Rattle.plan.specs.Samples.RuleOfParts.{RuleOfParts, AreParts, alike_at, admits_null}
 use Rattle.plan.specs.Samples.Candidates.{sort_of, distinct_of}
 use Rattle.plan.specs.Samples.Keys.{HasSoundParts, AreSetItems}
 use Rattle.plan.specs.Pools.Pools.{Pools}
@@ -114,19 +114,24 @@ always_unused P s sound e v (item d ds) = or_from (alike_at s d v) (any_item (λ
 pub part_unused : (q : Question) (i c n : ℕ) (used : Items) (v : Data) → HasSoundParts q.pools (site q i) → distinct_of (site q i) ≡ Free → IsPartOf q c n v → IsUnusedItem q i c n used v
 part_unused q i c n used v sound e p = record { part = p; unused = always_unused q.pools (site q i) sound e v used }
 
+pub among_parts : (P : Pools) (M : Site) (ts : List Tree) → AreParts P M (items_of ts) → (u : Data) → Among (trees_of ts) u → IsPart P M u
+among_parts P M [] h u a = absurd a
+among_parts P M (t ∷ ts) h u (inl same) = subst (IsPart P M) same h.0
+among_parts P M (t ∷ ts) h u (inr a) = among_parts P M ts h.1 u a
+
 -- in a set those are that are none of the items
-pub set_item_unused : (q : Question) (i c n : ℕ) (used : List Tree) (v : Data) → AreSetItems q.pools (site q i) (site q c) → IsUnusedPart q c n (trees_of used) v ↔ IsUnusedItem q i c n (items_of used) v
-set_item_unused q i c n used v set = (
+pub set_item_unused : (q : Question) (i c n : ℕ) (used : List Tree) (v : Data) → AreSetItems q.pools (site q i) (site q c) → AreParts q.pools (site q c) (items_of used) → IsUnusedPart q c n (trees_of used) v ↔ IsUnusedItem q i c n (items_of used) v
+set_item_unused q i c n used v set are = (
   λ h. record {
     part = h.0;
     unused = false_any (λ u. alike_at (site q i) u v) used (λ u a.
-        set.alike u v ∙ false_from_ne_true (is_same u v) (λ same. h.1 (contains _ _ (subst (Among (trees_of used)) (same_tree u v same) a))));
+        set.alike u v (among_parts q.pools (site q c) used are u a) h.0.part ∙ false_from_ne_true (is_same u v) (λ same. h.1 (contains _ _ (subst (Among (trees_of used)) (same_tree u v same) a))));
   },
   λ h. (
     h.part,
     λ m.
         let no = any_false (λ u. alike_at (site q i) u v) used h.unused v (contained _ _ m) in
-        let both : true ≡ false = sym (own_tree v) ∙ (sym (set.alike v v) ∙ no) in
+        let both : true ≡ false = sym (own_tree v) ∙ (sym (set.alike v v h.part.part h.part.part) ∙ no) in
         cc,
   ),
 )

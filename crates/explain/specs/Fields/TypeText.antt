@@ -2,12 +2,13 @@
 use Rattle.std.specs.Prelude.{ℕ, List, ◌++◌, codes}
 use Rattle.schema.specs.Nodes.Node.{Node, node, Sort, scalar, object, map, list, open_}
 use Rattle.schema.specs.declared.node.ScalarKind.{ScalarKind}
-use Rattle.schema.specs.declared.node.ScalarKind.TheVariants.{Boolean, Integer, String, IntOrString}
+use Rattle.schema.specs.declared.node.ScalarKind.TheVariants.{Boolean, Integer, Number, String, IntOrString}
 
 abbrev pub scalar_text : ScalarKind → List ℕ
 scalar_text Boolean = codes "boolean"
 scalar_text Integer = codes "integer"
 scalar_text String = codes "string"
+scalar_text Number = codes "number"
 scalar_text IntOrString = codes "int-or-string"
 
 abbrev mutual

@@ -9,6 +9,7 @@ use Rattle.plan.specs.Samples.Sites.{below}
 -- they list the same values and names
 pub record ListTheSame (P Q : Pools) : Type 0 where
   pub scalars : scalars_of Q ≡ scalars_of P
+  pub numbers : Q.numbers ≡ P.numbers
   pub any : Q.any ≡ P.any
   pub paths : Q.paths ≡ P.paths
   pub names : Q.names ≡ P.names

@@ -2,6 +2,7 @@
 use Rattle.std.specs.Prelude.{◌≡◌, ◌↔◌, Some}
 use Rattle.jtree.specs.Data.{Data}
 use Rattle.schema.specs.Document.Places.{Place}
+use Rattle.schema.specs.Document.Raw.{Raw}
 use Rattle.schema.specs.Nodes.Node.{Node}
 use Rattle.schema.specs.Nodes.ByPlace.{node_at}
 use Rattle.schema.specs.Nodes.Shape.{IsRootOf}
@@ -14,10 +15,10 @@ abbrev pub StoredLaw : Type 0
 StoredLaw = (N : Node) (v : Data) → IsStored N v ↔ StoredByParts N v
 
 abbrev pub ItemsLaw : Type 0
-ItemsLaw = (raw : Data) (root : Node) → IsRootOf root raw → (p : Place) (M : Node) → node_at root p ≡ Some M → HasSoundItems M
+ItemsLaw = (raw : Raw) (root : Node) → IsRootOf root raw → (p : Place) (M : Node) → node_at root p ≡ Some M → HasSoundItems M
 
 abbrev pub JunctorsLaw : Type 0
-JunctorsLaw = (raw : Data) (root : Node) → IsRootOf root raw → (p : Place) (M : Node) → node_at root p ≡ Some M → HasSoundJunctors M
+JunctorsLaw = (raw : Raw) (root : Node) → IsRootOf root raw → (p : Place) (M : Node) → node_at root p ≡ Some M → HasSoundJunctors M
 
 abbrev pub SchemaLaws : Type 0
 SchemaLaws = ItemsLaw × JunctorsLaw

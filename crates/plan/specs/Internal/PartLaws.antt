@@ -7,6 +7,7 @@ use Rattle.stored.specs.Objects.Fault as fault
 use Rattle.stored.specs.Objects.Becomes.{IsStored}
 use Rattle.stored.specs.Objects.StoredByParts.{are_apart, IsWithin}
 use Rattle.plan.specs.Pools.Pools.{Pools}
+use Rattle.plan.specs.Samples.Leasts.{leasts}
 use Rattle.plan.specs.Samples.Over.{is_in, is_over_here}
 use Rattle.plan.specs.Samples.Part.{IsPart}
 use Rattle.plan.specs.Samples.Sites.{Site, item_site, slots}
@@ -29,7 +30,7 @@ pub record IsItemsPart (P : Pools) (s M : Site) (v : Data) : Type 0 where
   pub within : IsWithin (bounds_of P s) (fault.items_count items)
 
 pub record PartLaws : Type 0 where
-  pub fixed : (P : Pools) (s : Site) (v : Data) (ds : List Data) → s.fixed ≡ Some ds → IsPart P s v ↔ (IsTree v × IsStored s.node v × (is_in v ds ≡ true))
+  pub fixed : (P : Pools) (s : Site) (v : Data) (ds : List Data) → s.fixed ≡ Some ds → IsPart P s v ↔ (IsTree v × IsStored s.node v × (is_in v (leasts ds) ≡ true))
   pub leaf : (P : Pools) (s : Site) (v : Data) → s.fixed ≡ None → sort_of s ≡ Leaf → IsPart P s v ↔ (IsTree v × IsStored s.node v × (is_over_here P s.path s.node v ≡ true))
   pub row : (P : Pools) (s : Site) (v : Data) → IsNode s.node → sort_of s ≡ Row → IsPart P s v ↔ (IsNullPart P s v ⊎ IsObjectPart P s v)
   pub list : (P : Pools) (s M : Site) (v : Data) → item_site P s ≡ Some M → IsPart P s v ↔ (IsNullPart P s v ⊎ IsItemsPart P s M v)

@@ -3,7 +3,8 @@ use Rattle.std.specs.Prelude.{ℕ, suc, List, [], ◌∷◌, Bool, true, Option,
 use Rattle.jtree.specs.Data.{Data, list, object, Items, no_items, item, Members, no_members, member}
 use Rattle.jtree.specs.Kind.{is_integer, is_text, is_list}
 use Rattle.jtree.specs.Path.{name, index, Path}
-use Rattle.plan.specs.Pools.Document.{PoolForm, entries, lists, unknown, pool_form}
+use Rattle.schema.specs.declared.profile.Profile.{Profile}
+use Rattle.plan.specs.Pools.Document.{PoolForm, entries, lists, unknown, pool_form, is_any_number}
 use Rattle.plan.specs.declared.pool_form.EntryKind.{EntryKind}
 use Rattle.plan.specs.declared.pool_form.EntryKind.TheVariants as code
 use Rattle.plan.specs.declared.pool_form.PoolForm.{PoolForm as CodeForm}
@@ -12,6 +13,7 @@ use Rattle.plan.specs.declared.pool_form.PoolForm.TheVariants as form
 -- the test of an entry for a kind of the code
 abbrev pub test_of : EntryKind → Data → Bool
 test_of code.Integer = is_integer
+test_of code.Number = is_any_number
 test_of code.Text = is_text
 test_of code.Any = λ d. true
 
@@ -48,9 +50,9 @@ pool_break (entries test) (list ds) = option_map (λ i. index i ∷ []) (other_i
 pool_break lists (object ms) = members_break list_break ms
 pool_break _ _ = Some []
 
-abbrev pub member_break : List ℕ → Data → Option Path
-member_break k d = below_name k (pool_break (pool_form k) d)
+abbrev pub member_break : Profile → List ℕ → Data → Option Path
+member_break profile k d = below_name k (pool_break (pool_form profile k) d)
 
-abbrev pub first_break : Data → Option Path
-first_break (object ms) = members_break member_break ms
-first_break _ = Some []
+abbrev pub first_break : Profile → Data → Option Path
+first_break profile (object ms) = members_break (member_break profile) ms
+first_break profile _ = Some []

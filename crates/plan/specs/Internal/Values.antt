@@ -1,5 +1,5 @@
 -- The values of the pools, and the candidates of a leaf, as a plan keeps them.
-use Rattle.std.specs.Prelude.{◌≡◌, ◌≤◌, ◌↔◌, ℕ, List, [], ◌∷◌, false, Option, Some, None, map, get_or, Contains, AllPairs}
+use Rattle.std.specs.Prelude.{◌≡◌, ◌≤◌, ◌↔◌, ℕ, List, [], ◌∷◌, ◌++◌, false, Option, Some, None, map, get_or, Contains, AllPairs}
 use Rattle.std.specs.declared.cmp.Ordering.{Ordering}
 use Rattle.std.specs.declared.cmp.Ordering.TheVariants.{Less}
 use Rattle.jtree.specs.Data.{Data, null, IsTree}
@@ -10,9 +10,10 @@ use Rattle.jtree.specs.declared.value.Tree.{Tree}
 use Rattle.schema.specs.Nodes.Node.{Node, node, scalar, Validations, validations, no_branches}
 use Rattle.schema.specs.Nodes.Validations.{presence}
 use Rattle.schema.specs.declared.node.ScalarKind.{ScalarKind}
-use Rattle.schema.specs.declared.node.ScalarKind.TheVariants.{Boolean, Integer, String, IntOrString}
+use Rattle.schema.specs.declared.node.ScalarKind.TheVariants.{Boolean, Integer, Number, String, IntOrString}
 use Rattle.stored.specs.Objects.Becomes.{IsStored}
 use Rattle.plan.specs.Pools.Pools.{Pools}
+use Rattle.plan.specs.Samples.Leasts.{leasts}
 use Rattle.plan.specs.Samples.Over.{scalars_of, listed}
 use Rattle.plan.specs.Samples.Names.{in_order}
 use Rattle.plan.specs.declared.values.Values.{Values}
@@ -60,26 +61,33 @@ abbrev pub places_of : Kinds → ScalarKind → List ℕ
 places_of k Boolean = k.booleans.items
 places_of k Integer = k.integers.items
 places_of k String = k.strings.items
+places_of k Number = k.numbers.items
 places_of k IntOrString = k.integers_and_strings.items
 
--- where the values of each kind are among the trees: each is one node
-abbrev pub AreKinds : List Tree → Kinds → Type 0
-AreKinds ts k = (kind : ScalarKind) (past : Tree) → AreStored 1 (of_kind kind) (trees_of ts) (at_places past ts (places_of k kind))
+-- among which trees the values of a kind are: the first list, or the second for numbers
+abbrev pub by_kind : List Tree → List Tree → ScalarKind → List Tree
+by_kind ts ns Number = ns
+by_kind ts ns _ = ts
+
+-- where the values of each kind are among these trees: each is one node
+abbrev pub AreKinds : List Tree → List Tree → Kinds → Type 0
+AreKinds ts ns k = (kind : ScalarKind) (past : Tree) → AreStored 1 (of_kind kind) (trees_of (by_kind ts ns kind)) (at_places past (by_kind ts ns kind) (places_of k kind))
 
 pub record AreValues (P : Pools) (v : Values) : Type 0 where
-  pub scalars : IsBase (null ∷ scalars_of P) v.scalars.items
-  pub kinds : AreKinds v.scalars.items v.kinds
-  pub any : IsBase (null ∷ P.any) v.any.items
+  pub scalars : IsBase (null ∷ leasts (scalars_of P)) v.scalars.items
+  pub numbers : IsBase (null ∷ leasts (P.numbers ++ scalars_of P)) v.numbers.items
+  pub kinds : AreKinds v.scalars.items v.numbers.items v.kinds
+  pub any : IsBase (null ∷ leasts P.any) v.any.items
   pub names : v.names.items ≡ in_order P.names
 
 abbrev pub base_of : Values → Base → List Tree
-base_of v Scalars = v.scalars.items
+base_of v (Scalars kind) = by_kind v.scalars.items v.numbers.items kind
 base_of v Any = v.any.items
 base_of v (Own ts) = ts.items
 
 -- among which values the candidates of a leaf are: the fixed ones, or null and what is listed
 abbrev pub choices_at : Pools → Option (List Data) → List ℕ → Node → List Data
-choices_at P (Some ds) path N = ds
+choices_at P (Some ds) path N = leasts ds
 choices_at P None path N = null ∷ listed P path N
 
 -- the tree at a place of a base

@@ -8,7 +8,7 @@ use Rattle.explain.specs.Fields.Declared.{IsDeclared}
 use Rattle.explain.specs.Fields.PathFault.{IsTextOf}
 
 abbrev pub is_map_list : Node → Bool
-is_map_list (node nullable description (list N Map keys bounds)) = true
+is_map_list (node nullable description (list N (Map e) keys bounds)) = true
 is_map_list _ = false
 
 -- at this path there is a map list

@@ -7,7 +7,7 @@ use Rattle.stored.specs.Objects.Fault.{members_count}
 use Rattle.plan.specs.Pools.Pools.{Pools, list_at, fixed_at}
 use Rattle.plan.specs.declared.pool_limits.PoolLimits.{PoolLimits}
 use Rattle.plan.specs.declared.pool_sizes.PoolName.{PoolName}
-use Rattle.plan.specs.declared.pool_sizes.PoolName.TheVariants.{Any, Fixed, FixedAt, Integers, Names, Paths, At, Present, Strings}
+use Rattle.plan.specs.declared.pool_sizes.PoolName.TheVariants.{Any, Fixed, FixedAt, Integers, Names, Numbers, Paths, At, Present, Strings}
 use Rattle.plan.specs.declared.pool_sizes.Oversized.{Oversized}
 
 -- where a pool is in the document
@@ -17,6 +17,7 @@ place_of Fixed = name (codes "fixed") ∷ []
 place_of (FixedAt text) = name (codes "fixed") ∷ name text.now ∷ []
 place_of Integers = name (codes "integers") ∷ []
 place_of Names = name (codes "names") ∷ []
+place_of Numbers = name (codes "numbers") ∷ []
 place_of Paths = name (codes "paths") ∷ []
 place_of (At text) = name (codes "paths") ∷ name text.now ∷ []
 place_of Present = name (codes "present") ∷ []
@@ -29,6 +30,7 @@ size_of Fixed P = members_count P.fixed
 size_of (FixedAt text) P = length (unwrap_or (fixed_at text.now P) [])
 size_of Integers P = length P.integers
 size_of Names P = length P.names
+size_of Numbers P = length P.numbers
 size_of Paths P = members_count P.paths
 size_of (At text) P = length (unwrap_or (list_at text.now P) [])
 size_of Present P = length P.present

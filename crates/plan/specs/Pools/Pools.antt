@@ -8,6 +8,8 @@ use Rattle.plan.specs.declared.pool_limits.PoolLimits.{PoolLimits}
 
 pub record Pools : Type 0 where
   pub integers : List ℤ
+  -- integers and other numbers, for places of numbers
+  pub numbers : List Data
   pub strings : List (List ℕ)
   pub names : List (List ℕ)
   pub any : List Data
@@ -40,9 +42,9 @@ is_present text P = is_among text P.present
 
 -- the same pools with other fixed values and other paths that are always there
 abbrev pub with_paths : Pools → Members → List (List ℕ) → Pools
-with_paths P fixed present = record { integers = P.integers; strings = P.strings; names = P.names; any = P.any; paths = P.paths; fixed = fixed; present = present }
+with_paths P fixed present = record { integers = P.integers; numbers = P.numbers; strings = P.strings; names = P.names; any = P.any; paths = P.paths; fixed = fixed; present = present }
 
--- the most integers, strings, trees of any kind, or values at a path; the most names; and the most paths under each of `paths`,
+-- the most integers, numbers, strings, trees of any kind, or values at a path; the most names; and the most paths under each of `paths`,
 -- `fixed` and `present`
 abbrev pub standard : PoolLimits
 standard = record { entries = 64; names = 32; paths = 64 }
@@ -53,6 +55,7 @@ large = record { entries = 1024; names = 32; paths = 1024 }
 -- entries count as written, each repeat
 pub record AreSmall (limits : PoolLimits) (P : Pools) : Type 0 where
   pub integers : length P.integers ≤ limits.entries
+  pub numbers : length P.numbers ≤ limits.entries
   pub strings : length P.strings ≤ limits.entries
   pub names : length P.names ≤ limits.names
   pub any : length P.any ≤ limits.entries

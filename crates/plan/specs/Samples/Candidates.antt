@@ -29,8 +29,8 @@ sort_of s = where_fixed s.fixed Leaf (sort_at s.node)
 
 -- which items may not be in one list (`x-kubernetes-list-type`)
 abbrev pub distinct_by : ListType → Distinct
-distinct_by list_type.Set = Whole
-distinct_by list_type.Map = Keys
+distinct_by (list_type.Set e) = Whole
+distinct_by (list_type.Map e) = Keys
 distinct_by _ = Free
 
 abbrev pub distinct_at : Node → Distinct

@@ -4,9 +4,11 @@ use Rattle.std.specs.Prelude.{◌≡◌, ℕ, ◌-◌, ◌^◌, ◌≤◌, ◌�
 use Rattle.std.specs.declared.cmp.Ordering.TheVariants.{Less}
 use Rattle.jtree.specs.Data.{Data, Items, Members}
 use Rattle.jtree.specs.Data as tree
+use Rattle.jtree.specs.Equality.{equal_by}
 use Rattle.jtree.specs.Nodes.{node_count}
 use Rattle.jtree.specs.Order.{text_cmp}
 use Rattle.jtree.specs.Path.{member_at}
+use Rattle.jtree.specs.declared.equality.Equality.{Equality}
 use Rattle.stored.specs.Objects.Fault.{items_count}
 use Rattle.stored.specs.Objects.Tests.{is_same}
 use Rattle.stored.specs.Objects.StoredByParts.{are_apart}
@@ -24,12 +26,13 @@ abbrev pub AreInOrder : List Slot → Type 0
 AreInOrder [] = Unit {0}
 AreInOrder (s ∷ ss) = ((t : Slot) → Contains ss t → text_cmp s.name t.name ≡ Less) × AreInOrder ss
 
--- a key has to have a value: a scalar, and not null
+-- a key has to have a value: a scalar, and not null; no two of its values count as the same
 pub record IsKeySlot (P : Pools) (s : Slot) : Type 0 where
   pub must : s.must ≡ true
   pub leaf : sort_of s.site ≡ Leaf
   pub one : (v : Data) → IsPart P s.site v → node_count v ≡ 1
   pub no_null : IsPart P s.site tree.null → ⊥
+  pub one_value : (e : Equality) (v w : Data) → IsPart P s.site v → IsPart P s.site w → equal_by e v w ≡ true → v ≡ w
 
 abbrev pub AreKeySlots : Pools → List Slot → Type 0
 AreKeySlots P ss = (s : Slot) → Contains ss s → s.key ≡ true → IsKeySlot P s
@@ -50,7 +53,7 @@ key_under ss _ = []
 pub record AreSetItems (P : Pools) (s M : Site) : Type 0 where
   pub leaf : sort_of M ≡ Leaf
   pub one : (v : Data) → IsPart P M v → node_count v ≡ 1
-  pub alike : (v w : Data) → alike_at s v w ≡ is_same v w
+  pub alike : (v w : Data) → IsPart P M v → IsPart P M w → alike_at s v w ≡ is_same v w
   pub most : (ds : Items) (n : ℕ) → AreParts P M ds → are_apart (alike_at s) ds ≡ true → HasCount (IsPart P M) n → items_count ds ≤ n
 
 -- the items of a map list: objects, of which no two have the same under all keys; there are at most as many as there are tuples of

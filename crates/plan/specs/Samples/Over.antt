@@ -9,10 +9,13 @@ use Rattle.schema.specs.Document.Texts.{is_among}
 use Rattle.schema.specs.Nodes.Node.{Node, node, scalar, object, list, open_, Fields, no_fields}
 use Rattle.schema.specs.Nodes.Node as nodes
 use Rattle.schema.specs.Nodes.ByPlace.{field_at, node_below}
+use Rattle.schema.specs.declared.node.ScalarKind.{ScalarKind}
+use Rattle.schema.specs.declared.node.ScalarKind.TheVariants.{Number}
 use Rattle.stored.specs.Objects.Tests.{is_same}
 use Rattle.stored.specs.Objects.Fault.{is_null, constraints_of, items_count, members_count}
 use Rattle.explain.specs.Paths.FieldPath.{FieldStep, field, item, value, FieldPath, place_step}
 use Rattle.plan.specs.Pools.Pools.{Pools, items_list, list_at, is_present}
+use Rattle.plan.specs.Samples.Leasts.{leasts}
 use Rattle.plan.specs.Samples.Site.{below, fixed_below}
 
 -- ---- what is listed
@@ -21,20 +24,26 @@ use Rattle.plan.specs.Samples.Site.{below, fixed_below}
 abbrev pub scalars_of : Pools → List Data
 scalars_of P = tree.boolean false ∷ tree.boolean true ∷ map (λ z. tree.integer z) P.integers ++ map (λ t. tree.text t) P.strings
 
+-- for a scalar of numbers the numbers besides
+abbrev pub scalars_for : ScalarKind → Pools → List Data
+scalars_for Number P = P.numbers ++ scalars_of P
+scalars_for _ P = scalars_of P
+
 -- the values of `enum` where it is there, else those of the pools
-abbrev pub choices_or : Option Items → Pools → List Data
-choices_or None P = scalars_of P
-choices_or (Some ds) P = items_list ds
+abbrev pub choices_or : Option Items → List Data → List Data
+choices_or None ds = ds
+choices_or (Some choices) ds = items_list choices
 
 -- what is listed for every scalar or open node that is like this one
 abbrev pub listed_for : Pools → Node → List Data
-listed_for P (node nullable description (scalar kind cs)) = choices_or (constraints_of cs).choices P
+listed_for P (node nullable description (scalar kind cs)) = choices_or (constraints_of cs).choices (scalars_for kind P)
 listed_for P (node nullable description open_) = P.any
 listed_for P _ = []
 
--- what is listed for a scalar or an open node at a path, besides null: a list for the path replaces all else
+-- what is listed for a scalar or an open node at a path, besides null: a list for the path replaces all else; of numbers of one value
+-- the least alone
 abbrev pub listed : Pools → List ℕ → Node → List Data
-listed P path N = unwrap_or (list_at path P) (listed_for P N)
+listed P path N = leasts (unwrap_or (list_at path P) (listed_for P N))
 
 -- ---- a value at its node, its parts aside
 
@@ -89,9 +98,9 @@ StepFollows (part.index i) item = Unit {0}
 StepFollows _ _ = ⊥
 
 -- At a node with this path: along a path of the value, the part that it leads to is over the pools. Where the values of a node are
--- fixed, the value is one of them, and nothing is asked below it.
+-- fixed, the value is one of them, of numbers of one value the least, and nothing is asked below it.
 abbrev pub IsOverAlong : Pools → Option (List Data) → List ℕ → Node → Data → Path → FieldPath → Type 0
-IsOverAlong P (Some ds) at N v path p = is_in v ds ≡ true
+IsOverAlong P (Some ds) at N v path p = is_in v (leasts ds) ≡ true
 IsOverAlong P None at N v [] [] = is_over_here P at N v ≡ true
 IsOverAlong P None at N v (s ∷ path) (t ∷ p) =
     (M : Node) (w : Data) → StepFollows s t → node_below N (place_step t) ≡ Some M → part_by v s ≡ Some w → IsOverAlong P (fixed_below P at N t) (below at t) M w path p

@@ -21,7 +21,7 @@ below path s = path ++ step_text s
 
 -- the values that the pools fix for the items of a list with this path; none for those of a map list, which need their keys
 abbrev pub fixed_item : Pools → ListType → List ℕ → Option (List Data)
-fixed_item P Map path = None
+fixed_item P (Map e) path = None
 fixed_item P _ path = fixed_at path P
 
 -- the values that the pools fix for the node one step below a node with this path

@@ -18,7 +18,7 @@ no_site = root_site (node false None open_)
 
 -- the keys of the items of a list
 abbrev pub item_keys : ListType → List (List ℕ) → List (List ℕ)
-item_keys Map keys = keys
+item_keys (Map e) keys = keys
 item_keys _ keys = []
 
 -- the site of the items of a list

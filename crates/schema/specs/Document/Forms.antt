@@ -8,7 +8,10 @@ use Rattle.jtree.specs.Data as tree
 use Rattle.jtree.specs.Kind.{is_boolean, is_integer, is_text, is_list, is_object}
 use Rattle.jtree.specs.Path.{Step, name, index, Path, part_at}
 use Rattle.jtree.specs.PathOrder.{IsFirst}
+use Rattle.schema.specs.Document.Raw.{Raw}
 use Rattle.schema.specs.Document.Texts.{is_among}
+use Rattle.schema.specs.declared.profile.Profile.{Profile}
+use Rattle.schema.specs.declared.profile.Profile.TheVariants.{Core, Cluster}
 
 pub data Form : Type 0 where
   any_tree : Form
@@ -157,9 +160,14 @@ HasFormsOf f raw = (path : Path) → BreaksForm f raw path → ⊥
 abbrev pub IsFormFaultOf : Form → Data → Path → Type 0
 IsFormFaultOf f raw path = IsFirst (BreaksForm f raw) path
 
+-- the form of a schema, by the profile
+abbrev pub form_by : Profile → Form
+form_by Core = object
+form_by Cluster = written_schema
+
 -- each keyword of each place of a schema has its form, inside branches and outside
-abbrev pub HasForms : Data → Type 0
-HasForms raw = HasFormsOf object raw
+abbrev pub HasForms : Raw → Type 0
+HasForms raw = HasFormsOf (form_by raw.profile) raw.tree
 
 abbrev pub IsFormFault : Data → Path → Type 0
 IsFormFault raw path = IsFormFaultOf object raw path

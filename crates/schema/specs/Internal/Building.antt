@@ -14,22 +14,23 @@ use Rattle.schema.specs.Nodes.View.{node_of}
 use Rattle.schema.specs.Nodes.ByPlace.{IsNodePlace}
 use Rattle.schema.specs.Internal.NodeOf.{IsNodeOf, is_declared}
 use Rattle.schema.specs.declared.node.Field.{Field}
+use Rattle.schema.specs.declared.profile.Profile.{Profile}
 
 -- a schema of no kind, or a list without items
-abbrev pub HasNoNode : Data → Type 0
-HasNoNode s = (kind_of s ≡ None) ⊎ (IsOfKind s kinds.list × (schema_by s items ≡ None))
+abbrev pub HasNoNode : Profile → Data → Type 0
+HasNoNode profile s = (kind_of profile s ≡ None) ⊎ (IsOfKind profile s kinds.list × (schema_by s items ≡ None))
 
 -- no place that has to have a node is without one
-abbrev pub HasNodes : Bool → Data → Type 0
-HasNodes root s = (p : Place) → IsNodePlace root p → At s p HasNoNode → ⊥
+abbrev pub HasNodes : Profile → Bool → Data → Type 0
+HasNodes profile root s = (p : Place) → IsNodePlace root p → At s p (HasNoNode profile) → ⊥
 
-abbrev pub HaveNodes : Bool → Members → Type 0
-HaveNodes root ms = (k : List ℕ) (d : Data) → member_at k ms ≡ Some d → is_declared root k d ≡ true → HasNodes false d
+abbrev pub HaveNodes : Profile → Bool → Members → Type 0
+HaveNodes profile root ms = (k : List ℕ) (d : Data) → member_at k ms ≡ Some d → is_declared root k d ≡ true → HasNodes profile false d
 
 -- the field is that of a property of the schema
-pub record IsFieldOf (f : Field) (schema : Data) (property : Member) : Type 0 where
+pub record IsFieldOf (profile : Profile) (f : Field) (schema : Data) (property : Member) : Type 0 where
   pub name : f.name ≡ property.name
-  pub node : IsNodeOf false (node_of f.node) (data_of property.tree)
+  pub node : IsNodeOf profile false (node_of f.node) (data_of property.tree)
   pub required : f.required ≡ is_among property.name (texts_under schema (codes "required"))
   pub default : option_map data_of f.default ≡ under (data_of property.tree) (codes "default")
 
@@ -39,11 +40,11 @@ HasObject s k = (ms : Members) × (under s k ≡ Some (object ms))
 
 -- keywords that hold schemas are where the kind has them: `properties` in objects, a schema of values in maps, `items` in
 -- lists
-pub record HasOwnParts (s : Data) : Type 0 where
-  pub properties : HasObject s (codes "properties") → IsOfKind s kinds.object
-  pub values : HasObject s (codes "additionalProperties") → IsOfKind s kinds.map
-  pub items : HasObject s (codes "items") → IsOfKind s kinds.list
+pub record HasOwnParts (profile : Profile) (s : Data) : Type 0 where
+  pub properties : HasObject s (codes "properties") → IsOfKind profile s kinds.object
+  pub values : HasObject s (codes "additionalProperties") → IsOfKind profile s kinds.map
+  pub items : HasObject s (codes "items") → IsOfKind profile s kinds.list
 
 -- and so at each place that is to have a node
-abbrev pub HaveOwnParts : Bool → Data → Type 0
-HaveOwnParts root s = (p : Place) (t : Data) → IsNodePlace root p → schema_at s p ≡ Some t → HasOwnParts t
+abbrev pub HaveOwnParts : Profile → Bool → Data → Type 0
+HaveOwnParts profile root s = (p : Place) (t : Data) → IsNodePlace root p → schema_at s p ≡ Some t → HasOwnParts profile t

@@ -2,11 +2,13 @@
 use Rattle.std.specs.Prelude.{◌≡◌, List, [], ◌∷◌, map, flat_map}
 use Rattle.jtree.specs.Data.{Data}
 use Rattle.schema.specs.Document.Places.{Place}
+use Rattle.schema.specs.Document.Raw.{Raw, raw_by}
 use Rattle.schema.specs.Internal.PlaceView.{place_of}
 use Rattle.schema.specs.Internal.Taken.{Adds}
 use Rattle.schema.specs.Rules.Broken.{Broken}
 use Rattle.schema.specs.Rules.Breaks.{Break, reported, reported_of}
 use Rattle.schema.specs.declared.listing.Subschema.{Subschema}
+use Rattle.schema.specs.declared.profile.Profile.{Profile}
 use Rattle.schema.specs.declared.violation.Rule.{Rule}
 use Rattle.schema.specs.declared.violation.Rule.TheVariants.{V01, V02, V03, V04, V05, V06, V07, V08, V09, V10, V11, V12, V13, V15, V16, V17}
 use Rattle.schema.specs.declared.violation.Violation.{Violation}
@@ -24,9 +26,9 @@ pairs_at p rules = map (pair p) rules
 abbrev pub pairs_of : List Subschema → List Break
 pairs_of subschemas = flat_map (λ v. pairs_at (place_of v.place.items) judged) subschemas
 
--- after the old elements the new ones report which pairs are broken, in any schema of which this is known
-abbrev pub AddsBreaks : {Y : Type 0} → (Data → Break → Y → Type 0) → (Data → Type 0) → List Break → List Y → List Y → Type 0
-AddsBreaks Reports Known pairs old new = Adds Known (λ raw b. Broken raw b.place b.rule) Reports pairs old new
+-- after the old elements the new ones report which pairs are broken, by the profile, in any schema of which this is known
+abbrev pub AddsBreaks : {Y : Type 0} → Profile → (Raw → Break → Y → Type 0) → (Data → Type 0) → List Break → List Y → List Y → Type 0
+AddsBreaks profile Reports Known pairs old new = Adds Known (λ raw b. Broken (raw_by profile raw) b.place b.rule) (λ raw. Reports (raw_by profile raw)) pairs old new
 
-abbrev pub IsReported : Data → Break → Violation → Type 0
+abbrev pub IsReported : Raw → Break → Violation → Type 0
 IsReported raw b v = reported v ≡ reported_of b

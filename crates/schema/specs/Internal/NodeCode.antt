@@ -2,8 +2,8 @@
 use Rattle.std.specs.Prelude.{◌≡◌, ℕ, zero, suc, ℤ, List, Bool, Option}
 use Rattle.std.specs.Coded.{Coded, code_by, coded×, coded_ℕ, coded_ℤ, coded_bool, coded_list, coded_option}
 use Rattle.std.proofs.Common.{ap, refl}
-use Rattle.jtree.specs.Data.{Data, Items}
-use Rattle.jtree.specs.Internal.Code.{head, tail, coded_bytes, items_coded, data_coded}
+use Rattle.jtree.specs.Data.{Data, Items, Members}
+use Rattle.jtree.specs.Internal.Code.{head, tail, coded_bytes, items_coded, members_coded, data_coded}
 use Rattle.schema.specs.Nodes.Node.{Validations, validations, Branches, no_branches, branch, Node, node, Sort, scalar, object, map, list, open_, Fields, no_fields, field}
 use Rattle.schema.specs.declared.node.Bounds.{Bounds}
 use Rattle.schema.specs.declared.node.Constraints.{Constraints}
@@ -11,6 +11,7 @@ use Rattle.schema.specs.declared.node.ScalarKind.{ScalarKind}
 use Rattle.schema.specs.declared.node.ScalarKind.TheVariants as kind
 use Rattle.schema.specs.declared.node.ListType.{ListType}
 use Rattle.schema.specs.declared.node.ListType.TheVariants as list_type
+use Rattle.jtree.specs.declared.equality.Equality.TheVariants.{Exact, ByValue}
 use Rattle.schema.specs.declared.node.MapType.{MapType}
 use Rattle.schema.specs.declared.node.MapType.TheVariants as map_type
 use base.Stored.{Gv, gnil, gnum, gcons}
@@ -20,12 +21,14 @@ kind_number kind.Boolean = 0
 kind_number kind.Integer = 1
 kind_number kind.String = 2
 kind_number kind.IntOrString = 3
+kind_number kind.Number = 4
 
 abbrev kind_from : ℕ → ScalarKind
 kind_from zero = kind.Boolean
 kind_from (suc zero) = kind.Integer
 kind_from (suc (suc zero)) = kind.String
-kind_from (suc (suc (suc n))) = kind.IntOrString
+kind_from (suc (suc (suc zero))) = kind.IntOrString
+kind_from (suc (suc (suc (suc n)))) = kind.Number
 
 pub kind_back : (k : ScalarKind) → kind_from (kind_number k) ≡ k
 kind_back kind.Boolean = refl
@@ -36,17 +39,24 @@ kind_coded = code_by ℕ coded_ℕ kind_number kind_from kind_back
 
 abbrev list_type_number : ListType → ℕ
 list_type_number list_type.Atomic = 0
-list_type_number list_type.Set = 1
-list_type_number list_type.Map = 2
+list_type_number (list_type.Set Exact) = 1
+list_type_number (list_type.Set ByValue) = 2
+list_type_number (list_type.Map Exact) = 3
+list_type_number (list_type.Map ByValue) = 4
 
 abbrev list_type_from : ℕ → ListType
 list_type_from zero = list_type.Atomic
-list_type_from (suc zero) = list_type.Set
-list_type_from (suc (suc n)) = list_type.Map
+list_type_from (suc zero) = list_type.Set Exact
+list_type_from (suc (suc zero)) = list_type.Set ByValue
+list_type_from (suc (suc (suc zero))) = list_type.Map Exact
+list_type_from (suc (suc (suc (suc n)))) = list_type.Map ByValue
 
 pub list_type_back : (t : ListType) → list_type_from (list_type_number t) ≡ t
 list_type_back list_type.Atomic = refl
-list_type_back _ = refl
+list_type_back (list_type.Set Exact) = refl
+list_type_back (list_type.Set ByValue) = refl
+list_type_back (list_type.Map Exact) = refl
+list_type_back (list_type.Map ByValue) = refl
 
 abbrev pub list_type_coded : Coded ListType
 list_type_coded = code_by ℕ coded_ℕ list_type_number list_type_from list_type_back
@@ -80,9 +90,9 @@ abbrev limits_coded : Coded Limits
 limits_coded = coded× (coded_option coded_ℤ) (coded× (coded_option coded_ℤ) (coded× coded_bool coded_bool))
 
 abbrev pub constraints_coded : Coded Constraints
-constraints_coded = code_by (Option Items × (Limits × (Bounds × List (List ℕ)))) (coded× (coded_option items_coded) (coded× limits_coded (coded× bounds_coded names_coded)))
-    (λ t. (t.choices, ((t.minimum, (t.maximum, (t.exclusive_minimum, t.exclusive_maximum))), (t.lengths, t.required))))
-    (λ p. record { choices = p.0; minimum = p.1.0.0; maximum = p.1.0.1.0; exclusive_minimum = p.1.0.1.1.0; exclusive_maximum = p.1.0.1.1.1; lengths = p.1.1.0; required = p.1.1.1 })
+constraints_coded = code_by (Option Items × (Limits × (Bounds × (Option Members × List (List ℕ))))) (coded× (coded_option items_coded) (coded× limits_coded (coded× bounds_coded (coded× (coded_option members_coded) names_coded))))
+    (λ t. (t.choices, ((t.minimum, (t.maximum, (t.exclusive_minimum, t.exclusive_maximum))), (t.lengths, (t.written, t.required)))))
+    (λ p. record { choices = p.0; minimum = p.1.0.0; maximum = p.1.0.1.0; exclusive_minimum = p.1.0.1.1.0; exclusive_maximum = p.1.0.1.1.1; lengths = p.1.1.0; written = p.1.1.1.0; required = p.1.1.1.1 })
     (λ _. refl)
 
 abbrev mutual

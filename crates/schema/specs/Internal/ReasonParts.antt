@@ -14,8 +14,8 @@ use Rattle.schema.specs.declared.reasons.PlaceFacts.{PlaceFacts}
 -- what is known of the place
 pub record AreFacts (f : PlaceFacts) (v : Subschema) : Type 0 where
   pub inside_is : f.is_inside ≡ is_inside (place_of v.place.items)
-  pub kind_is : option_map kind_view f.kind ≡ kind_of (object v.schema.now)
-  pub presence_is : f.asks_presence ≡ asks_presence (place_of v.place.items) (option_map (λ m. object m.now) v.outer)
+  pub kind_is : option_map kind_view f.kind ≡ kind_of f.profile (object v.schema.now)
+  pub presence_is : f.asks_presence ≡ asks_presence f.profile (place_of v.place.items) (option_map (λ m. object m.now) v.outer)
 
 abbrev pub IsOutsideReason : Subschema → List ℕ → Reason → Type 0
 IsOutsideReason v k c =

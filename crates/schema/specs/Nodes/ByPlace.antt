@@ -4,7 +4,10 @@ use Rattle.std.specs.Prelude.{◌≡◌, ℕ, List, [], ◌∷◌, Bool, true, f
 use Rattle.std.specs.Str.{bytes_eq}
 use Rattle.jtree.specs.Data.{Data}
 use Rattle.jtree.specs.Path.{under}
+use Rattle.jtree.specs.declared.equality.Equality.{Equality}
+use Rattle.jtree.specs.declared.equality.Equality.TheVariants.{Exact, ByValue}
 use Rattle.schema.specs.Document.Texts.{is_among}
+use Rattle.schema.specs.Document.Raw.{Raw}
 use Rattle.schema.specs.Document.Places.{Step, Place, property, map_value, items, schema_by, schema_at, IsPlace, is_inside, IsEnvelope}
 use Rattle.schema.specs.Rules.Kinds as kinds
 use Rattle.schema.specs.Rules.Kinds.{Kind, IsOfKind}
@@ -16,6 +19,8 @@ use Rattle.schema.specs.declared.node.ListType.{ListType}
 use Rattle.schema.specs.declared.node.ListType.TheVariants as list_type
 use Rattle.schema.specs.declared.node.MapType.{MapType}
 use Rattle.schema.specs.declared.node.MapType.TheVariants as map_type
+use Rattle.schema.specs.declared.profile.Profile.{Profile}
+use Rattle.schema.specs.declared.profile.Profile.TheVariants.{Core, Cluster}
 
 -- ---- a node and the schema of its place
 
@@ -27,10 +32,15 @@ sort_kind (map N type bounds) = kinds.map
 sort_kind (list N type keys bounds) = kinds.list
 sort_kind open_ = kinds.open_
 
+-- which items and keys count as the same: a cluster has numbers that are no integers as floats
+abbrev pub equality_of : Profile → Equality
+equality_of Core = Exact
+equality_of Cluster = ByValue
+
 -- a list is atomic where nothing else is said (`x-kubernetes-list-type`); another string counts as absent, and V10 leaves none
-abbrev pub list_type_named : Option (List ℕ) → ListType
-list_type_named None = list_type.Atomic
-list_type_named (Some t) = if bytes_eq t (codes "set") then list_type.Set else if bytes_eq t (codes "map") then list_type.Map else list_type.Atomic
+abbrev pub list_type_named : Equality → Option (List ℕ) → ListType
+list_type_named e None = list_type.Atomic
+list_type_named e (Some t) = if bytes_eq t (codes "set") then list_type.Set e else if bytes_eq t (codes "map") then list_type.Map e else list_type.Atomic
 
 -- an object or a map is granular where nothing else is said (`x-kubernetes-map-type`); V13 leaves no other string
 abbrev pub map_type_named : Option (List ℕ) → MapType
@@ -42,22 +52,22 @@ abbrev pub AreBoundsOf : Bounds → Data → List ℕ → List ℕ → Type 0
 AreBoundsOf b s least most = (b.least ≡ count_under s least) × (b.most ≡ count_under s most)
 
 -- what is asked of the value itself is what the keywords of the schema say (JSONSchemaProps)
-abbrev pub HasKeywords : Sort → Data → Type 0
-HasKeywords (scalar kind cs) s = AreValidationsOf cs s
-HasKeywords (object fs preserves type bounds cs) s =
+abbrev pub HasKeywords : Profile → Sort → Data → Type 0
+HasKeywords profile (scalar kind cs) s = AreValidationsOf profile cs s
+HasKeywords profile (object fs preserves type bounds cs) s =
     (preserves ≡ flag s (codes "x-kubernetes-preserve-unknown-fields")) × (type ≡ map_type_named (text_under s (codes "x-kubernetes-map-type")))
     × AreBoundsOf bounds s (codes "minProperties") (codes "maxProperties") × AreObjectJunctorsOf cs s
-HasKeywords (map N type bounds) s =
+HasKeywords profile (map N type bounds) s =
     (type ≡ map_type_named (text_under s (codes "x-kubernetes-map-type"))) × AreBoundsOf bounds s (codes "minProperties") (codes "maxProperties")
-HasKeywords (list N type keys bounds) s =
-    (type ≡ list_type_named (text_under s (codes "x-kubernetes-list-type"))) × (keys ≡ texts_under s (codes "x-kubernetes-list-map-keys"))
+HasKeywords profile (list N type keys bounds) s =
+    (type ≡ list_type_named (equality_of profile) (text_under s (codes "x-kubernetes-list-type"))) × (keys ≡ texts_under s (codes "x-kubernetes-list-map-keys"))
     × AreBoundsOf bounds s (codes "minItems") (codes "maxItems")
-HasKeywords open_ s = Unit {0}
+HasKeywords profile open_ s = Unit {0}
 
 -- the node, leaving aside the nodes below it, is of the schema's kind and has its keywords
-abbrev pub IsNodeHere : Node → Data → Type 0
-IsNodeHere (node nullable description sort) s =
-    (nullable ≡ flag s (codes "nullable")) × (description ≡ text_under s (codes "description")) × IsOfKind s (sort_kind sort) × HasKeywords sort s
+abbrev pub IsNodeHere : Profile → Node → Data → Type 0
+IsNodeHere profile (node nullable description sort) s =
+    (nullable ≡ flag s (codes "nullable")) × (description ≡ text_under s (codes "description")) × IsOfKind profile s (sort_kind sort) × HasKeywords profile sort s
 
 -- ---- the nodes below a node
 
@@ -102,10 +112,10 @@ abbrev pub IsNodePlace : Bool → Place → Type 0
 IsNodePlace root p = (is_inside p ≡ false) × (root ≡ true → IsEnvelope p → ⊥)
 
 -- N is the tree of the nodes of a schema
-pub record AreNodesOf (root : Bool) (N : Node) (s : Data) : Type 0 where
+pub record AreNodesOf (root : Bool) (N : Node) (raw : Raw) : Type 0 where
   -- fields are in the order of their names, each once
   pub ordered : IsNode N
   -- each place that is to have a node has one, as its schema says
-  pub each : (p : Place) (t : Data) → IsNodePlace root p → schema_at s p ≡ Some t → (M : Node) × (node_at N p ≡ Some M) × IsNodeHere M t × AreFieldsHere M t
+  pub each : (p : Place) (t : Data) → IsNodePlace root p → schema_at raw.tree p ≡ Some t → (M : Node) × (node_at N p ≡ Some M) × IsNodeHere raw.profile M t × AreFieldsHere M t
   -- no other place has one
-  pub only : (p : Place) (M : Node) → node_at N p ≡ Some M → IsNodePlace root p × IsPlace s p
+  pub only : (p : Place) (M : Node) → node_at N p ≡ Some M → IsNodePlace root p × IsPlace raw.tree p

@@ -29,8 +29,8 @@ HasKeys _ keys = ⊥
 -- the items can be distinguished: in a set they are plain scalars, in a map list objects with its keys; of an atomic list nothing
 -- is asked
 abbrev pub AreDistinct : ListType → List (List ℕ) → Node → Type 0
-AreDistinct Set keys N = IsPlainScalar N
-AreDistinct Map keys N = HasKeys N keys
+AreDistinct (Set e) keys N = IsPlainScalar N
+AreDistinct (Map e) keys N = HasKeys N keys
 AreDistinct _ keys N = Unit {0}
 
 -- so it is with the items of the node, where it is a list

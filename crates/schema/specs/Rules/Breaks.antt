@@ -4,9 +4,9 @@ use Rattle.std.specs.Prelude.{◌≡◌, ℕ, List, map, AllPairs, All, Contains
 use Rattle.std.specs.Ordering.{nat_cmp, ordering_then}
 use Rattle.std.specs.declared.cmp.Ordering.{Ordering}
 use Rattle.std.specs.declared.cmp.Ordering.TheVariants.{Less}
-use Rattle.jtree.specs.Data.{Data}
 use Rattle.jtree.specs.PathOrder.{path_cmp}
 use Rattle.schema.specs.Document.Places.{Place, place_path, place_pointer}
+use Rattle.schema.specs.Document.Raw.{Raw}
 use Rattle.schema.specs.Rules.Broken.{Broken}
 use Rattle.schema.specs.declared.violation.Rule.{Rule}
 use Rattle.schema.specs.declared.violation.Rule.TheVariants.{V01, V02, V03, V04, V05, V06, V07, V08, V09, V10, V11, V12, V13, V14, V15, V16, V17}
@@ -72,7 +72,7 @@ abbrev pub IsUnbroken : Breaking → Type 0
 IsUnbroken IsBroken = (p : Place) (r : Rule) → IsBroken p r → ⊥
 
 -- a schema breaks none of the rules V01 to V13 and V15 to V17
-abbrev pub BreaksNone : Data → Type 0
+abbrev pub BreaksNone : Raw → Type 0
 BreaksNone raw = IsUnbroken (Broken raw)
 
 -- a violation as its pointer and its rule

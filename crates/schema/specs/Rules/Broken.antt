@@ -5,6 +5,7 @@ use Rattle.jtree.specs.Data.{Data}
 use Rattle.jtree.specs.Data as tree
 use Rattle.jtree.specs.Path.{under}
 use Rattle.schema.specs.Document.Texts.{is_among}
+use Rattle.schema.specs.Document.Raw.{Raw}
 use Rattle.schema.specs.Document.Places.{Step, Place, property, items, all_of, any_of, schema_at, IsPlace, is_inside, core, ends_with}
 use Rattle.schema.specs.Rules.Keywords.{is_false, flag, has, has_other_text, has_keyword}
 use Rattle.schema.specs.Rules.Kinds.{is_int_or_string, lacks_type}
@@ -84,38 +85,38 @@ pub data RestrictsMetadata : Data → Place → Type 0 where
   metadata_field : (raw : Data) (k : List ℕ) → IsPlace raw (metadata ++ (property k ∷ [])) → is_among k metadata_names ≡ false
       → RestrictsMetadata raw (metadata ++ (property k ∷ []))
 
-abbrev pub Broken : Data → Place → Rule → Type 0
+abbrev pub Broken : Raw → Place → Rule → Type 0
 -- missing type
-Broken raw p V01 = PassesOutside raw p lacks_type
+Broken raw p V01 = PassesOutside raw.tree p lacks_type
 -- not specified outside the junctor
-Broken raw p V02 = (is_inside p ≡ true) × IsPlace raw p × (ends_in_field p ≡ true) × (IsPlace raw (core p) → ⊥)
+Broken raw p V02 = (is_inside p ≡ true) × IsPlace raw.tree p × (ends_in_field p ≡ true) × (IsPlace raw.tree (core p) → ⊥)
 -- keyword not allowed in a junctor; `type` in the branches of the int-or-string pattern is excepted
-Broken raw p V03 = (is_inside p ≡ true) × At raw p (λ s. (has_keyword (λ k. is_among k outside_keywords) s ≡ true) ⊎ ((has s (codes "type") ≡ true) × (IsPatternBranch raw p → ⊥)))
+Broken raw p V03 = (is_inside p ≡ true) × At raw.tree p (λ s. (has_keyword (λ k. is_among k outside_keywords) s ≡ true) ⊎ ((has s (codes "type") ≡ true) × (IsPatternBranch raw.tree p → ⊥)))
 -- metadata restricted
-Broken raw p V04 = RestrictsMetadata raw p
+Broken raw p V04 = RestrictsMetadata raw.tree p
 -- keyword not supported
-Broken raw p V05 = Passes raw p (has_keyword (λ k. is_among k unsupported_keywords))
+Broken raw p V05 = Passes raw.tree p (has_keyword (λ k. is_among k unsupported_keywords))
 -- uniqueItems is true
-Broken raw p V06 = Passes raw p (λ s. flag s (codes "uniqueItems"))
+Broken raw p V06 = Passes raw.tree p (λ s. flag s (codes "uniqueItems"))
 -- additionalProperties is false
-Broken raw p V07 = Passes raw p (λ s. is_false (under s (codes "additionalProperties")))
+Broken raw p V07 = Passes raw.tree p (λ s. is_false (under s (codes "additionalProperties")))
 -- properties with additionalProperties
-Broken raw p V08 = Passes raw p (λ s. has s (codes "properties") && has s (codes "additionalProperties"))
+Broken raw p V08 = Passes raw.tree p (λ s. has s (codes "properties") && has s (codes "additionalProperties"))
 -- int-or-string with a type
-Broken raw p V09 = PassesOutside raw p (λ s. is_int_or_string s && has s (codes "type"))
+Broken raw p V09 = PassesOutside raw.tree p (λ s. is_int_or_string s && has s (codes "type"))
 -- bad list type
-Broken raw p V10 = PassesOutside raw p has_bad_list_type
+Broken raw p V10 = PassesOutside raw.tree p (has_bad_list_type raw.profile)
 -- bad map keys
-Broken raw p V11 = PassesOutside raw p has_bad_keys
+Broken raw p V11 = PassesOutside raw.tree p (has_bad_keys raw.profile)
 -- bad items of a set
-Broken raw p V12 = PassesOutside raw p has_bad_set_items
+Broken raw p V12 = PassesOutside raw.tree p (has_bad_set_items raw.profile)
 -- bad map type
-Broken raw p V13 = PassesOutside raw p has_bad_map_type
+Broken raw p V13 = PassesOutside raw.tree p (has_bad_map_type raw.profile)
 -- misplaced default
-Broken raw p V15 = PassesOutside raw p (has_misplaced_default p)
+Broken raw p V15 = PassesOutside raw.tree p (has_misplaced_default p)
 -- junctor outside the profile
-Broken raw p V16 = At raw p (BreaksJunctors p (schema_at raw (core p)))
+Broken raw p V16 = At raw.tree p (BreaksJunctors raw.profile p (schema_at raw.tree (core p)))
 -- outside the profile
-Broken raw p V17 = PassesOutside raw p (is_outside_profile (is_root p))
+Broken raw p V17 = PassesOutside raw.tree p (is_outside_profile raw.profile (is_root p))
 -- V14: what a default becomes is a matter of nodes, which the crate `stored` judges (`Accepted.antt` there)
 Broken raw p _ = ⊥

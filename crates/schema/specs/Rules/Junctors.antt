@@ -9,6 +9,7 @@ use Rattle.schema.specs.Document.Places.{Place, schema_at, is_inside, core}
 use Rattle.schema.specs.Rules.Keywords.{has_keyword, members_in, texts_under}
 use Rattle.schema.specs.Rules.Kinds.{Kind, object, kind_of, is_scalar_kind}
 use Rattle.schema.specs.Rules.Profile.{is_root, junctor_keywords, outside_keywords, unsupported_keywords, keywords_of_scalars, has_empty_enum, lists_other, is_scalar_value, lists_no_field}
+use Rattle.schema.specs.declared.profile.Profile.{Profile}
 
 -- an object with declared fields, and no map
 abbrev pub declares_fields : Option Kind → Bool
@@ -19,12 +20,12 @@ declares_fields _ = false
 -- V03 is broken, and the branch is judged as one that asks of the value.
 
 -- a branch at an object with declared fields asks which of these are present
-abbrev pub asks_presence : Place → Option Data → Bool
-asks_presence p outer = is_inside p && declares_fields (option_and_then kind_of outer)
+abbrev pub asks_presence : Profile → Place → Option Data → Bool
+asks_presence profile p outer = is_inside p && declares_fields (option_and_then (kind_of profile) outer)
 
 -- any other branch asks of the value
-abbrev pub asks_value : Place → Option Data → Bool
-asks_value p outer = is_inside p && not (asks_presence p outer)
+abbrev pub asks_value : Profile → Place → Option Data → Bool
+asks_value profile p outer = is_inside p && not (asks_presence profile p outer)
 
 -- a branch may have these keywords as far as other rules let it
 abbrev pub is_judged_elsewhere : List ℕ → Bool
@@ -62,30 +63,30 @@ NamesTooMany s = (names : List (List ℕ)) × AllPairs (λ k l. k ≢ l) names �
 -- ---- junctors outside the profile: four conditions, in the order of docs/reference/schema-rules.md
 
 -- an outside place that is neither a scalar nor an object with declared fields
-abbrev pub takes_no_junctor : Place → Data → Bool
-takes_no_junctor p s = not (is_inside p) && (not (is_scalar_kind (kind_of s)) && not (declares_fields (kind_of s)))
+abbrev pub takes_no_junctor : Profile → Place → Data → Bool
+takes_no_junctor profile p s = not (is_inside p) && (not (is_scalar_kind (kind_of profile s)) && not (declares_fields (kind_of profile s)))
 
 -- it has a junctor
-abbrev pub has_misplaced_junctor : Place → Data → Bool
-has_misplaced_junctor p s = takes_no_junctor p s && has_keyword (λ k. is_among k junctor_keywords) s
+abbrev pub has_misplaced_junctor : Profile → Place → Data → Bool
+has_misplaced_junctor profile p s = takes_no_junctor profile p s && has_keyword (λ k. is_among k junctor_keywords) s
 
 -- the junctors of an outside place that is an object with declared fields name too many
-abbrev pub HasTooManyNames : Place → Data → Type 0
-HasTooManyNames p s = (is_inside p ≡ false) × (declares_fields (kind_of s) ≡ true) × NamesTooMany s
+abbrev pub HasTooManyNames : Profile → Place → Data → Type 0
+HasTooManyNames profile p s = (is_inside p ≡ false) × (declares_fields (kind_of profile s) ≡ true) × NamesTooMany s
 
 -- a branch that asks which fields are present has another keyword, or requires what is no field
-abbrev pub is_bad_presence : Place → Option Data → Data → Bool
-is_bad_presence p outer s = asks_presence p outer && (has_keyword (λ k. not (is_presence_keyword k)) s || requires_no_field p outer s)
+abbrev pub is_bad_presence : Profile → Place → Option Data → Data → Bool
+is_bad_presence profile p outer s = asks_presence profile p outer && (has_keyword (λ k. not (is_presence_keyword k)) s || requires_no_field p outer s)
 
 -- a branch that asks of the value has another keyword, or an `enum` that is empty or lists what is no scalar
-abbrev pub is_bad_value : Place → Option Data → Data → Bool
-is_bad_value p outer s =
-    asks_value p outer && (has_keyword (λ k. not (is_branch_keyword k)) s || (has_empty_enum s || lists_other is_scalar_value s))
+abbrev pub is_bad_value : Profile → Place → Option Data → Data → Bool
+is_bad_value profile p outer s =
+    asks_value profile p outer && (has_keyword (λ k. not (is_branch_keyword k)) s || (has_empty_enum s || lists_other is_scalar_value s))
 
 -- one of them holds
-abbrev pub BreaksJunctors : Place → Option Data → Data → Type 0
-BreaksJunctors p outer s =
-    (has_misplaced_junctor p s ≡ true) ⊎
-    (HasTooManyNames p s ⊎
-    ((is_bad_presence p outer s ≡ true) ⊎
-    (is_bad_value p outer s ≡ true)))
+abbrev pub BreaksJunctors : Profile → Place → Option Data → Data → Type 0
+BreaksJunctors profile p outer s =
+    (has_misplaced_junctor profile p s ≡ true) ⊎
+    (HasTooManyNames profile p s ⊎
+    ((is_bad_presence profile p outer s ≡ true) ⊎
+    (is_bad_value profile p outer s ≡ true)))

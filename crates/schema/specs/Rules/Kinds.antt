@@ -1,4 +1,4 @@
--- The kind of an outside place, the first that fits (apiextensions.k8s.io/v1, structural schemas).
+-- The kind of an outside place, the first that fits, by a profile (apiextensions.k8s.io/v1, structural schemas).
 use Rattle.std.specs.Prelude.{◌≡◌, ℕ, List, [], Bool, true, false, Option, Some, None, if◌then◌else◌, not, ◌&&◌, codes}
 use Rattle.std.specs.Str.{bytes_eq}
 use Rattle.jtree.specs.Data.{Data, text}
@@ -6,7 +6,9 @@ use Rattle.jtree.specs.Kind.{is_object}
 use Rattle.jtree.specs.Path.{under}
 use Rattle.schema.specs.Rules.Keywords.{flag}
 use Rattle.schema.specs.declared.node.ScalarKind.{ScalarKind}
-use Rattle.schema.specs.declared.node.ScalarKind.TheVariants.{Boolean, Integer, String, IntOrString}
+use Rattle.schema.specs.declared.node.ScalarKind.TheVariants.{Boolean, Integer, Number, String, IntOrString}
+use Rattle.schema.specs.declared.profile.Profile.{Profile}
+use Rattle.schema.specs.declared.profile.Profile.TheVariants.{Core, Cluster}
 
 -- `open_` is the kind of a place that accepts every value
 pub data Kind : Type 0 where
@@ -31,28 +33,34 @@ abbrev pub object_kind : Option Data → Kind
 object_kind None = object
 object_kind (Some d) = if is_object d then map else object
 
+-- `number` is a type of a cluster alone
+abbrev pub number_kind : Profile → Option Kind
+number_kind Core = None
+number_kind Cluster = Some (scalar Number)
+
 -- by the string of `type`
-abbrev pub named_kind : Data → List ℕ → Option Kind
-named_kind s t =
+abbrev pub named_kind : Profile → Data → List ℕ → Option Kind
+named_kind profile s t =
     if bytes_eq t [] then untyped_kind s else
     if bytes_eq t (codes "integer") then Some (scalar Integer) else
     if bytes_eq t (codes "string") then Some (scalar String) else
     if bytes_eq t (codes "boolean") then Some (scalar Boolean) else
     if bytes_eq t (codes "array") then Some list else
-    if bytes_eq t (codes "object") then Some (object_kind (under s (codes "additionalProperties"))) else None
+    if bytes_eq t (codes "object") then Some (object_kind (under s (codes "additionalProperties"))) else
+    if bytes_eq t (codes "number") then number_kind profile else None
 
 -- by `type`
-abbrev pub typed_kind : Data → Option Data → Option Kind
-typed_kind s None = untyped_kind s
-typed_kind s (Some (text t)) = named_kind s t
-typed_kind _ _ = None
+abbrev pub typed_kind : Profile → Data → Option Data → Option Kind
+typed_kind profile s None = untyped_kind s
+typed_kind profile s (Some (text t)) = named_kind profile s t
+typed_kind profile _ _ = None
 
 -- the kind of a place with this schema, where it is of one
-abbrev pub kind_of : Data → Option Kind
-kind_of s = if is_int_or_string s then Some (scalar IntOrString) else typed_kind s (under s (codes "type"))
+abbrev pub kind_of : Profile → Data → Option Kind
+kind_of profile s = if is_int_or_string s then Some (scalar IntOrString) else typed_kind profile s (under s (codes "type"))
 
-pub record IsOfKind (s : Data) (k : Kind) : Type 0 where
-  pub is : kind_of s ≡ Some k
+pub record IsOfKind (profile : Profile) (s : Data) (k : Kind) : Type 0 where
+  pub is : kind_of profile s ≡ Some k
 
 abbrev pub is_scalar_kind : Option Kind → Bool
 is_scalar_kind (Some (scalar k)) = true

@@ -6,6 +6,7 @@ use Rattle.schema.specs.Document.Texts.{is_among}
 use Rattle.schema.specs.Document.Places.{property, items, schema_by}
 use Rattle.schema.specs.Rules.Keywords.{flag, has, has_text_among, has_other_text, items_under, texts_of, texts_under, is_empty}
 use Rattle.schema.specs.Rules.Kinds.{kind_of, is_scalar_kind, is_list_kind, is_object_kind}
+use Rattle.schema.specs.declared.profile.Profile.{Profile}
 
 abbrev pub list_types : List (List ℕ)
 list_types = codes "atomic" ∷ codes "set" ∷ codes "map" ∷ []
@@ -17,44 +18,44 @@ abbrev pub is_of_list_type : List ℕ → Data → Bool
 is_of_list_type t s = has_text_among (t ∷ []) s (codes "x-kubernetes-list-type")
 
 -- a list type is at a place that is no list, or is another string
-abbrev pub has_bad_list_type : Data → Bool
-has_bad_list_type s = has s (codes "x-kubernetes-list-type") && (not (is_list_kind (kind_of s)) || has_other_text list_types s (codes "x-kubernetes-list-type"))
+abbrev pub has_bad_list_type : Profile → Data → Bool
+has_bad_list_type profile s = has s (codes "x-kubernetes-list-type") && (not (is_list_kind (kind_of profile s)) || has_other_text list_types s (codes "x-kubernetes-list-type"))
 
 -- a map type is at a place that is neither an object nor a map, or is another string
-abbrev pub has_bad_map_type : Data → Bool
-has_bad_map_type s = has s (codes "x-kubernetes-map-type") && (not (is_object_kind (kind_of s)) || has_other_text map_types s (codes "x-kubernetes-map-type"))
+abbrev pub has_bad_map_type : Profile → Data → Bool
+has_bad_map_type profile s = has s (codes "x-kubernetes-map-type") && (not (is_object_kind (kind_of profile s)) || has_other_text map_types s (codes "x-kubernetes-map-type"))
 
 -- a scalar place that takes no null
-abbrev pub is_plain_scalar : Option Data → Bool
-is_plain_scalar None = false
-is_plain_scalar (Some s) = is_scalar_kind (kind_of s) && not (flag s (codes "nullable"))
+abbrev pub is_plain_scalar : Profile → Option Data → Bool
+is_plain_scalar profile None = false
+is_plain_scalar profile (Some s) = is_scalar_kind (kind_of profile s) && not (flag s (codes "nullable"))
 
 -- a set whose items are no such scalars
-abbrev pub has_bad_set_items : Data → Bool
-has_bad_set_items s = is_list_kind (kind_of s) && (is_of_list_type (codes "set") s && not (is_plain_scalar (schema_by s items)))
+abbrev pub has_bad_set_items : Profile → Data → Bool
+has_bad_set_items profile s = is_list_kind (kind_of profile s) && (is_of_list_type (codes "set") s && not (is_plain_scalar profile (schema_by s items)))
 
 abbrev pub has_default : Option Data → Bool
 has_default None = false
 has_default (Some s) = has s (codes "default")
 
 -- a key of the items of a map list: such a scalar property, which each item has, since it is required or has a default
-abbrev pub is_key : Data → List ℕ → Bool
-is_key item k = is_plain_scalar (schema_by item (property k)) && (is_among k (texts_under item (codes "required")) || has_default (schema_by item (property k)))
+abbrev pub is_key : Profile → Data → List ℕ → Bool
+is_key profile item k = is_plain_scalar profile (schema_by item (property k)) && (is_among k (texts_under item (codes "required")) || has_default (schema_by item (property k)))
 
 -- each is a key of the items, and none occurs twice
-abbrev pub are_keys : Data → List (List ℕ) → Bool
-are_keys item [] = true
-are_keys item (k ∷ ks) = is_key item k && (not (is_among k ks) && are_keys item ks)
+abbrev pub are_keys : Profile → Data → List (List ℕ) → Bool
+are_keys profile item [] = true
+are_keys profile item (k ∷ ks) = is_key profile item k && (not (is_among k ks) && are_keys profile item ks)
 
 -- the items are objects, take no null, and have these keys, at least one
-abbrev pub have_keys : Option Data → Items → Bool
-have_keys None keys = false
-have_keys (Some item) keys =
-    is_object_kind (kind_of item) && (not (flag item (codes "nullable")) && (not (is_empty keys) && are_keys item (texts_of keys)))
+abbrev pub have_keys : Profile → Option Data → Items → Bool
+have_keys profile None keys = false
+have_keys profile (Some item) keys =
+    is_object_kind (kind_of profile item) && (not (flag item (codes "nullable")) && (not (is_empty keys) && are_keys profile item (texts_of keys)))
 
 -- a map list whose items have not its keys, or keys of what is no map list
-abbrev pub has_bad_keys : Data → Bool
-has_bad_keys s =
+abbrev pub has_bad_keys : Profile → Data → Bool
+has_bad_keys profile s =
     if is_of_list_type (codes "map") s
-    then is_list_kind (kind_of s) && not (have_keys (schema_by s items) (items_under s (codes "x-kubernetes-list-map-keys")))
+    then is_list_kind (kind_of profile s) && not (have_keys profile (schema_by s items) (items_under s (codes "x-kubernetes-list-map-keys")))
     else has s (codes "x-kubernetes-list-map-keys")

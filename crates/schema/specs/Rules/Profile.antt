@@ -5,13 +5,16 @@ use Rattle.std.specs.Option.{is_some}
 use Rattle.jtree.specs.Data.{Data, text, list, Members}
 use Rattle.jtree.specs.Kind.{is_boolean, is_integer, is_text}
 use Rattle.jtree.specs.Path.{under, member_at}
+use Rattle.schema.specs.Document.Forms.{is_number}
 use Rattle.schema.specs.Document.Texts.{is_among}
 use Rattle.schema.specs.Document.Places.{Step, Place, property, items, schema_by, ends_with, is_envelope_name, is_envelope}
 use Rattle.schema.specs.Rules.Keywords.{flag, has, has_other_text, has_keyword, any_item, is_empty, items_under, members_under, one_holds}
 use Rattle.schema.specs.Rules.Kinds.{Kind, scalar, open_, kind_of, is_list_kind, is_int_or_string, is_untyped, preserves}
 use Rattle.schema.specs.Rules.Kinds as kinds
 use Rattle.schema.specs.declared.node.ScalarKind.{ScalarKind}
-use Rattle.schema.specs.declared.node.ScalarKind.TheVariants.{Boolean, Integer, String, IntOrString}
+use Rattle.schema.specs.declared.node.ScalarKind.TheVariants.{Boolean, Integer, Number, String, IntOrString}
+use Rattle.schema.specs.declared.profile.Profile.{Profile}
+use Rattle.schema.specs.declared.profile.Profile.TheVariants.{Core, Cluster}
 
 -- ---- defaults
 
@@ -87,12 +90,13 @@ lists_other accepts s = any_item (λ d. not (accepts d)) (items_under s (codes "
 
 -- neither null, nor a list, nor an object
 abbrev pub is_scalar_value : Data → Bool
-is_scalar_value d = is_boolean d || (is_integer d || is_text d)
+is_scalar_value d = is_boolean d || (is_number d || is_text d)
 
 -- a scalar place accepts values of its kind
 abbrev pub accepts : ScalarKind → Data → Bool
 accepts Boolean d = is_boolean d
 accepts Integer d = is_integer d
+accepts Number d = is_number d
 accepts String d = is_text d
 accepts IntOrString d = is_integer d || is_text d
 
@@ -133,21 +137,25 @@ has_no_root_keyword root s = root && (flag s (codes "nullable") || has_keyword (
 abbrev pub types : List (List ℕ)
 types = [] ∷ codes "integer" ∷ codes "string" ∷ codes "boolean" ∷ codes "array" ∷ codes "object" ∷ []
 
--- the type is none of the five
-abbrev pub has_unknown_type : Data → Bool
-has_unknown_type s = has_other_text types s (codes "type")
+abbrev pub types_of : Profile → List (List ℕ)
+types_of Core = types
+types_of Cluster = codes "number" ∷ types
+
+-- the type is none of the profile
+abbrev pub has_unknown_type : Profile → Data → Bool
+has_unknown_type profile s = has_other_text (types_of profile) s (codes "type")
 
 -- unknown fields are kept beside a type or a keyword that does not go with that
 abbrev pub is_bad_preserving : Data → Bool
 is_bad_preserving s = preserves s && (is_no_object s || has s (codes "additionalProperties"))
 
 -- places of the kind may not have some keyword that is there
-abbrev pub has_foreign_keyword : Data → Bool
-has_foreign_keyword s = has_keyword (is_foreign (kind_of s)) s
+abbrev pub has_foreign_keyword : Profile → Data → Bool
+has_foreign_keyword profile s = has_keyword (is_foreign (kind_of profile s)) s
 
 -- a list has no items
-abbrev pub lacks_items : Data → Bool
-lacks_items s = is_list_kind (kind_of s) && not (is_some (schema_by s items))
+abbrev pub lacks_items : Profile → Data → Bool
+lacks_items profile s = is_list_kind (kind_of profile s) && not (is_some (schema_by s items))
 
 -- the string names no field: a field is a property, but at the root a name of the envelope is one exactly where the envelope counts
 abbrev pub is_no_field : Bool → Bool → Members → Data → Bool
@@ -163,21 +171,21 @@ abbrev pub requires_undeclared : Bool → Data → Bool
 requires_undeclared root s = lists_no_field root true (members_under s (codes "properties")) s
 
 -- a scalar has no value to choose, or one that is not of its kind
-abbrev pub has_bad_choices : Data → Bool
-has_bad_choices s = has_no_choice (kind_of s) s || has_other_choice (kind_of s) s
+abbrev pub has_bad_choices : Profile → Data → Bool
+has_bad_choices profile s = has_no_choice (kind_of profile s) s || has_other_choice (kind_of profile s) s
 
-abbrev pub profile_tests : Bool → Data → List Bool
-profile_tests root s =
+abbrev pub profile_tests : Profile → Bool → Data → List Bool
+profile_tests profile root s =
     is_other_root root s ∷
     has_no_root_keyword root s ∷
-    has_unknown_type s ∷
+    has_unknown_type profile s ∷
     is_bad_preserving s ∷
-    has_foreign_keyword s ∷
-    lacks_items s ∷
+    has_foreign_keyword profile s ∷
+    lacks_items profile s ∷
     requires_undeclared root s ∷
-    has_bad_choices s ∷
+    has_bad_choices profile s ∷
     flag s (codes "additionalProperties") ∷ []
 
 -- one of them holds
-abbrev pub is_outside_profile : Bool → Data → Bool
-is_outside_profile root s = one_holds (profile_tests root s)
+abbrev pub is_outside_profile : Profile → Bool → Data → Bool
+is_outside_profile profile root s = one_holds (profile_tests profile root s)

@@ -6,6 +6,7 @@ use Rattle.std.specs.Option.{is_some}
 use Rattle.std.specs.Str.{bytes_eq}
 use Rattle.jtree.specs.Data.{Data}
 use Rattle.schema.specs.Document.Texts.{is_among}
+use Rattle.schema.specs.Document.Raw.{Raw}
 use Rattle.schema.specs.Document.Places.{Place, property, items, schema_by, schema_at, is_inside, core}
 use Rattle.schema.specs.Rules.Keywords.{flag, has, has_other_text, is_empty, items_under, texts_under}
 use Rattle.schema.specs.Rules.Kinds.{Kind, kind_of, is_scalar_kind, is_list_kind, is_object_kind, is_open_kind, is_int_or_string, preserves}
@@ -17,6 +18,7 @@ use Rattle.schema.specs.declared.violation.Rule.{Rule}
 use Rattle.schema.specs.declared.violation.Rule.TheVariants.{V03, V05, V11, V12, V16, V17}
 use Rattle.schema.specs.declared.reason.Reason.{Reason}
 use Rattle.schema.specs.declared.reason.Reason.TheVariants.{NotInBranches, TypeInBranch, NotSupported, KeysOfOtherList, NoKeys, NoItems, ItemsNotObjects, ItemsNotScalars, NullableItems, RepeatedKey, UndeclaredKey, KeyNotScalar, NullableKey, OptionalKey, MisplacedJunctor, NotInScalarBranches, NotInPresenceBranches, TooManyNames, EmptyEnum, EnumNotScalars, EnumOfOtherKind, UndeclaredField, RootNotObject, NotAtRoot, UnknownType, NotWithPreserving, NotOfScalars, NotOfLists, NotOfObjects, NotOfOpenPlaces, AdditionalPropertiesTrue}
+use Rattle.schema.specs.declared.profile.Profile.{Profile}
 
 -- the schema is there, and passes a test
 abbrev pub passes : (Data → Bool) → Option Data → Bool
@@ -56,19 +58,19 @@ list_keyword NullableItems = codes "items"
 list_keyword _ = map_keys
 
 -- of the items
-abbrev pub is_item_reason : Reason → Data → Bool
-is_item_reason ItemsNotObjects t = not (is_object_kind (kind_of t))
-is_item_reason ItemsNotScalars t = not (is_scalar_kind (kind_of t))
-is_item_reason NullableItems t = flag t (codes "nullable")
-is_item_reason _ t = false
+abbrev pub is_item_reason : Profile → Reason → Data → Bool
+is_item_reason profile ItemsNotObjects t = not (is_object_kind (kind_of profile t))
+is_item_reason profile ItemsNotScalars t = not (is_scalar_kind (kind_of profile t))
+is_item_reason profile NullableItems t = flag t (codes "nullable")
+is_item_reason profile _ t = false
 
 -- of a key, by the schema of the items
-abbrev pub is_key_reason : Reason → Data → List ℕ → Bool
-is_key_reason UndeclaredKey t k = not (is_some (schema_by t (property k)))
-is_key_reason KeyNotScalar t k = passes (λ s. not (is_scalar_kind (kind_of s))) (schema_by t (property k))
-is_key_reason NullableKey t k = passes (λ s. flag s (codes "nullable")) (schema_by t (property k))
-is_key_reason OptionalKey t k = not (is_among k (texts_under t (codes "required"))) && passes (λ s. not (has s (codes "default"))) (schema_by t (property k))
-is_key_reason _ t k = false
+abbrev pub is_key_reason : Profile → Reason → Data → List ℕ → Bool
+is_key_reason profile UndeclaredKey t k = not (is_some (schema_by t (property k)))
+is_key_reason profile KeyNotScalar t k = passes (λ s. not (is_scalar_kind (kind_of profile s))) (schema_by t (property k))
+is_key_reason profile NullableKey t k = passes (λ s. flag s (codes "nullable")) (schema_by t (property k))
+is_key_reason profile OptionalKey t k = not (is_among k (texts_under t (codes "required"))) && passes (λ s. not (has s (codes "default"))) (schema_by t (property k))
+is_key_reason profile _ t k = false
 
 -- some of the strings passes a test
 abbrev pub any_text : (List ℕ → Bool) → List (List ℕ) → Bool
@@ -81,42 +83,42 @@ has_repeated [] = false
 has_repeated (t ∷ ts) = is_among t ts || has_repeated ts
 
 -- of a list of list type `map`
-abbrev pub is_map_list_reason : Reason → Data → Bool
-is_map_list_reason NoKeys s = is_empty (items_under s map_keys)
-is_map_list_reason NoItems s = not (is_some (schema_by s items))
-is_map_list_reason ItemsNotObjects s = passes (is_item_reason ItemsNotObjects) (schema_by s items)
-is_map_list_reason NullableItems s = passes (is_item_reason NullableItems) (schema_by s items)
-is_map_list_reason RepeatedKey s = has_repeated (texts_under s map_keys)
-is_map_list_reason c s = passes (λ t. any_text (is_key_reason c t) (texts_under s map_keys)) (schema_by s items)
+abbrev pub is_map_list_reason : Profile → Reason → Data → Bool
+is_map_list_reason profile NoKeys s = is_empty (items_under s map_keys)
+is_map_list_reason profile NoItems s = not (is_some (schema_by s items))
+is_map_list_reason profile ItemsNotObjects s = passes (is_item_reason profile ItemsNotObjects) (schema_by s items)
+is_map_list_reason profile NullableItems s = passes (is_item_reason profile NullableItems) (schema_by s items)
+is_map_list_reason profile RepeatedKey s = has_repeated (texts_under s map_keys)
+is_map_list_reason profile c s = passes (λ t. any_text (is_key_reason profile c t) (texts_under s map_keys)) (schema_by s items)
 
 -- of what has another list type, or none
 abbrev pub is_other_list_reason : Reason → Bool
 is_other_list_reason KeysOfOtherList = true
 is_other_list_reason _ = false
 
-abbrev pub breaks_keys_by : Reason → Data → Bool
-breaks_keys_by c s = if is_of_list_type (codes "map") s then is_list_kind (kind_of s) && is_map_list_reason c s else is_other_list_reason c
+abbrev pub breaks_keys_by : Profile → Reason → Data → Bool
+breaks_keys_by profile c s = if is_of_list_type (codes "map") s then is_list_kind (kind_of profile s) && is_map_list_reason profile c s else is_other_list_reason c
 
 -- of a list of list type `set`
-abbrev pub is_items_reason : Reason → Data → Bool
-is_items_reason NoItems s = not (is_some (schema_by s items))
-is_items_reason ItemsNotScalars s = passes (is_item_reason ItemsNotScalars) (schema_by s items)
-is_items_reason NullableItems s = passes (is_item_reason NullableItems) (schema_by s items)
-is_items_reason _ s = false
+abbrev pub is_items_reason : Profile → Reason → Data → Bool
+is_items_reason profile NoItems s = not (is_some (schema_by s items))
+is_items_reason profile ItemsNotScalars s = passes (is_item_reason profile ItemsNotScalars) (schema_by s items)
+is_items_reason profile NullableItems s = passes (is_item_reason profile NullableItems) (schema_by s items)
+is_items_reason profile _ s = false
 
-abbrev pub breaks_set_by : Reason → Data → Bool
-breaks_set_by c s = is_list_kind (kind_of s) && (is_of_list_type (codes "set") s && is_items_reason c s)
+abbrev pub breaks_set_by : Profile → Reason → Data → Bool
+breaks_set_by profile c s = is_list_kind (kind_of profile s) && (is_of_list_type (codes "set") s && is_items_reason profile c s)
 
 -- ---- V16: junctors
 
-abbrev pub is_junctor_reason : Place → Option Data → Reason → List ℕ → Data → Bool
-is_junctor_reason p outer MisplacedJunctor k s = is_among k junctor_keywords && takes_no_junctor p s
-is_junctor_reason p outer NotInPresenceBranches k s = not (is_presence_keyword k) && asks_presence p outer
-is_junctor_reason p outer UndeclaredField k s = bytes_eq k (codes "required") && (asks_presence p outer && requires_no_field p outer s)
-is_junctor_reason p outer NotInScalarBranches k s = not (is_branch_keyword k) && asks_value p outer
-is_junctor_reason p outer EmptyEnum k s = bytes_eq k (codes "enum") && (asks_value p outer && has_empty_enum s)
-is_junctor_reason p outer EnumNotScalars k s = bytes_eq k (codes "enum") && (asks_value p outer && lists_other is_scalar_value s)
-is_junctor_reason p outer _ k s = false
+abbrev pub is_junctor_reason : Profile → Place → Option Data → Reason → List ℕ → Data → Bool
+is_junctor_reason profile p outer MisplacedJunctor k s = is_among k junctor_keywords && takes_no_junctor profile p s
+is_junctor_reason profile p outer NotInPresenceBranches k s = not (is_presence_keyword k) && asks_presence profile p outer
+is_junctor_reason profile p outer UndeclaredField k s = bytes_eq k (codes "required") && (asks_presence profile p outer && requires_no_field p outer s)
+is_junctor_reason profile p outer NotInScalarBranches k s = not (is_branch_keyword k) && asks_value profile p outer
+is_junctor_reason profile p outer EmptyEnum k s = bytes_eq k (codes "enum") && (asks_value profile p outer && has_empty_enum s)
+is_junctor_reason profile p outer EnumNotScalars k s = bytes_eq k (codes "enum") && (asks_value profile p outer && lists_other is_scalar_value s)
+is_junctor_reason profile p outer _ k s = false
 
 -- the junctors of the place name more than four fields: of each of these
 abbrev pub is_names_reason : Reason → List ℕ → Bool
@@ -151,37 +153,37 @@ is_about_kind NotOfObjects kind = is_object_kind kind
 is_about_kind NotOfOpenPlaces kind = is_open_kind kind
 is_about_kind _ kind = false
 
-abbrev pub is_profile_reason : Bool → Reason → List ℕ → Data → Bool
-is_profile_reason root RootNotObject k s = root && makes_other_root k s
-is_profile_reason root NotAtRoot k s = root && is_no_root_keyword k s
-is_profile_reason root UnknownType k s = bytes_eq k (codes "type") && has_unknown_type s
-is_profile_reason root NotWithPreserving k s = is_no_preserving k s && preserves s
-is_profile_reason root NoItems k s = bytes_eq k (codes "type") && lacks_items s
-is_profile_reason root UndeclaredField k s = bytes_eq k (codes "required") && requires_undeclared root s
-is_profile_reason root EmptyEnum k s = bytes_eq k (codes "enum") && has_no_choice (kind_of s) s
-is_profile_reason root EnumOfOtherKind k s = bytes_eq k (codes "enum") && has_other_choice (kind_of s) s
-is_profile_reason root AdditionalPropertiesTrue k s = bytes_eq k (codes "additionalProperties") && flag s (codes "additionalProperties")
-is_profile_reason root c k s = is_about_kind c (kind_of s) && is_foreign (kind_of s) k
+abbrev pub is_profile_reason : Profile → Bool → Reason → List ℕ → Data → Bool
+is_profile_reason profile root RootNotObject k s = root && makes_other_root k s
+is_profile_reason profile root NotAtRoot k s = root && is_no_root_keyword k s
+is_profile_reason profile root UnknownType k s = bytes_eq k (codes "type") && has_unknown_type profile s
+is_profile_reason profile root NotWithPreserving k s = is_no_preserving k s && preserves s
+is_profile_reason profile root NoItems k s = bytes_eq k (codes "type") && lacks_items profile s
+is_profile_reason profile root UndeclaredField k s = bytes_eq k (codes "required") && requires_undeclared root s
+is_profile_reason profile root EmptyEnum k s = bytes_eq k (codes "enum") && has_no_choice (kind_of profile s) s
+is_profile_reason profile root EnumOfOtherKind k s = bytes_eq k (codes "enum") && has_other_choice (kind_of profile s) s
+is_profile_reason profile root AdditionalPropertiesTrue k s = bytes_eq k (codes "additionalProperties") && flag s (codes "additionalProperties")
+is_profile_reason profile root c k s = is_about_kind c (kind_of profile s) && is_foreign (kind_of profile s) k
 
 -- ---- the reasons of a rule
 
 -- with a keyword of the schema at a place
-abbrev pub Explains : Data → Place → Data → Rule → List ℕ → Reason → Type 0
-Explains raw p s V03 k c = (is_inside p ≡ true) × ((is_branch_reason c k ≡ true) ⊎ ((is_type_reason c k ≡ true) × (IsPatternBranch raw p → ⊥)))
+abbrev pub Explains : Raw → Place → Data → Rule → List ℕ → Reason → Type 0
+Explains raw p s V03 k c = (is_inside p ≡ true) × ((is_branch_reason c k ≡ true) ⊎ ((is_type_reason c k ≡ true) × (IsPatternBranch raw.tree p → ⊥)))
 Explains raw p s V05 k c = is_support_reason c k ≡ true
-Explains raw p s V11 k c = (is_inside p ≡ false) × ((bytes_eq k (list_keyword c) && breaks_keys_by c s) ≡ true)
-Explains raw p s V12 k c = (is_inside p ≡ false) × ((bytes_eq k (list_keyword c) && breaks_set_by c s) ≡ true)
+Explains raw p s V11 k c = (is_inside p ≡ false) × ((bytes_eq k (list_keyword c) && breaks_keys_by raw.profile c s) ≡ true)
+Explains raw p s V12 k c = (is_inside p ≡ false) × ((bytes_eq k (list_keyword c) && breaks_set_by raw.profile c s) ≡ true)
 Explains raw p s V16 k c =
-    (is_junctor_reason p (schema_at raw (core p)) c k s ≡ true) ⊎ ((is_names_reason c k ≡ true) × HasTooManyNames p s)
-Explains raw p s V17 k c = (is_inside p ≡ false) × (is_profile_reason (is_root p) c k s ≡ true)
+    (is_junctor_reason raw.profile p (schema_at raw.tree (core p)) c k s ≡ true) ⊎ ((is_names_reason c k ≡ true) × HasTooManyNames raw.profile p s)
+Explains raw p s V17 k c = (is_inside p ≡ false) × (is_profile_reason raw.profile (is_root p) c k s ≡ true)
 Explains raw p s _ k c = ⊥
 
 -- the rule is broken at the place for this reason, by this keyword, which is there
-abbrev pub HasReason : Data → Place → Rule → List ℕ → Reason → Type 0
-HasReason raw p r k c = At raw p (λ s. (has s k ≡ true) × Explains raw p s r k c)
+abbrev pub HasReason : Raw → Place → Rule → List ℕ → Reason → Type 0
+HasReason raw p r k c = At raw.tree p (λ s. (has s k ≡ true) × Explains raw p s r k c)
 
 -- for some reason, by some keyword
-abbrev pub HasSomeReason : Data → Place → Rule → Type 0
+abbrev pub HasSomeReason : Raw → Place → Rule → Type 0
 HasSomeReason raw p r = (k : List ℕ) × (c : Reason) × HasReason raw p r k c
 
 -- the rules with reasons

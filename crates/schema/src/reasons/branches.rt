@@ -1,6 +1,7 @@
 //! The reasons of the rule on junctors.
 ghost use Rattle.std.specs.Prelude.{◌≡◌, ◌↔◌, IsTrue, option_map};
 ghost use Rattle.jtree.specs.Data.{Data, object};
+ghost use Rattle.schema.specs.Document.Raw.{raw_by};
 ghost use Rattle.schema.specs.Internal.PlaceView.{place_of};
 ghost use Rattle.schema.specs.Internal.Subschemas.{IsSubschema};
 ghost use Rattle.schema.specs.Internal.ReasonParts.{AreFacts};
@@ -23,11 +24,11 @@ pub(crate) fn breaks_junctors_by(
     reason: Reason,
 ) -> bool
     requires { AreFacts facts.now subschema.now }
-    ensures { (raw : Data) → IsSubschema raw subschema.now → IsTrue result ↔ Explains raw (place_of subschema.now.place.items) (object subschema.now.schema.now) V16 keyword.now reason }
+    ensures { (raw : Data) → IsSubschema raw subschema.now → IsTrue result ↔ Explains (raw_by facts.now.profile raw) (place_of subschema.now.place.items) (object subschema.now.schema.now) V16 keyword.now reason }
 {
     is_junctor_reason(subschema, facts, keyword, reason)
         || (is_names_reason(keyword, reason)
-            && has_too_many_names(subschema.place.as_slice(), subschema.schema))
+            && has_too_many_names(facts.profile, subschema.place.as_slice(), subschema.schema))
 }
 
 fn is_names_reason(keyword: &str, reason: Reason) -> bool
@@ -46,13 +47,14 @@ fn is_junctor_reason(
     reason: Reason,
 ) -> bool
     requires { AreFacts facts.now subschema.now }
-    ensures { result ≡ Reasons.is_junctor_reason (place_of subschema.now.place.items) (option_map (λ m. object m.now) subschema.now.outer) reason keyword.now (object subschema.now.schema.now) }
+    ensures { result ≡ Reasons.is_junctor_reason facts.now.profile (place_of subschema.now.place.items) (option_map (λ m. object m.now) subschema.now.outer) reason keyword.now (object subschema.now.schema.now) }
 {
     let place = subschema.place.as_slice();
     let schema = subschema.schema;
     let asks_value = facts.is_inside && !facts.asks_presence;
     match reason {
-        Reason::MisplacedJunctor => is_junctor_keyword(keyword) && takes_no_junctor(place, schema),
+        Reason::MisplacedJunctor => is_junctor_keyword(keyword)
+            && takes_no_junctor(facts.profile, place, schema),
         Reason::NotInPresenceBranches => !is_presence_keyword(keyword) && facts.asks_presence,
         Reason::UndeclaredField => {
             keyword == "required"

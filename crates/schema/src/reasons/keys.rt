@@ -13,22 +13,33 @@ ghost use Rattle.schema.specs.Rules.Reasons.{any_text, passes, map_keys};
 
 use crate::keywords::{has, has_true, is_empty, is_listed, lists_text, object_under};
 use crate::kinds::{is_list, is_object, is_scalar};
+use crate::profile::Profile;
 use crate::reason::Reason;
 use crate::rules::lists::{is_of_list_type, keys_of, property_of};
 use jtree::{Members, Tree};
 
 /// V11: keys of what is no map list, or a map list whose items have not its keys.
-pub(crate) fn is_keys_reason(schema: &Members, keyword: &str, reason: Reason) -> bool
-    ensures { result ≡ (bytes_eq keyword.now (Reasons.list_keyword reason) && Reasons.breaks_keys_by reason (object schema.now)) }
+pub(crate) fn is_keys_reason(
+    profile: Profile,
+    schema: &Members,
+    keyword: &str,
+    reason: Reason,
+) -> bool
+    ensures { result ≡ (bytes_eq keyword.now (Reasons.list_keyword reason) && Reasons.breaks_keys_by profile reason (object schema.now)) }
 {
-    keyword == list_keyword(reason) && breaks_keys_by(schema, reason)
+    keyword == list_keyword(reason) && breaks_keys_by(profile, schema, reason)
 }
 
 /// V12: the items of a set are absent, no scalars, or nullable.
-pub(crate) fn is_set_reason(schema: &Members, keyword: &str, reason: Reason) -> bool
-    ensures { result ≡ (bytes_eq keyword.now (Reasons.list_keyword reason) && Reasons.breaks_set_by reason (object schema.now)) }
+pub(crate) fn is_set_reason(
+    profile: Profile,
+    schema: &Members,
+    keyword: &str,
+    reason: Reason,
+) -> bool
+    ensures { result ≡ (bytes_eq keyword.now (Reasons.list_keyword reason) && Reasons.breaks_set_by profile reason (object schema.now)) }
 {
-    keyword == list_keyword(reason) && breaks_set_by(schema, reason)
+    keyword == list_keyword(reason) && breaks_set_by(profile, schema, reason)
 }
 
 /// The keyword that a reason is about.
@@ -42,11 +53,11 @@ fn list_keyword(reason: Reason) -> &'static str
     }
 }
 
-fn breaks_keys_by(schema: &Members, reason: Reason) -> bool
-    ensures { result ≡ Reasons.breaks_keys_by reason (object schema.now) }
+fn breaks_keys_by(profile: Profile, schema: &Members, reason: Reason) -> bool
+    ensures { result ≡ Reasons.breaks_keys_by profile reason (object schema.now) }
 {
     if is_of_list_type(schema, "map") {
-        is_list(schema) && is_map_list_reason(schema, reason)
+        is_list(profile, schema) && is_map_list_reason(profile, schema, reason)
     } else {
         is_other_list_reason(reason)
     }
@@ -61,50 +72,51 @@ fn is_other_list_reason(reason: Reason) -> bool
     }
 }
 
-fn is_map_list_reason(schema: &Members, reason: Reason) -> bool
-    ensures { result ≡ Reasons.is_map_list_reason reason (object schema.now) }
+fn is_map_list_reason(profile: Profile, schema: &Members, reason: Reason) -> bool
+    ensures { result ≡ Reasons.is_map_list_reason profile reason (object schema.now) }
 {
     match reason {
         Reason::NoKeys => is_empty(keys_of(schema)),
         Reason::NoItems => object_under(schema, "items").is_none(),
-        Reason::ItemsNotObjects | Reason::NullableItems => has_items(schema, reason),
+        Reason::ItemsNotObjects | Reason::NullableItems => has_items(profile, schema, reason),
         Reason::RepeatedKey => has_repeated(keys_of(schema)),
-        _ => any_key(schema, reason),
+        _ => any_key(profile, schema, reason),
     }
 }
 
-fn breaks_set_by(schema: &Members, reason: Reason) -> bool
-    ensures { result ≡ Reasons.breaks_set_by reason (object schema.now) }
+fn breaks_set_by(profile: Profile, schema: &Members, reason: Reason) -> bool
+    ensures { result ≡ Reasons.breaks_set_by profile reason (object schema.now) }
 {
-    is_list(schema) && (is_of_list_type(schema, "set") && is_items_reason(schema, reason))
+    is_list(profile, schema)
+        && (is_of_list_type(schema, "set") && is_items_reason(profile, schema, reason))
 }
 
-fn is_items_reason(schema: &Members, reason: Reason) -> bool
-    ensures { result ≡ Reasons.is_items_reason reason (object schema.now) }
+fn is_items_reason(profile: Profile, schema: &Members, reason: Reason) -> bool
+    ensures { result ≡ Reasons.is_items_reason profile reason (object schema.now) }
 {
     match reason {
         Reason::NoItems => object_under(schema, "items").is_none(),
-        Reason::ItemsNotScalars | Reason::NullableItems => has_items(schema, reason),
+        Reason::ItemsNotScalars | Reason::NullableItems => has_items(profile, schema, reason),
         _ => false,
     }
 }
 
 /// Whether the items are there, and are not as they have to be.
-fn has_items(schema: &Members, reason: Reason) -> bool
-    ensures { result ≡ passes (Reasons.is_item_reason reason) (schema_by (object schema.now) Places.items) }
+fn has_items(profile: Profile, schema: &Members, reason: Reason) -> bool
+    ensures { result ≡ passes (Reasons.is_item_reason profile reason) (schema_by (object schema.now) Places.items) }
 {
     match object_under(schema, "items") {
-        Some(items) => is_item_reason(items, reason),
+        Some(items) => is_item_reason(profile, items, reason),
         None => false,
     }
 }
 
-fn is_item_reason(items: &Members, reason: Reason) -> bool
-    ensures { result ≡ Reasons.is_item_reason reason (object items.now) }
+fn is_item_reason(profile: Profile, items: &Members, reason: Reason) -> bool
+    ensures { result ≡ Reasons.is_item_reason profile reason (object items.now) }
 {
     match reason {
-        Reason::ItemsNotObjects => !is_object(items),
-        Reason::ItemsNotScalars => !is_scalar(items),
+        Reason::ItemsNotObjects => !is_object(profile, items),
+        Reason::ItemsNotScalars => !is_scalar(profile, items),
         Reason::NullableItems => has_true(items, "nullable"),
         _ => false,
     }
@@ -122,21 +134,21 @@ fn has_repeated(keys: &[Tree]) -> bool
 }
 
 /// Whether the items are there, and some key is not as it has to be.
-fn any_key(schema: &Members, reason: Reason) -> bool
-    ensures { result ≡ passes (λ t. any_text (Reasons.is_key_reason reason t) (texts_under (object schema.now) map_keys)) (schema_by (object schema.now) Places.items) }
+fn any_key(profile: Profile, schema: &Members, reason: Reason) -> bool
+    ensures { result ≡ passes (λ t. any_text (Reasons.is_key_reason profile reason t) (texts_under (object schema.now) map_keys)) (schema_by (object schema.now) Places.items) }
 {
     match object_under(schema, "items") {
-        Some(items) => any_listed(items, keys_of(schema), reason),
+        Some(items) => any_listed(profile, items, keys_of(schema), reason),
         None => false,
     }
 }
 
-fn any_listed(items: &Members, keys: &[Tree], reason: Reason) -> bool
-    ensures { result ≡ any_text (Reasons.is_key_reason reason (object items.now)) (texts_of (items_of keys.now)) }
+fn any_listed(profile: Profile, items: &Members, keys: &[Tree], reason: Reason) -> bool
+    ensures { result ≡ any_text (Reasons.is_key_reason profile reason (object items.now)) (texts_of (items_of keys.now)) }
 {
     for key in keys {
         if let Tree::Text(key) = key {
-            if is_key_reason(items, key.as_str(), reason) {
+            if is_key_reason(profile, items, key.as_str(), reason) {
                 return true;
             }
         }
@@ -144,24 +156,24 @@ fn any_listed(items: &Members, keys: &[Tree], reason: Reason) -> bool
     false
 }
 
-fn is_key_reason(items: &Members, key: &str, reason: Reason) -> bool
-    ensures { result ≡ Reasons.is_key_reason reason (object items.now) key.now }
+fn is_key_reason(profile: Profile, items: &Members, key: &str, reason: Reason) -> bool
+    ensures { result ≡ Reasons.is_key_reason profile reason (object items.now) key.now }
 {
     let property = property_of(items, key);
     match reason {
         Reason::UndeclaredKey => property.is_none(),
-        Reason::KeyNotScalar => is_no_scalar(property),
+        Reason::KeyNotScalar => is_no_scalar(profile, property),
         Reason::NullableKey => is_nullable(property),
         Reason::OptionalKey => !lists_text(items, "required", key) && lacks_default(property),
         _ => false,
     }
 }
 
-fn is_no_scalar(schema: Option<&Members>) -> bool
-    ensures { result ≡ passes (λ s. not (is_scalar_kind (kind_of s))) (option_map (λ m. object m.now) schema.entry) }
+fn is_no_scalar(profile: Profile, schema: Option<&Members>) -> bool
+    ensures { result ≡ passes (λ s. not (is_scalar_kind (kind_of profile s))) (option_map (λ m. object m.now) schema.entry) }
 {
     match schema {
-        Some(schema) => !is_scalar(schema),
+        Some(schema) => !is_scalar(profile, schema),
         None => false,
     }
 }

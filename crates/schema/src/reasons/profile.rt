@@ -7,6 +7,7 @@ ghost use Rattle.schema.specs.Rules.Reasons;
 
 use crate::keywords::{has_other_text, has_true, is_foreign, is_not_at_root};
 use crate::kinds::{Kind, is_list_kind, is_object_kind, is_open_kind, is_scalar_kind};
+use crate::profile::Profile;
 use crate::reason::Reason;
 use crate::rules::profile::{
     has_no_choice, has_other_choice, has_unknown_type, is_untyped_open, lacks_items, preserves,
@@ -16,24 +17,25 @@ use jtree::Members;
 
 /// V17: a place that is in no branch is outside the profile.
 pub(crate) fn is_profile_reason(
+    profile: Profile,
     root: bool,
     kind: Option<Kind>,
     schema: &Members,
     keyword: &str,
     reason: Reason,
 ) -> bool
-    requires { option_map kind_view kind ≡ kind_of (object schema.now) }
-    ensures { result ≡ Reasons.is_profile_reason root reason keyword.now (object schema.now) }
+    requires { option_map kind_view kind ≡ kind_of profile (object schema.now) }
+    ensures { result ≡ Reasons.is_profile_reason profile root reason keyword.now (object schema.now) }
 {
     match reason {
         Reason::RootNotObject => root && makes_other_root(schema, keyword),
         Reason::NotAtRoot => root && is_no_root_keyword(schema, keyword),
-        Reason::UnknownType => keyword == "type" && has_unknown_type(schema),
+        Reason::UnknownType => keyword == "type" && has_unknown_type(profile, schema),
         Reason::NotWithPreserving => is_no_preserving(schema, keyword) && preserves(schema),
-        Reason::NoItems => keyword == "type" && lacks_items(schema),
+        Reason::NoItems => keyword == "type" && lacks_items(profile, schema),
         Reason::UndeclaredField => keyword == "required" && requires_undeclared(root, schema),
-        Reason::EmptyEnum => keyword == "enum" && has_no_choice(schema),
-        Reason::EnumOfOtherKind => keyword == "enum" && has_other_choice(schema),
+        Reason::EmptyEnum => keyword == "enum" && has_no_choice(profile, schema),
+        Reason::EnumOfOtherKind => keyword == "enum" && has_other_choice(profile, schema),
         Reason::AdditionalPropertiesTrue => {
             keyword == "additionalProperties" && has_true(schema, "additionalProperties")
         }

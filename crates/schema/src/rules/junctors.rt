@@ -11,71 +11,87 @@ ghost use Rattle.schema.specs.Rules.Junctors as JunctorsSpec;
 ghost use Rattle.schema.specs.Rules.Junctors.{BreaksJunctors, HasTooManyNames, NamesTooMany};
 ghost use Rattle.schema.specs.Rules.Keywords.{members_in, texts_of};
 ghost use Rattle.schema.specs.Rules.Kinds;
-ghost use Rattle.schema.specs.Rules.Profile;
+ghost use Rattle.schema.specs.Rules.Profile as ProfileSpec;
 
 use crate::keywords::{Keywords, has_keyword, is_one_of};
 use crate::kinds::{declares_fields, is_scalar};
 use crate::places::{Step, is_junctor};
+use crate::profile::Profile;
 use crate::rules::is_inside;
 use crate::rules::profile::{has_empty_enum, lists_other, properties_of};
 use crate::rules::required::{FieldNames, lists_no_field};
 use jtree::{Items, Members, Tree};
 
 /// V16: the junctors of a place, or what a branch has, is outside the profile.
-pub(crate) fn breaks_junctors(place: &[Step<'_>], outer: Option<&Members>, schema: &Members) -> bool
-    ensures { IsTrue result ↔ BreaksJunctors (place_of place.now) (option_map (λ m. object m.now) outer.entry) (object schema.now) }
+pub(crate) fn breaks_junctors(
+    profile: Profile,
+    place: &[Step<'_>],
+    outer: Option<&Members>,
+    schema: &Members,
+) -> bool
+    ensures { IsTrue result ↔ BreaksJunctors profile (place_of place.now) (option_map (λ m. object m.now) outer.entry) (object schema.now) }
 {
-    has_misplaced_junctor(place, schema)
-        || has_too_many_names(place, schema)
-        || is_bad_presence(place, outer, schema)
-        || is_bad_value(place, outer, schema)
+    has_misplaced_junctor(profile, place, schema)
+        || has_too_many_names(profile, place, schema)
+        || is_bad_presence(profile, place, outer, schema)
+        || is_bad_value(profile, place, outer, schema)
 }
 
 /// Whether an outside place has a junctor and is neither a scalar nor an object with declared fields.
-fn has_misplaced_junctor(place: &[Step<'_>], schema: &Members) -> bool
-    ensures { result ≡ JunctorsSpec.has_misplaced_junctor (place_of place.now) (object schema.now) }
+fn has_misplaced_junctor(profile: Profile, place: &[Step<'_>], schema: &Members) -> bool
+    ensures { result ≡ JunctorsSpec.has_misplaced_junctor profile (place_of place.now) (object schema.now) }
 {
-    takes_no_junctor(place, schema) && has_keyword(schema, Keywords::Junctors)
+    takes_no_junctor(profile, place, schema) && has_keyword(schema, Keywords::Junctors)
 }
 
 /// Whether an outside place is neither a scalar nor an object with declared fields.
-pub(crate) fn takes_no_junctor(place: &[Step<'_>], schema: &Members) -> bool
-    ensures { result ≡ JunctorsSpec.takes_no_junctor (place_of place.now) (object schema.now) }
+pub(crate) fn takes_no_junctor(profile: Profile, place: &[Step<'_>], schema: &Members) -> bool
+    ensures { result ≡ JunctorsSpec.takes_no_junctor profile (place_of place.now) (object schema.now) }
 {
-    !is_inside(place) && (!is_scalar(schema) && !declares_fields(schema))
+    !is_inside(place) && (!is_scalar(profile, schema) && !declares_fields(profile, schema))
 }
 
 /// Whether a branch that asks which fields are present has another keyword than it may have, or requires what is no field.
-fn is_bad_presence(place: &[Step<'_>], outer: Option<&Members>, schema: &Members) -> bool
-    ensures { result ≡ JunctorsSpec.is_bad_presence (place_of place.now) (option_map (λ m. object m.now) outer.entry) (object schema.now) }
+fn is_bad_presence(
+    profile: Profile,
+    place: &[Step<'_>],
+    outer: Option<&Members>,
+    schema: &Members,
+) -> bool
+    ensures { result ≡ JunctorsSpec.is_bad_presence profile (place_of place.now) (option_map (λ m. object m.now) outer.entry) (object schema.now) }
 {
-    asks_presence(place, outer)
+    asks_presence(profile, place, outer)
         && (has_keyword(schema, Keywords::BesidePresence)
             || requires_no_field(place, outer, schema))
 }
 
 /// Whether a branch that asks of the value has another keyword or another value of `enum` than it may have.
-fn is_bad_value(place: &[Step<'_>], outer: Option<&Members>, schema: &Members) -> bool
-    ensures { result ≡ JunctorsSpec.is_bad_value (place_of place.now) (option_map (λ m. object m.now) outer.entry) (object schema.now) }
+fn is_bad_value(
+    profile: Profile,
+    place: &[Step<'_>],
+    outer: Option<&Members>,
+    schema: &Members,
+) -> bool
+    ensures { result ≡ JunctorsSpec.is_bad_value profile (place_of place.now) (option_map (λ m. object m.now) outer.entry) (object schema.now) }
 {
-    (is_inside(place) && !asks_presence(place, outer))
+    (is_inside(place) && !asks_presence(profile, place, outer))
         && (has_keyword(schema, Keywords::BesideBranch)
             || (has_empty_enum(schema) || lists_other(schema, None)))
 }
 
 /// Whether a place is a branch that asks which fields are present, by the schema at its place without the steps into
 /// branches.
-pub(crate) fn asks_presence(place: &[Step<'_>], outer: Option<&Members>) -> bool
-    ensures { result ≡ JunctorsSpec.asks_presence (place_of place.now) (option_map (λ m. object m.now) outer.entry) }
+pub(crate) fn asks_presence(profile: Profile, place: &[Step<'_>], outer: Option<&Members>) -> bool
+    ensures { result ≡ JunctorsSpec.asks_presence profile (place_of place.now) (option_map (λ m. object m.now) outer.entry) }
 {
-    is_inside(place) && is_with_fields(outer)
+    is_inside(place) && is_with_fields(profile, outer)
 }
 
-fn is_with_fields(schema: Option<&Members>) -> bool
-    ensures { result ≡ JunctorsSpec.declares_fields (option_and_then Kinds.kind_of (option_map (λ m. object m.now) schema.entry)) }
+fn is_with_fields(profile: Profile, schema: Option<&Members>) -> bool
+    ensures { result ≡ JunctorsSpec.declares_fields (option_and_then (Kinds.kind_of profile) (option_map (λ m. object m.now) schema.entry)) }
 {
     match schema {
-        Some(schema) => declares_fields(schema),
+        Some(schema) => declares_fields(profile, schema),
         None => false,
     }
 }
@@ -98,7 +114,7 @@ pub(crate) fn requires_no_field(
 
 /// Whether all steps of the place are into branches.
 fn is_in_root(place: &[Step<'_>]) -> bool
-    ensures { result ≡ Profile.is_root (core (place_of place.now)) }
+    ensures { result ≡ ProfileSpec.is_root (core (place_of place.now)) }
 {
     for step in place {
         if !is_junctor(*step) {
@@ -115,10 +131,10 @@ fn fields_of(outer: Option<&Members>) -> Option<&Members>
     properties_of(outer?)
 }
 
-pub(crate) fn has_too_many_names(place: &[Step<'_>], schema: &Members) -> bool
-    ensures { IsTrue result ↔ HasTooManyNames (place_of place.now) (object schema.now) }
+pub(crate) fn has_too_many_names(profile: Profile, place: &[Step<'_>], schema: &Members) -> bool
+    ensures { IsTrue result ↔ HasTooManyNames profile (place_of place.now) (object schema.now) }
 {
-    !is_inside(place) && (declares_fields(schema) && names_too_many(schema))
+    !is_inside(place) && (declares_fields(profile, schema) && names_too_many(schema))
 }
 
 /// Whether the branches of a schema name more than four fields.

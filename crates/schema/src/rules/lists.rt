@@ -11,44 +11,46 @@ use crate::keywords::{
     has, has_other_text, has_text_among, has_true, is_empty, is_listed, lists_text, object_under,
 };
 use crate::kinds::{is_list, is_object, is_scalar};
+use crate::profile::Profile;
 use jtree::{Items, Members, Tree};
 
 /// V10: a list type is at a place that is no list, or is none of the three.
-pub(crate) fn bad_list_type(schema: &Members) -> bool
-    ensures { result ≡ has_bad_list_type (object schema.now) }
+pub(crate) fn bad_list_type(profile: Profile, schema: &Members) -> bool
+    ensures { result ≡ has_bad_list_type profile (object schema.now) }
 {
     let types = ["atomic", "set", "map"];
     has(schema, "x-kubernetes-list-type")
-        && (!is_list(schema) || has_other_text(schema, "x-kubernetes-list-type", &types))
+        && (!is_list(profile, schema) || has_other_text(schema, "x-kubernetes-list-type", &types))
 }
 
 /// V11: keys of what is no map list, or a map list whose items have not its keys.
-pub(crate) fn bad_keys(schema: &Members) -> bool
-    ensures { result ≡ has_bad_keys (object schema.now) }
+pub(crate) fn bad_keys(profile: Profile, schema: &Members) -> bool
+    ensures { result ≡ has_bad_keys profile (object schema.now) }
 {
     if is_of_list_type(schema, "map") {
-        is_list(schema) && !have_keys(object_under(schema, "items"), keys_of(schema))
+        is_list(profile, schema)
+            && !have_keys(profile, object_under(schema, "items"), keys_of(schema))
     } else {
         has(schema, "x-kubernetes-list-map-keys")
     }
 }
 
 /// V12: the items of a set are no scalars, or take null.
-pub(crate) fn bad_set_items(schema: &Members) -> bool
-    ensures { result ≡ has_bad_set_items (object schema.now) }
+pub(crate) fn bad_set_items(profile: Profile, schema: &Members) -> bool
+    ensures { result ≡ has_bad_set_items profile (object schema.now) }
 {
-    is_list(schema)
+    is_list(profile, schema)
         && is_of_list_type(schema, "set")
-        && !is_plain_scalar(object_under(schema, "items"))
+        && !is_plain_scalar(profile, object_under(schema, "items"))
 }
 
 /// V13: a map type is at a place that is neither an object nor a map, or is none of the two.
-pub(crate) fn bad_map_type(schema: &Members) -> bool
-    ensures { result ≡ has_bad_map_type (object schema.now) }
+pub(crate) fn bad_map_type(profile: Profile, schema: &Members) -> bool
+    ensures { result ≡ has_bad_map_type profile (object schema.now) }
 {
     let types = ["granular", "atomic"];
     has(schema, "x-kubernetes-map-type")
-        && (!is_object(schema) || has_other_text(schema, "x-kubernetes-map-type", &types))
+        && (!is_object(profile, schema) || has_other_text(schema, "x-kubernetes-map-type", &types))
 }
 
 pub(crate) fn is_of_list_type(schema: &Members, name: &str) -> bool
@@ -58,11 +60,11 @@ pub(crate) fn is_of_list_type(schema: &Members, name: &str) -> bool
 }
 
 /// Whether a place is a scalar that takes no null.
-fn is_plain_scalar(schema: Option<&Members>) -> bool
-    ensures { result ≡ Lists.is_plain_scalar (option_map (λ m. object m.now) schema.entry) }
+fn is_plain_scalar(profile: Profile, schema: Option<&Members>) -> bool
+    ensures { result ≡ Lists.is_plain_scalar profile (option_map (λ m. object m.now) schema.entry) }
 {
     match schema {
-        Some(schema) => is_scalar(schema) && !has_true(schema, "nullable"),
+        Some(schema) => is_scalar(profile, schema) && !has_true(schema, "nullable"),
         None => false,
     }
 }
@@ -78,40 +80,41 @@ pub(crate) fn keys_of(schema: &Members) -> &[Tree]
 }
 
 /// Whether the items are objects that take no null and have these keys, at least one.
-fn have_keys(items: Option<&Members>, keys: &[Tree]) -> bool
-    ensures { result ≡ Lists.have_keys (option_map (λ m. object m.now) items.entry) (items_of keys.now) }
+fn have_keys(profile: Profile, items: Option<&Members>, keys: &[Tree]) -> bool
+    ensures { result ≡ Lists.have_keys profile (option_map (λ m. object m.now) items.entry) (items_of keys.now) }
 {
     match items {
         Some(items) => {
-            is_object(items)
+            is_object(profile, items)
                 && !has_true(items, "nullable")
                 && !is_empty(keys)
-                && are_keys(items, keys)
+                && are_keys(profile, items, keys)
         }
         None => false,
     }
 }
 
 /// Whether each of these is a key of the items, and none occurs twice. There are at most four.
-fn are_keys(items: &Members, keys: &[Tree]) -> bool
-    ensures { result ≡ Lists.are_keys (object items.now) (texts_of (items_of keys.now)) }
+fn are_keys(profile: Profile, items: &Members, keys: &[Tree]) -> bool
+    ensures { result ≡ Lists.are_keys profile (object items.now) (texts_of (items_of keys.now)) }
 {
     match keys {
         [Tree::Text(key), rest @ ..] => {
             let key = key.as_str();
-            is_key(items, key) && !is_listed(rest, key) && are_keys(items, rest)
+            is_key(profile, items, key) && !is_listed(rest, key) && are_keys(profile, items, rest)
         }
-        [_, rest @ ..] => are_keys(items, rest),
+        [_, rest @ ..] => are_keys(profile, items, rest),
         [] => true,
     }
 }
 
 /// Whether a name is that of a scalar property that takes no null, and that each item has.
-fn is_key(items: &Members, name: &str) -> bool
-    ensures { result ≡ Lists.is_key (object items.now) name.now }
+fn is_key(profile: Profile, items: &Members, name: &str) -> bool
+    ensures { result ≡ Lists.is_key profile (object items.now) name.now }
 {
     let property = property_of(items, name);
-    is_plain_scalar(property) && (lists_text(items, "required", name) || has_default(property))
+    is_plain_scalar(profile, property)
+        && (lists_text(items, "required", name) || has_default(property))
 }
 
 /// The schema of a property.

@@ -5,7 +5,7 @@ ghost use Rattle.jtree.specs.Data.{object};
 ghost use Rattle.jtree.specs.Path.{member_at};
 ghost use Rattle.jtree.specs.View.{data_of, items_of};
 ghost use Rattle.schema.specs.Rules.Keywords.{members_in, any_item};
-ghost use Rattle.schema.specs.Rules.Profile;
+ghost use Rattle.schema.specs.Rules.Profile as ProfileSpec;
 
 use crate::keywords::has;
 use crate::places::is_envelope_name;
@@ -22,7 +22,7 @@ pub(crate) struct FieldNames<'a> {
 
 /// Whether `required` lists what is no field.
 pub(crate) fn lists_no_field(fields: &FieldNames<'_>, schema: &Members) -> bool
-    ensures { result ≡ Profile.lists_no_field fields.now.at_root fields.now.envelope (members_in (option_map (λ m. object m.now) fields.now.properties)) (object schema.now) }
+    ensures { result ≡ ProfileSpec.lists_no_field fields.now.at_root fields.now.envelope (members_in (option_map (λ m. object m.now) fields.now.properties)) (object schema.now) }
 {
     match schema.get("required") {
         Some(Tree::List(names)) => has_no_field(fields, names.items.as_slice()),
@@ -32,7 +32,7 @@ pub(crate) fn lists_no_field(fields: &FieldNames<'_>, schema: &Members) -> bool
 
 /// Whether one of these names is no field.
 fn has_no_field(fields: &FieldNames<'_>, names: &[Tree]) -> bool
-    ensures { result ≡ any_item (Profile.is_no_field fields.now.at_root fields.now.envelope (members_in (option_map (λ m. object m.now) fields.now.properties))) (items_of names.now) }
+    ensures { result ≡ any_item (ProfileSpec.is_no_field fields.now.at_root fields.now.envelope (members_in (option_map (λ m. object m.now) fields.now.properties))) (items_of names.now) }
 {
     for name in names {
         if is_no_field(fields, name) {
@@ -43,7 +43,7 @@ fn has_no_field(fields: &FieldNames<'_>, names: &[Tree]) -> bool
 }
 
 fn is_no_field(fields: &FieldNames<'_>, name: &Tree) -> bool
-    ensures { result ≡ Profile.is_no_field fields.now.at_root fields.now.envelope (members_in (option_map (λ m. object m.now) fields.now.properties)) (data_of name.now) }
+    ensures { result ≡ ProfileSpec.is_no_field fields.now.at_root fields.now.envelope (members_in (option_map (λ m. object m.now) fields.now.properties)) (data_of name.now) }
 {
     match name {
         Tree::Text(name) => {

@@ -1,35 +1,37 @@
 -- For private contracts: what distinguishes the items of a list, and the order by it, in which items that ascend are apart.
 use Rattle.std.specs.Prelude.{◌≡◌, ◌<◌, ℕ, List, [], ◌∷◌, Bool, true, false, Option, Some, None, option_map, map, length, ◌&&◌}
 use Rattle.std.proofs.Common.{get_or}
-use Rattle.std.specs.Borrow.{Bor}
 use Rattle.std.specs.BTreeSet.{BTreeSet, contains}
 use Rattle.std.specs.Cmp.Lexicographic.{slice_cmp}
 use Rattle.std.specs.Option.{option_cmp}
-use Rattle.std.specs.Ordering.{is_eq, is_lt}
+use Rattle.std.specs.Ordering.{is_eq, is_lt, on}
 use Rattle.std.specs.Global.{Vec}
 use Rattle.std.specs.declared.cmp.Ordering.{Ordering}
-use Rattle.jtree.specs.Data.{Data, Items, no_items, item}
+use Rattle.jtree.specs.Data.{Data, Items, no_items, item, Members}
 use Rattle.jtree.specs.Data as tree
-use Rattle.jtree.specs.Order.{tree_cmp}
+use Rattle.jtree.specs.Equality.{keyed, keyed_cmp}
 use Rattle.jtree.specs.Path.{member_at, item_at}
-use Rattle.jtree.specs.View.{data_of}
-use Rattle.jtree.specs.declared.value.Tree.{Tree}
+use Rattle.jtree.specs.declared.equality.Equality.{Equality}
+use Rattle.jtree.specs.declared.equality.TreeKey.{TreeKey}
 use Rattle.schema.specs.declared.node.ListType.{ListType}
 use Rattle.schema.specs.declared.node.ListType.TheVariants.{Atomic, Set, Map}
 use Rattle.stored.specs.Objects.Fault.{are_alike, any_before, has_alike_before}
 
--- in a set the item itself, in a map list the values of an object under the keys
+-- in a set the item itself, in a map list the values of an object under the keys, each with what it is compared by
 abbrev pub ItemKey : Type 0
-ItemKey = List (Option Data)
+ItemKey = List (Option (Equality × Data))
+
+abbrev pub value_at : Equality → Members → List ℕ → Option (Equality × Data)
+value_at e ms k = option_map (λ d. (e, d)) (member_at k ms)
 
 abbrev pub item_key : ListType → List (List ℕ) → Data → Option ItemKey
-item_key Set keys v = Some (Some v ∷ [])
-item_key Map keys (tree.object ms) = Some (map (λ k. member_at k ms) keys)
+item_key (Set e) keys v = Some (Some (e, v) ∷ [])
+item_key (Map e) keys (tree.object ms) = Some (map (value_at e ms) keys)
 item_key _ _ _ = None
 
 -- the values one after the other, one that is absent before all others
 abbrev pub values_cmp : ItemKey → ItemKey → Ordering
-values_cmp k l = slice_cmp (option_cmp tree_cmp) k l
+values_cmp k l = slice_cmp (option_cmp keyed_cmp) k l
 
 -- an item without a key comes first
 abbrev pub item_cmp : ListType → List (List ℕ) → Data → Data → Ordering
@@ -63,13 +65,13 @@ are_ordered type keys ds = ascend (item_cmp type keys) ds
 -- ---- in the code
 
 abbrev pub CodeKey : Type 0
-CodeKey = Vec (Option (Bor Tree))
+CodeKey = Vec (Option TreeKey)
 
 abbrev pub key_of : CodeKey → ItemKey
-key_of k = map (option_map (λ t. data_of t.now)) k.items
+key_of k = map (option_map keyed) k.items
 
 abbrev pub key_cmp : CodeKey → CodeKey → Ordering
-key_cmp k l = slice_cmp (option_cmp (λ t u. tree_cmp (data_of t.now) (data_of u.now))) k.items l.items
+key_cmp k l = slice_cmp (option_cmp (on keyed keyed_cmp)) k.items l.items
 
 -- the set has the keys that pass the test
 abbrev pub HasKeys : BTreeSet CodeKey → (ItemKey → Bool) → Type 0

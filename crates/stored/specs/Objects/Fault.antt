@@ -3,8 +3,10 @@
 use Rattle.std.specs.Prelude.{◌≡◌, ℕ, zero, suc, List, [], ◌∷◌, ◌++◌, ◌+◌, Bool, true, false, Option, Some, None, not, ◌&&◌, ◌||◌, is_none}
 use Rattle.jtree.specs.Data.{Data, Items, no_items, item, Members, no_members, member}
 use Rattle.jtree.specs.Data as tree
+use Rattle.jtree.specs.Equality.{equal_by}
 use Rattle.jtree.specs.Kind.{is_list, is_object}
 use Rattle.jtree.specs.Path.{name, index, Path, member_at, item_at}
+use Rattle.jtree.specs.declared.equality.Equality.{Equality}
 use Rattle.schema.specs.Nodes.Node.{Node, node, Sort, scalar, object, map, list, open_, Validations, validations}
 use Rattle.schema.specs.Nodes.ByPlace.{Declared, field_at}
 use Rattle.schema.specs.declared.node.Bounds.{Bounds}
@@ -12,7 +14,7 @@ use Rattle.schema.specs.declared.node.Constraints.{Constraints}
 use Rattle.schema.specs.declared.node.ListType.{ListType}
 use Rattle.schema.specs.declared.node.ListType.TheVariants.{Set, Map}
 use Rattle.stored.specs.Objects.Parts.{Pair, fields, pair, at, part_by_path, leads}
-use Rattle.stored.specs.Objects.Tests.{accepts_scalar, is_same, is_below, is_above, is_other_value, is_below_minimum, is_above_maximum, is_too_short, is_too_long, meets_junctors}
+use Rattle.stored.specs.Objects.Tests.{accepts_scalar, is_below, is_above, fails_enum, fails_minimum, fails_maximum, fails_least_length, fails_most_length, meets_junctors}
 
 pub data Test : Type 0 where
   -- the kind, and null
@@ -97,11 +99,11 @@ are_many b n = is_above b.most n
 abbrev pub fails : Test → Node → Data → Bool
 fails F01 (node nullable description sort) v = not (is_null v) && not (accepts sort v)
 fails F02 (node nullable description sort) v = is_null v && not nullable
-fails F03 N v = fails_constraint (λ t w. is_other_value t.choices w) N v
-fails F04 N v = fails_constraint (λ t w. is_below_minimum t.minimum t.exclusive_minimum w) N v
-fails F05 N v = fails_constraint (λ t w. is_above_maximum t.maximum t.exclusive_maximum w) N v
-fails F06 N v = fails_constraint (λ t w. is_too_short t.lengths.least w) N v
-fails F07 N v = fails_constraint (λ t w. is_too_long t.lengths.most w) N v
+fails F03 N v = fails_constraint fails_enum N v
+fails F04 N v = fails_constraint fails_minimum N v
+fails F05 N v = fails_constraint fails_maximum N v
+fails F06 N v = fails_constraint fails_least_length N v
+fails F07 N v = fails_constraint fails_most_length N v
 fails F08 N v = fails_items are_few N v
 fails F09 N v = fails_items are_many N v
 fails F10 N v = fails_members are_few N v
@@ -121,20 +123,20 @@ abbrev pub lacks_name : Pair → List ℕ → Bool
 lacks_name (fields fs preserves ms) k = is_required (field_at k fs) && is_none (member_at k ms)
 lacks_name _ k = false
 
--- both have the name with the same value, or both lack it
-abbrev pub agree_at : Option Data → Option Data → Bool
-agree_at None None = true
-agree_at (Some v) (Some w) = is_same v w
-agree_at _ _ = false
+-- both have the name, with values that count as the same, or both lack it
+abbrev pub agree_at : Equality → Option Data → Option Data → Bool
+agree_at e None None = true
+agree_at e (Some v) (Some w) = equal_by e v w
+agree_at e _ _ = false
 
-abbrev pub agree : List (List ℕ) → Members → Members → Bool
-agree [] ms ns = true
-agree (k ∷ keys) ms ns = agree_at (member_at k ms) (member_at k ns) && agree keys ms ns
+abbrev pub agree : Equality → List (List ℕ) → Members → Members → Bool
+agree e [] ms ns = true
+agree e (k ∷ keys) ms ns = agree_at e (member_at k ms) (member_at k ns) && agree e keys ms ns
 
--- Two items that may not be in one list: in a set equal ones, in a map list objects that agree on all keys.
+-- Two items that may not be in one list: in a set those that count as the same, in a map list objects that agree on all keys.
 abbrev pub are_alike : ListType → List (List ℕ) → Data → Data → Bool
-are_alike Set keys v w = is_same v w
-are_alike Map keys (tree.object ms) (tree.object ns) = agree keys ms ns
+are_alike (Set e) keys v w = equal_by e v w
+are_alike (Map e) keys (tree.object ms) (tree.object ns) = agree e keys ms ns
 are_alike _ _ _ _ = false
 
 -- some item before the index passes a test

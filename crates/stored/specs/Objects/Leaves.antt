@@ -23,8 +23,8 @@ use Rattle.stored.specs.declared.leaf.Leaf.{Leaf}
 abbrev pub is_divided : Node → Data → Bool
 is_divided (node nullable description (object fs preserves map_type.Granular bounds cs)) (tree.object (member k d ms)) = true
 is_divided (node nullable description (map_of N map_type.Granular bounds)) (tree.object (member k d ms)) = true
-is_divided (node nullable description (list N list_type.Set keys bounds)) (tree.list (item d ds)) = true
-is_divided (node nullable description (list N list_type.Map keys bounds)) (tree.list (item d ds)) = true
+is_divided (node nullable description (list N (list_type.Set e) keys bounds)) (tree.list (item d ds)) = true
+is_divided (node nullable description (list N (list_type.Map e) keys bounds)) (tree.list (item d ds)) = true
 is_divided _ _ = false
 
 -- ---- elements
@@ -40,7 +40,7 @@ keys_in keys v = v
 
 -- of an item: in a map list its keys, and in a set the item itself
 abbrev pub item_element : ListType → List (List ℕ) → Data → List ℕ
-item_element list_type.Map keys v = codes "k:" ++ compact (keys_in keys v)
+item_element (list_type.Map e) keys v = codes "k:" ++ compact (keys_in keys v)
 item_element _ keys v = codes "v:" ++ compact v
 
 -- of the part to which a step leads from a value at its node

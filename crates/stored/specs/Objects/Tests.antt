@@ -1,6 +1,7 @@
 -- What is asked of a value: of a scalar, and of an object by its junctors (OpenAPI 3.0, Schema Object). Bounds say nothing of strings and
--- booleans, and lengths nothing of integers and booleans. An exclusive flag without its bound says nothing.
-use Rattle.std.specs.Prelude.{ℕ, ℤ, List, [], ◌∷◌, length, Bool, true, false, Option, Some, None, if◌then◌else◌, not, ◌&&◌, ◌||◌, ◌+◌, nat_lt, nat_eq, int_lt, int_le, chars}
+-- booleans, and lengths nothing of integers and booleans. An exclusive flag without its bound says nothing. Where the schema is kept as it is
+-- written, a scalar is asked by that alone, as a cluster asks (k8s.io/kube-openapi, pkg/validation).
+use Rattle.std.specs.Prelude.{ℕ, ℤ, List, [], ◌∷◌, length, Bool, true, false, Option, Some, None, if◌then◌else◌, not, ◌&&◌, ◌||◌, ◌+◌, nat_lt, nat_eq, int_lt, int_le, codes, chars}
 use Rattle.std.specs.Option.{is_some}
 use Rattle.std.specs.Ordering.{is_eq}
 use Rattle.jtree.specs.Data.{Data, Items, no_items, item, Members}
@@ -8,15 +9,18 @@ use Rattle.jtree.specs.Data as tree
 use Rattle.jtree.specs.Kind.{is_boolean, is_integer, is_text}
 use Rattle.jtree.specs.Order.{tree_cmp}
 use Rattle.jtree.specs.Path.{member_at}
+use Rattle.judge.specs.Keywords.{passes_enum, passes_minimum, passes_maximum, passes_length, is_at_least, is_at_most}
+use Rattle.schema.specs.Document.Forms.{is_number}
 use Rattle.schema.specs.Nodes.Node.{Validations, validations, Branches, no_branches, branch}
 use Rattle.schema.specs.declared.node.Constraints.{Constraints}
 use Rattle.schema.specs.declared.node.ScalarKind.{ScalarKind}
-use Rattle.schema.specs.declared.node.ScalarKind.TheVariants.{Boolean, Integer, String, IntOrString}
+use Rattle.schema.specs.declared.node.ScalarKind.TheVariants.{Boolean, Integer, Number, String, IntOrString}
 
 -- the kinds of scalars
 abbrev pub accepts_scalar : ScalarKind → Data → Bool
 accepts_scalar Boolean v = is_boolean v
 accepts_scalar Integer v = is_integer v
+accepts_scalar Number v = is_number v
 accepts_scalar String v = is_text v
 accepts_scalar IntOrString v = is_integer v || is_text v
 
@@ -60,11 +64,30 @@ abbrev pub is_too_long : Option ℕ → Data → Bool
 is_too_long most (tree.text s) = is_above most (length (chars s))
 is_too_long _ _ = false
 
+-- whether the schema as it is written is not passed, where it is kept, and else this
+abbrev pub fails_by : Option Members → (Members → Bool) → Bool → Bool
+fails_by None passes fails = fails
+fails_by (Some ks) passes fails = not (passes ks)
+
+abbrev pub fails_enum : Constraints → Data → Bool
+fails_enum t v = fails_by t.written (λ ks. passes_enum (member_at (codes "enum") ks) v) (is_other_value t.choices v)
+
+abbrev pub fails_minimum : Constraints → Data → Bool
+fails_minimum t v = fails_by t.written (λ ks. passes_minimum ks v) (is_below_minimum t.minimum t.exclusive_minimum v)
+
+abbrev pub fails_maximum : Constraints → Data → Bool
+fails_maximum t v = fails_by t.written (λ ks. passes_maximum ks v) (is_above_maximum t.maximum t.exclusive_maximum v)
+
+abbrev pub fails_least_length : Constraints → Data → Bool
+fails_least_length t v = fails_by t.written (λ ks. passes_length (is_at_least (member_at (codes "minLength") ks)) v) (is_too_short t.lengths.least v)
+
+abbrev pub fails_most_length : Constraints → Data → Bool
+fails_most_length t v = fails_by t.written (λ ks. passes_length (is_at_most (member_at (codes "maxLength") ks)) v) (is_too_long t.lengths.most v)
+
 -- a scalar fails none of the five
 abbrev pub meets_constraints : Constraints → Data → Bool
 meets_constraints t v =
-    not (is_other_value t.choices v) && (not (is_below_minimum t.minimum t.exclusive_minimum v) && (not (is_above_maximum t.maximum t.exclusive_maximum v)
-    && (not (is_too_short t.lengths.least v) && not (is_too_long t.lengths.most v))))
+    not (fails_enum t v) && (not (fails_minimum t v) && (not (fails_maximum t v) && (not (fails_least_length t v) && not (fails_most_length t v))))
 
 -- ---- `required`
 

@@ -2,6 +2,7 @@
 -- (apiextensions.k8s.io/v1, structural schemas and defaulting; the profile is this project's own).
 use Rattle.std.specs.Prelude.{◌≡◌, ◌≢◌, ◌⊎◌, [], true}
 use Rattle.jtree.specs.Data.{Data}
+use Rattle.schema.specs.Document.Raw.{Raw}
 use Rattle.schema.specs.Document.Places.{Place}
 use Rattle.schema.specs.Document.Forms.{HasForms}
 use Rattle.schema.specs.Rules.Broken.{Broken}
@@ -16,7 +17,7 @@ use Rattle.stored.specs.Schemas.Defaults.{IsGoodDefault, HasDefault, HasGoodDefa
 
 -- V14: the field at the place has a default that is not good. Fields have the defaults of their places, and where no other rule is
 -- broken, no other place has a default (V03, V15).
-pub record HasBadDefault (raw : Data) (p : Place) : Type 0 where
+pub record HasBadDefault (raw : Raw) (p : Place) : Type 0 where
   pub root : Node
   pub nodes : AreNodesOf true root raw
   pub node : Node
@@ -25,11 +26,11 @@ pub record HasBadDefault (raw : Data) (p : Place) : Type 0 where
   pub bad : IsGoodDefault node default → ⊥
 
 -- the place breaks the rule
-abbrev pub IsBroken : Data → Place → Rule → Type 0
+abbrev pub IsBroken : Raw → Place → Rule → Type 0
 IsBroken raw p r = Broken raw p r ⊎ ((r ≡ V14) × BreaksNone raw × HasBadDefault raw p)
 
 -- the root of a schema that breaks no rule
-pub record IsRootOf (N : Node) (raw : Data) : Type 0 where
+pub record IsRootOf (N : Node) (raw : Raw) : Type 0 where
   pub forms : HasForms raw
   pub unbroken : IsUnbroken (IsBroken raw)
   pub nodes : AreNodesOf true N raw
@@ -37,9 +38,9 @@ pub record IsRootOf (N : Node) (raw : Data) : Type 0 where
 
 -- the root of some such schema
 abbrev pub IsSchema : Node → Type 0
-IsSchema N = (raw : Data) × IsRootOf N raw
+IsSchema N = (raw : Raw) × IsRootOf N raw
 
 -- What a refusal says of a schema: all that is broken in it, and at least one rule; or that an allocation failed.
-abbrev pub IsRefusal : Data → Refused → Type 0
+abbrev pub IsRefusal : Raw → Refused → Type 0
 IsRefusal raw (Violations vs) = AreViolations (IsBroken raw) vs.items × (vs.items ≢ [])
 IsRefusal raw NoMemory = Unit {0}

@@ -30,7 +30,7 @@ abbrev pub suggestions_of : CodeSuggestions → Suggestions
 suggestions_of s = record { lists = entries_of s.lists.items; names = s.names.items; fixed = entries_of s.fixed.items; present = s.present.items }
 
 abbrev pub general_of : CodeGeneral → General
-general_of g = record { integers = trees_of g.integers.items; strings = trees_of g.strings.items; any = trees_of g.any.items; limits = g.limits; beside = g.beside }
+general_of g = record { integers = trees_of g.integers.items; numbers = trees_of g.numbers.items; strings = trees_of g.strings.items; any = trees_of g.any.items; limits = g.limits; beside = g.beside }
 
 -- the lists and the names at the node of a site and below it, where objects have these values there
 abbrev pub lists_there : CodeGeneral → Site → Node → List Data → Suggestions
@@ -64,10 +64,10 @@ suggestions_from ts G w raw root = suggestions_below G ts (single w.objects) (So
 
 -- the document that says it, with these pools
 abbrev pub document_from : General → List (List ℕ) → Suggestions → Data
-document_from G without suggestions = document_with G.any (members_from (suggestions.fixed ++ map without_entry without)) G.integers (chosen_names G.limits.names (suggestions.names ++ usual_names))
+document_from G without suggestions = document_with G.any (members_from (suggestions.fixed ++ map without_entry without)) G.integers (chosen_names G.limits.names (suggestions.names ++ usual_names)) G.numbers
     (members_from (take G.limits.paths suggestions.lists)) (filter (λ t. not (is_among t without)) suggestions.present) G.strings
 
--- a member that is an object of lists, or a list of texts, put where it belongs; none where there is nothing in it
+-- a member that is an object of lists, or a list of texts or values, put where it belongs; none where there is nothing in it
 abbrev pub with_lists_member : List ℕ → Members → Members → Members
 with_lists_member k no_members ms = ms
 with_lists_member k lists ms = with_member k (object lists) ms
@@ -75,6 +75,10 @@ with_lists_member k lists ms = with_member k (object lists) ms
 abbrev pub with_texts_member : List ℕ → List (List ℕ) → Members → Members
 with_texts_member k [] ms = ms
 with_texts_member k ts ms = with_member k (list (items_of (map (λ t. text t) ts))) ms
+
+abbrev pub with_values_member : List ℕ → List Data → Members → Members
+with_values_member k [] ms = ms
+with_values_member k ds ms = with_member k (list (items_of ds)) ms
 
 -- a place at which values are left
 abbrev pub place_at : List ℕ → Node → Place

@@ -12,6 +12,7 @@ use Rattle.plan.specs.Pools.Document.{pools_of}
 use Rattle.plan.specs.Pools.Pools.{standard, AreSmall}
 use Rattle.plan.specs.declared.pool_limits.PoolLimits.{PoolLimits}
 use Rattle.suggest.specs.Suggested.Chosen.{chosen_names}
+use Rattle.suggest.specs.Suggested.Halves.{numbers_for}
 use Rattle.suggest.specs.Suggested.LeafValues.{General}
 use Rattle.suggest.specs.Suggested.Lists.{Entry}
 use Rattle.suggest.specs.Suggested.Values.{all_integers, all_lengths}
@@ -31,6 +32,9 @@ letters n = repeat n (codes "a")
 abbrev pub suggested_integers : Node → List Data
 suggested_integers root = map (λ z. integer z) (take standard.entries (all_integers root))
 
+abbrev pub suggested_numbers : Node → List Data
+suggested_numbers root = numbers_for root (take standard.entries (all_integers root))
+
 abbrev pub suggested_strings : Node → List Data
 suggested_strings root = map (λ n. text (letters n)) (take standard.entries (all_lengths root))
 
@@ -42,7 +46,7 @@ abbrev pub usual_names : List (List ℕ)
 usual_names = codes "a" ∷ codes "b" ∷ []
 
 abbrev pub general_of : PoolLimits → Node → General
-general_of limits root = record { integers = suggested_integers root; strings = suggested_strings root; any = suggested_any; limits = limits; beside = false }
+general_of limits root = record { integers = suggested_integers root; numbers = suggested_numbers root; strings = suggested_strings root; any = suggested_any; limits = limits; beside = false }
 
 -- where paths are varied, suggestions come besides what the object has
 abbrev pub for_variation : General → General
@@ -83,20 +87,25 @@ abbrev pub texts_member : List ℕ → List (List ℕ) → Members → Members
 texts_member k [] ms = ms
 texts_member k ts ms = member k (list (items_of (map (λ t. text t) ts))) ms
 
+abbrev pub values_member : List ℕ → List Data → Members → Members
+values_member k [] ms = ms
+values_member k ds ms = member k (list (items_of ds)) ms
+
 -- of these parts, in the order of their names
-abbrev pub document_with : List Data → Members → List Data → List (List ℕ) → Members → List (List ℕ) → List Data → Data
-document_with any fixed integers names paths present strings = object (
+abbrev pub document_with : List Data → Members → List Data → List (List ℕ) → List Data → Members → List (List ℕ) → List Data → Data
+document_with any fixed integers names numbers paths present strings = object (
     member (codes "any") (list (items_of any)) (
     lists_member (codes "fixed") fixed (
     member (codes "integers") (list (items_of integers)) (
     member (codes "names") (list (items_of (map (λ t. text t) names))) (
+    values_member (codes "numbers") numbers (
     lists_member (codes "paths") paths (
     texts_member (codes "present") present (
-    member (codes "strings") (list (items_of strings)) no_members)))))))
+    member (codes "strings") (list (items_of strings)) no_members))))))))
 
 abbrev pub document_of : PoolLimits → Node → List (List ℕ) → Suggestions → Data
 document_of limits root without suggestions = document_with suggested_any (members_from (suggestions.fixed ++ map without_entry without)) (suggested_integers root)
-    (chosen_names limits.names (suggestions.names ++ usual_names)) (members_from (take limits.paths suggestions.lists)) (filter (λ t. not (is_among t without)) suggestions.present) (suggested_strings root)
+    (chosen_names limits.names (suggestions.names ++ usual_names)) (suggested_numbers root) (members_from (take limits.paths suggestions.lists)) (filter (λ t. not (is_among t without)) suggestions.present) (suggested_strings root)
 
 -- of the objects without the paths that never occur
 abbrev pub suggested_document : PoolLimits → Data → Node → Wanted → Data

@@ -16,6 +16,7 @@ use Rattle.plan.specs.Samples.Candidates.{sort_at}
 use Rattle.plan.specs.Samples.Part.{IsPart}
 use Rattle.plan.specs.Samples.Site.{plain}
 use Rattle.suggest.specs.Suggested.Document.{suggested_document}
+use Rattle.suggest.specs.Suggested.Leasts.{IsLeastAt}
 use Rattle.suggest.specs.Suggested.LeftOut.{Follows}
 use Rattle.suggest.specs.Suggested.Wanted.{Wanted}
 use Rattle.suggest.specs.Suggested.Without.{taken_out}
@@ -43,9 +44,10 @@ abbrev pub IsUncutAt : PoolLimits → Pools → List ℕ → Type 0
 IsUncutAt limits P text = (vs : List Data) × (list_at text P ≡ Some vs) × (length vs < limits.entries)
 
 -- Such a value of one of the objects, without the paths that never occur, is a part of the site, and so a candidate there within any limit
--- that its nodes are within, where the list of its path is not cut; null needs no list.
+-- that its nodes are within, where the list of its path is not cut; null needs no list. Of numbers of one value that the list has only the
+-- least is one.
 abbrev pub WhatStandsThereIsACandidate : Type 0
 WhatStandsThereIsACandidate = (limits : PoolLimits) (raw : Data) (root : Node) (objects : List Data) (without : List (List ℕ)) (object : Data) (p : FieldPath) (N : Node) (v : Data)
     → IsNode root → Contains objects object → StandsAtLeaf root (taken_out without [] root object) p N v
-    → (is_null v ≡ false → IsUncutAt limits (pools_from limits raw root objects without) (path_text p))
+    → (is_null v ≡ false → IsUncutAt limits (pools_from limits raw root objects without) (path_text p)) → IsLeastAt (pools_from limits raw root objects without) (path_text p) N v
     → IsPart (pools_from limits raw root objects without) (plain (pools_from limits raw root objects without) (path_text p) N) v

@@ -1,6 +1,6 @@
 -- Which scalars the suggested values reach: each without `enum` and junctors that accepts a boolean, an integer or a string that is
 -- not too long has a candidate of that kind (this project's own). Nothing is said of junctors, whose branches together can ask for a
--- value that is next to none of their bounds.
+-- value that is next to none of their bounds, nor of scalars that are asked by their schema as it is written, whose bounds are floats.
 use Rattle.std.specs.Prelude.{◌≡◌, ◌≤◌, None, length, chars}
 use Rattle.jtree.specs.Data.{Data, boolean, integer, text}
 use Rattle.jtree.specs.Order.{kind}
@@ -14,9 +14,9 @@ use Rattle.plan.specs.Samples.Site.{plain}
 use Rattle.suggest.specs.Suggested.Values.{longest, all_integers, all_lengths}
 use Rattle.suggest.specs.Suggested.Document.{suggested_document, nothing_wanted}
 
--- it has no constraints but bounds and lengths
+-- it has no constraints but bounds and lengths, and is asked by these
 abbrev pub HasBoundsAlone : Validations → Type 0
-HasBoundsAlone (validations t all any one negated) = (t.choices ≡ None) × (all ≡ no_branches) × (any ≡ no_branches) × (one ≡ no_branches) × (negated ≡ no_branches)
+HasBoundsAlone (validations t all any one negated) = (t.choices ≡ None) × (all ≡ no_branches) × (any ≡ no_branches) × (one ≡ no_branches) × (negated ≡ no_branches) × (t.written ≡ None)
 
 -- a scalar with no other constraints
 abbrev pub IsBounded : Node → Type 0

@@ -16,6 +16,9 @@ use Rattle.cover.proofs.KnownLemmas.{grown_on, known_on, are_known_on}
 use Rattle.cover.proofs.LineLemmas.{steps_declared}
 use Rattle.cover.proofs.adding.add_path.Goals as goal
 
+pub values_of-requires : goal.values_of-requires
+values_of-requires g c = subst (λ r. IsTextOf (IsDeclared r) c.args.path.now) (sym c.schema.ensures) c.requires.declared
+
 pub steps_of-requires : goal.steps_of-requires
 steps_of-requires g c = subst (λ r. IsTextOf (IsDeclared r) c.args.path.now) (sym c.schema-2.ensures) c.requires.declared
 

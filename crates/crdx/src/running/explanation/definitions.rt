@@ -3,7 +3,7 @@
 use crate::running::answer::json_texts;
 use crate::running::explanation::values::found_text;
 use jtree::Tree;
-use schema::{Excess, Form, Limited, Limits, Part, Refusal};
+use schema::{Excess, Form, Limited, Limits, Part, Profile, Reading, Refusal};
 use std::alloc::{AllocError, Global};
 
 /// What is wrong with a definition, where something is.
@@ -11,22 +11,14 @@ pub(crate) fn definition_text(
     alloc: Global,
     document: &Tree,
     version: &str,
-    limits: Limits,
+    reading: Reading,
 ) -> Result<Option<String>, AllocError> {
-    match Refusal::of_document(alloc, document, version, limits)? {
-        Some(refusal) => Ok(Some(refusal_text(alloc, &refusal, limits)?)),
-        None => Ok(None),
-    }
-}
-
-/// The same where the schema is taken as it is written.
-pub(crate) fn written_text(
-    alloc: Global,
-    document: &Tree,
-    version: &str,
-    limits: Limits,
-) -> Result<Option<String>, AllocError> {
-    match Refusal::of_written(alloc, document, version, limits)? {
+    let limits = reading.limits;
+    let refusal = match reading.profile {
+        Profile::Core => Refusal::of_document(alloc, document, version, limits)?,
+        Profile::Cluster => Refusal::of_written(alloc, document, version, limits)?,
+    };
+    match refusal {
         Some(refusal) => Ok(Some(refusal_text(alloc, &refusal, limits)?)),
         None => Ok(None),
     }

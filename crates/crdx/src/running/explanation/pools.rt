@@ -9,7 +9,7 @@ use crate::running::explanation::values::found_text;
 use explain::{XFault, resolve};
 use jtree::{MOST_BYTES, Members, Tree, push_name};
 use plan::{PFault, PoolLimits, PoolName, Pools, oversized_pool};
-use schema::{Node, Sort};
+use schema::{Node, Profile, Sort};
 use std::alloc::{AllocError, Global};
 use stored::{Schema, accept};
 
@@ -18,13 +18,16 @@ pub(crate) fn pools_text(
     alloc: Global,
     document: &Tree,
     cause: &Cause,
-    limits: PoolLimits,
+    arguments: &CommonArguments<'_>,
 ) -> Result<Option<String>, AllocError> {
     match cause {
-        Cause::Place(_, PlaceCode::Form, pointer) => {
-            Ok(Some(form_text(alloc, document, pointer.as_str())?))
-        }
-        Cause::Pools(PFault::TooLarge) => size_text(alloc, document, limits),
+        Cause::Place(_, PlaceCode::Form, pointer) => Ok(Some(form_text(
+            alloc,
+            document,
+            arguments.profile,
+            pointer.as_str(),
+        )?)),
+        Cause::Pools(PFault::TooLarge) => size_text(alloc, document, pool_limits_of(arguments)),
         _ => Ok(None),
     }
 }
@@ -61,6 +64,7 @@ fn entries_text(alloc: Global, pool: PoolName<'_>) -> Result<String, AllocError>
         }
         PoolName::Integers => String::from_str(alloc, r#"entries in "integers""#),
         PoolName::Names => String::from_str(alloc, r#"entries in "names""#),
+        PoolName::Numbers => String::from_str(alloc, r#"entries in "numbers""#),
         PoolName::Paths => String::from_str(alloc, r#"paths in "paths""#),
         PoolName::At(path) => {
             let path = json_text(alloc, path)?;
@@ -81,7 +85,12 @@ fn most_of(pool: PoolName<'_>, limits: PoolLimits) -> usize {
 }
 
 /// What was found at the pointer of a place that has not its form, and what is allowed there.
-fn form_text(alloc: Global, document: &Tree, pointer: &str) -> Result<String, AllocError> {
+fn form_text(
+    alloc: Global,
+    document: &Tree,
+    profile: Profile,
+    pointer: &str,
+) -> Result<String, AllocError> {
     let mut steps = pointer.split('/');
     steps.next();
     let Some(name) = steps.next() else {
@@ -92,7 +101,7 @@ fn form_text(alloc: Global, document: &Tree, pointer: &str) -> Result<String, Al
     match steps.next() {
         None => {
             let found = found_text(alloc, pool)?;
-            let form = pool_text(name);
+            let form = pool_text(profile, name);
             format!(in alloc; "found {found}; allowed {form}")
         }
         Some(step) => {
@@ -134,14 +143,31 @@ fn member_at<'a>(
     Ok(None)
 }
 
-fn pool_text(name: &str) -> &'static str {
+fn pool_text(profile: Profile, name: &str) -> &'static str {
     match name {
         "integers" => "is a list of integers",
+        "numbers" => numbers_text(profile),
         "strings" | "names" | "present" => "is a list of strings",
         "any" => "is a list",
         "paths" | "fixed" => "is an object of lists",
-        _ => {
+        _ => members_text(profile),
+    }
+}
+
+fn numbers_text(profile: Profile) -> &'static str {
+    match profile {
+        Profile::Core => members_text(profile),
+        Profile::Cluster => "is a list of numbers",
+    }
+}
+
+fn members_text(profile: Profile) -> &'static str {
+    match profile {
+        Profile::Core => {
             r#"are the members "any", "fixed", "integers", "names", "paths", "present" and "strings""#
+        }
+        Profile::Cluster => {
+            r#"are the members "any", "fixed", "integers", "names", "numbers", "paths", "present" and "strings""#
         }
     }
 }
@@ -149,6 +175,7 @@ fn pool_text(name: &str) -> &'static str {
 fn entry_text(name: &str) -> &'static str {
     match name {
         "integers" => "an integer",
+        "numbers" => "a number",
         "paths" | "fixed" => "a list",
         _ => "a string",
     }
@@ -167,9 +194,8 @@ pub(crate) fn path_text(
     };
     let crd = crd_again(alloc, definition, arguments)?;
     let schema = accept(alloc, crd.raw).map_err(|_| AllocError)?;
-    let pools = Pools::read_within(alloc, document, pool_limits_of(arguments)).map_err(
-        |_| AllocError,
-    )?;
+    let limits = pool_limits_of(arguments);
+    let pools = Pools::read_by(alloc, document, arguments.profile, limits).map_err(|_| AllocError)?;
     Ok(Some(String::from_str(alloc, refused_path_text(&schema, &pools, path.as_str()))?))
 }
 

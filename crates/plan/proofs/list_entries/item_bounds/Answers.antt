@@ -18,9 +18,9 @@ returns-in-Set g c = λ P sites i s right below inside n d is bounds item o soun
     let l = c.args.list.now in
     let M = site_at sites c.args.item in
     let here = subst (λ ty. s.node ≡ node n d (list l.item ty l.keys.items l.bounds)) c.in-Set.is is in
-    let plain = set_items P s M n d l.item l.keys.items l.bounds here item sound in
+    let plain = set_items P s M n d l.item c.in-Set.field-0 l.keys.items l.bounds here item sound in
     rw (c.cut_bounds.ensures, ← bounds)
-    (set_cut c.stored_by_parts.ensures c.parts_one_level.ensures P c.args.arena.now.limit s M n d l.item l.keys.items l.bounds c.count.result here item plain
+    (set_cut c.stored_by_parts.ensures c.parts_one_level.ensures P c.args.arena.now.limit s M n d l.item c.in-Set.field-0 l.keys.items l.bounds c.count.result here item plain
     (count_parts P c.args.arena.now.limit M c.count.result c.requires.some (scalar_one c.stored_by_parts.ensures P M plain) (c.count.ensures P sites i right below inside (leaf_any M.fixed _ (plain_leaf M.node plain)))))
 
 pub returns-in-Map : goal.returns-in-Map
@@ -28,6 +28,6 @@ returns-in-Map g c = λ P sites i s right below inside n d is bounds item o soun
     let l = c.args.list.now in
     let M = site_at sites c.args.item in
     let here = subst (λ ty. s.node ≡ node n d (list l.item ty l.keys.items l.bounds)) c.in-Map.is is in
-    let items = map_items c.stored_by_parts.ensures P s M n d l.item l.keys.items l.bounds here item o sound in
+    let items = map_items c.stored_by_parts.ensures P s M n d l.item c.in-Map.field-0 l.keys.items l.bounds here item o sound in
     rw (c.cut_bounds-in-Map.ensures, ← bounds)
-    (map_cut c.stored_by_parts.ensures c.parts_one_level.ensures P c.args.arena.now.limit s M n d l.item l.keys.items l.bounds c.item_tuples.result c.requires.limit here item items.0 items.1 (c.item_tuples.ensures P sites i right below inside items.2 items.3))
+    (map_cut c.stored_by_parts.ensures c.parts_one_level.ensures P c.args.arena.now.limit s M n d l.item c.in-Map.field-0 l.keys.items l.bounds c.item_tuples.result c.requires.limit here item items.0 items.1 (c.item_tuples.ensures P sites i right below inside items.2 items.3))

@@ -8,9 +8,9 @@ use Rattle.plan.proofs.pool_form.check_form.Goals as goal
 pub returns-in-None-clause-ok : goal.returns-in-None-clause-ok
 returns-in-None-clause-ok c =
     let d = data_of c.args.document.now in
-    subst (IsPointed (BreaksForm d)) (sym c.in_ok-first_break.ensures ∙ ap (option_map string_bytes) c.in-None.is) (first_pointed d c.reveal_invariant.ensures)
+    subst (IsPointed (BreaksForm c.args.profile d)) (sym c.in_ok-first_break.ensures ∙ ap (option_map string_bytes) c.in-None.is) (first_pointed c.args.profile d c.reveal_invariant.ensures)
 
 pub returns-in-Some-clause-err : goal.returns-in-Some-clause-err
 returns-in-Some-clause-err c = λ limits.
     let d = data_of c.args.document.now in
-    subst (IsPointed (BreaksForm d)) (sym c.in_ok-first_break.ensures ∙ ap (option_map string_bytes) c.in-Some.is) (first_pointed d c.reveal_invariant.ensures)
+    subst (IsPointed (BreaksForm c.args.profile d)) (sym c.in_ok-first_break.ensures ∙ ap (option_map string_bytes) c.in-Some.is) (first_pointed c.args.profile d c.reveal_invariant.ensures)

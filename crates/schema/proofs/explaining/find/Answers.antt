@@ -20,10 +20,10 @@ loop-reason-preserved c =
       | then-is_reason+in_ok-from_str+in_ok-push w ↦
           let d = get_or reasons i NotInBranches in
           let same = ap (λ l. finding l d) w.in_ok-from_str.ensures in
-          let more = found_reason v c.args.rule k reasons i NotInBranches old mid (finding w.in_ok-from_str.field-0 d) within same w.if-is_reason.ensures c.loop-reason.invariant in
-          subst (λ fs. AddsFindings v c.args.rule after old fs.items) (sym w.findings-is)
-          (subst (λ fs. AddsFindings v c.args.rule after old fs) (sym w.in_ok-push.ensures.items) more)
+          let more = found_reason c.args.facts.now.profile v c.args.rule k reasons i NotInBranches old mid (finding w.in_ok-from_str.field-0 d) within same w.if-is_reason.ensures c.loop-reason.invariant in
+          subst (λ fs. AddsFindings c.args.facts.now.profile v c.args.rule after old fs.items) (sym w.findings-is)
+          (subst (λ fs. AddsFindings c.args.facts.now.profile v c.args.rule after old fs) (sym w.in_ok-push.ensures.items) more)
       | else-is_reason w ↦
-          subst (λ fs. AddsFindings v c.args.rule after old fs.items) (sym w.findings-is)
-          (passed_reason v c.args.rule k reasons i NotInBranches old mid within w.if-is_reason.ensures c.loop-reason.invariant)
+          subst (λ fs. AddsFindings c.args.facts.now.profile v c.args.rule after old fs.items) (sym w.findings-is)
+          (passed_reason c.args.facts.now.profile v c.args.rule k reasons i NotInBranches old mid within w.if-is_reason.ensures c.loop-reason.invariant)
     ]

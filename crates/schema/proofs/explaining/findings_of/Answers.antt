@@ -8,7 +8,7 @@ use Rattle.schema.proofs.FindingLemmas.{found_member, findings_are}
 use Rattle.schema.proofs.explaining.findings_of.Goals as goal
 
 pub loop-member-init : goal.loop-member-init
-loop-member-init c = subst (λ fs. AddsFindings c.args.subschema.now c.args.rule [] [] fs) (sym c.new-findings.ensures.items) (adds_none [])
+loop-member-init c = subst (λ fs. AddsFindings c.args.profile c.args.subschema.now c.args.rule [] [] fs) (sym c.new-findings.ensures.items) (adds_none [])
 
 pub loop-member-preserved : goal.loop-member-preserved
 loop-member-preserved c =
@@ -20,10 +20,10 @@ loop-member-preserved c =
     let mid = c.loop-member.findings.items in
     let new = c.find.new.findings.items in
     let within : i < length members = omega arith in
-    let named : AddsFindings v r (findings_at m.name c.all_reasons.result) mid new =
-    subst (λ k. AddsFindings v r (findings_at k c.all_reasons.result) mid new) c.as_str-keyword.ensures c.in_ok-find.ensures in
-    let here : AddsFindings v r (findings_at m.name all_reasons) mid new = subst (λ reasons. AddsFindings v r (findings_at m.name reasons) mid new) c.all_reasons.ensures named in
-    found_member v r members i m mid new within c.member-item.is here c.loop-member.invariant
+    let named : AddsFindings c.args.profile v r (findings_at m.name c.all_reasons.result) mid new =
+    subst (λ k. AddsFindings c.args.profile v r (findings_at k c.all_reasons.result) mid new) c.as_str-keyword.ensures (subst (λ p. AddsFindings p v r (findings_at c.as_str-keyword.result.now c.all_reasons.result) mid new) c.facts_of-facts.ensures.profile c.in_ok-find.ensures) in
+    let here : AddsFindings c.args.profile v r (findings_at m.name all_reasons) mid new = subst (λ reasons. AddsFindings c.args.profile v r (findings_at m.name reasons) mid new) c.all_reasons.ensures named in
+    found_member c.args.profile v r members i m mid new within c.member-item.is here c.loop-member.invariant
 
 pub returns : goal.returns
 returns c =
@@ -33,4 +33,4 @@ returns c =
     let findings = c.loop-member.findings.items in
     let all : take c.loop-member.member-index members ≡ members = take_all c.loop-member.member-index members (omega arith) in
     let whole : members_of members ≡ v.schema.now = ap members_of c.deref-member-items.ensures.value ∙ c.schema.view_is in
-    findings_are v r members findings c.reveal_invariant.ensures whole (subst (λ ms. AddsFindings v r (findings_among ms) [] findings) all c.loop-member.invariant)
+    findings_are c.args.profile v r members findings c.reveal_invariant.ensures whole (subst (λ ms. AddsFindings c.args.profile v r (findings_among ms) [] findings) all c.loop-member.invariant)

@@ -23,9 +23,9 @@ loop-rule-preserved g c =
     let after = pairs_at (place_of v.place.items) (take (i + 1) rules) in
     elim c.if-is_broken.branch [
       | then-is_broken+in_ok-of_break+in_ok-push w ↦
-          let more = found_rule T v rules i V01 old mid w.in_ok-of_break.field-0 within w.in_ok-of_break.ensures w.if-is_broken.ensures c.loop-rule.invariant in
-          subst (λ vs. AddsBreaks T (λ raw. IsSubschema raw v) after old vs.items) (sym w.reports-is)
-          (subst (λ vs. AddsBreaks T (λ raw. IsSubschema raw v) after old vs) (sym w.in_ok-push.ensures.items) more)
+          let more = found_rule c.args.profile T v rules i V01 old mid w.in_ok-of_break.field-0 within w.in_ok-of_break.ensures w.if-is_broken.ensures c.loop-rule.invariant in
+          subst (λ vs. AddsBreaks c.args.profile T (λ raw. IsSubschema raw v) after old vs.items) (sym w.reports-is)
+          (subst (λ vs. AddsBreaks c.args.profile T (λ raw. IsSubschema raw v) after old vs) (sym w.in_ok-push.ensures.items) more)
       | else-is_broken w ↦
-          subst (λ vs. AddsBreaks T (λ raw. IsSubschema raw v) after old vs.items) (sym w.reports-is) (kept_rule T v rules i V01 old mid within w.if-is_broken.ensures c.loop-rule.invariant)
+          subst (λ vs. AddsBreaks c.args.profile T (λ raw. IsSubschema raw v) after old vs.items) (sym w.reports-is) (kept_rule c.args.profile T v rules i V01 old mid within w.if-is_broken.ensures c.loop-rule.invariant)
     ]

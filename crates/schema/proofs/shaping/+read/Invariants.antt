@@ -37,4 +37,4 @@ decreases-read_field l = 6 * depth (data_of l.property.now.tree) + 5
 -- the fields are those of the properties so far
 abbrev pub invariant-read_fields-loop-property : goal.invariant-read_fields-loop-property
 invariant-read_fields-loop-property l =
-    AreFieldsOf (fields_of l.fields.items) (texts_under (data_of l.schema) (codes "required")) (declared_of l.root (members_of (take l.property-index l.property-items)))
+    AreFieldsOf l.profile (fields_of l.fields.items) (texts_under (data_of l.schema) (codes "required")) (declared_of l.root (members_of (take l.property-index l.property-items)))

@@ -24,4 +24,4 @@ read_branches-loop-item-preserved t c =
     let within : i < length xs = omega arith in
     let more : items_of (take (i + 1) xs) ≡ items_of (take i xs ++ x ∷ []) = ap items_of (take_more xs i x within ∙ ap (λ y. take i xs ++ y ∷ []) (sym c.item-item.is)) in
     let pushed : c.push.new.self.items ≡ branches ++ c.in_ok-read_validations.field-0 ∷ [] = c.in_ok-push.ensures.items in
-    rw (pushed, more) (push_branches branches c.in_ok-read_validations.field-0 (take i xs) x c.loop-item.invariant c.in_ok-read_validations.ensures)
+    rw (pushed, more) (push_branches c.args.profile branches c.in_ok-read_validations.field-0 (take i xs) x c.loop-item.invariant c.in_ok-read_validations.ensures)

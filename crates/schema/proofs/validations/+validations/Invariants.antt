@@ -19,4 +19,4 @@ decreases-read_negated l = 2 * depth (data_of l.schema.now)
 
 -- the branches so far are those of the items so far
 abbrev pub invariant-read_branches-loop-item : goal.invariant-read_branches-loop-item
-invariant-read_branches-loop-item l = AreBranchesOf (branches_of l.branches.items) (items_of (take l.item-index l.item-items))
+invariant-read_branches-loop-item l = AreBranchesOf l.profile (branches_of l.branches.items) (items_of (take l.item-index l.item-items))

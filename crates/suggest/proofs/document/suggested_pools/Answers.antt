@@ -2,17 +2,20 @@ use Rattle.std.proofs.Common.{◌≡◌, ◌∙◌, [], map, not, sym, ap, subst
 use Rattle.std.proofs.lemmas.Bool.Decides.{not_from_Decides}
 use Rattle.std.proofs.lemmas.Result.{err_from_is_err_and}
 use Rattle.jtree.specs.View.{data_of}
-use Rattle.plan.specs.Pools.Document.{HasForm, pools_of}
+use Rattle.schema.specs.declared.profile.Profile.{Profile}
+use Rattle.schema.specs.declared.profile.Profile.TheVariants.{Core, Cluster}
+use Rattle.plan.specs.Pools.Document.{HasFormBy, pools_of}
 use Rattle.plan.specs.Pools.PlanFault.{HasGoodPaths}
 use Rattle.suggest.specs.View.{trees_of, wanted_of}
 use Rattle.suggest.specs.Internal.Parts.{general_with, suggestions_from, document_from}
-use Rattle.suggest.specs.Suggested.Document.{CanBeRead, general_of, suggestions_by, suggested_document}
+use Rattle.suggest.specs.Suggested.Document.{CanBeRead, general_of, suggested_numbers, suggestions_by, suggested_document}
 use Rattle.suggest.specs.Suggested.Fault.{AreVaried}
 use Rattle.suggest.specs.Suggested.Without.{taken_out, without_paths}
 use Rattle.suggest.proofs.DocumentLemmas.{said_around}
-use Rattle.suggest.proofs.FormLemmas.{suggested_form}
+use Rattle.suggest.proofs.FormLemmas.{AreNumbersBy, suggested_form, cluster_numbers, core_numbers}
 use Rattle.suggest.proofs.GoodLemmas.{suggested_paths}
 use Rattle.suggest.proofs.JudgingLemmas.{varied_fault, without_fault}
+use Rattle.suggest.proofs.NumberLemmas.{core_has_none}
 use Rattle.suggest.proofs.RootLemmas.{root_no_leaf}
 use Rattle.suggest.proofs.document.suggested_pools.Goals as goal
 use Rattle.suggest.proofs.document.suggested_pools.Goals.{After-deref, In_ok-check_varied, In_ok-document}
@@ -51,12 +54,22 @@ returns-in_err-check_without-clause-err c =
 pub returns-clause-document : goal.returns-clause-document
 returns-clause-document c = is_suggested (goal.at.returns-clause-document c).In_ok-document
 
-pub returns-clause-form : goal.returns-clause-form
-returns-clause-form c =
+has_form : (profile : Profile) (c : In_ok-document) → AreNumbersBy profile (suggested_numbers c.args.schema.now) → HasFormBy profile (data_of c.in_ok-document.document)
+has_form profile c numbers =
     let w = wanted_of c.args.wanted.now in
     let root = c.args.schema.now in
-    subst HasForm (sym (is_suggested (goal.at.returns-clause-form c).In_ok-document))
-    (suggested_form c.args.limits root w.without (suggestions_by w.varied (general_of c.args.limits root) (without_paths root w) (data_of c.args.raw.now) root))
+    subst (HasFormBy profile) (sym (is_suggested c))
+    (suggested_form profile c.args.limits root w.without (suggestions_by w.varied (general_of c.args.limits root) (without_paths root w) (data_of c.args.raw.now) root) numbers)
+
+pub returns-clause-form : goal.returns-clause-form
+returns-clause-form c = has_form Cluster (goal.at.returns-clause-form c).In_ok-document (cluster_numbers c.args.schema.now)
+
+pub returns-clause-core : goal.returns-clause-core
+returns-clause-core c = λ written core nodes.
+    has_form Core (goal.at.returns-clause-core c).In_ok-document (core_numbers c.args.schema.now (core_has_none written c.args.schema.now core nodes))
+
+pub returns-clause-no_numbers : goal.returns-clause-no_numbers
+returns-clause-no_numbers c = λ none. has_form Core (goal.at.returns-clause-no_numbers c).In_ok-document (core_numbers c.args.schema.now none)
 
 pub returns-clause-paths : goal.returns-clause-paths
 returns-clause-paths c =

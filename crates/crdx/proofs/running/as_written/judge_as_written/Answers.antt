@@ -1,6 +1,5 @@
 use Rattle.std.proofs.Common.{inl, subst}
 use Rattle.std.proofs.lemmas.Result.{err_from_is_err_and, IfOk-weaker, IfErr-weaker}
-use Rattle.jtree.specs.View.{data_of}
 use Rattle.crdx.specs.Internal.Cause.{IsDocumentCause}
 use Rattle.crdx.specs.Program.Documents.{file_name}
 use Rattle.crdx.specs.Program.Requested.{numbers_of}
@@ -21,7 +20,7 @@ pub returns-clause-answer : goal.returns-clause-answer
 returns-clause-answer g c =
     let arguments = c.args.arguments.now in
     let written = c.in_ok-written.written in
-    IfOk-weaker c.answer_by.result _ _ (λ a said. object arguments (as_written (data_of written.schema)) said.0 a.status _ (record {
+    IfOk-weaker c.answer_by.result _ _ (λ a said. object arguments (as_written written.schema.tree) said.0 a.status _ (record {
       standard = (c.requires, c.in_ok-written.ensures.written, c.in_ok-written.ensures.patterns);
       at_hand = c.in_ok-written.ensures.stays (numbers_of arguments.common) (file_name arguments.object) _ said.1;
     }) said.2) c.answer_by.ensures.answer
@@ -32,7 +31,7 @@ returns-clause-cause g c =
     let later = g.I.Inputs.has c.written_schema.new.inputs in
     let read = g.I.Inputs.failures c.answer_by.new.inputs in
     let arguments = c.args.arguments.now in
-    let S = as_written (data_of c.in_ok-written.written.schema) in
+    let S = as_written c.in_ok-written.written.schema.tree in
     IfErr-weaker c.answer_by.result _ _ (λ r why.
     object_input has later (g.I.Inputs.failures c.args.inputs.now) read arguments S c.in_ok-written.ensures.stays (c.requires, c.in_ok-written.ensures.written, c.in_ok-written.ensures.patterns) r.cause
     (subst (λ n. IsDocumentCause later n read S arguments r.cause) c.in_ok-written.ensures.unfailed why)) c.answer_by.ensures.cause

@@ -6,7 +6,7 @@ use Rattle.crdx.specs.Program.Requested.{IsRequestedRoot}
 use Rattle.crdx.specs.Program.RunResult.{effects, no_objects}
 use Rattle.crdx.specs.Program.Standard.{by_node}
 use Rattle.crdx.specs.declared.arguments.request.Request.TheVariants.{ObjectLines}
-use Rattle.crdx.proofs.RunLemmas.{input_of_schema, requested_root, refused_by_rules}
+use Rattle.crdx.proofs.RunLemmas.{input_of_schema, requested_root}
 use Rattle.crdx.proofs.LineAnswerLemmas.{lines_end}
 use Rattle.crdx.proofs.running.line_answers.judge_lines_by_rules.Goals as goal
 
@@ -19,7 +19,7 @@ returns-in-Err g c =
       unfailed = tt;
       cause = inl (
         input_of_schema has (g.I.Inputs.failures c.args.inputs.now) (g.I.Inputs.failures c.accepted_schema.new.inputs) arguments.common (ObjectLines arguments)
-            (λ breaks are. no_objects arguments breaks c.requires are) c.in-Err.refusal.cause (refused_by_rules has arguments c.requires) c.in-Err.ensures.cause,
+            (λ breaks are. no_objects arguments breaks c.requires are) c.in-Err.refusal.cause (λ r. r) c.in-Err.ensures.cause,
         record { kept = Keeps-refl (g.W.Sink.taken c.args.out.now); unfailed = refl },
       );
     }

@@ -6,7 +6,7 @@ use Rattle.crdx.specs.Program.Requested.{numbers_of}
 use Rattle.crdx.specs.Program.RunResult.{object, no_object}
 use Rattle.crdx.specs.Program.Standard.{by_node}
 use Rattle.crdx.specs.declared.arguments.request.Request.TheVariants.{Object}
-use Rattle.crdx.proofs.RunLemmas.{input_of_schema, requested_root, refused_by_rules, object_input}
+use Rattle.crdx.proofs.RunLemmas.{input_of_schema, requested_root, object_input}
 use Rattle.crdx.proofs.running.objects.judge_by_rules.Goals as goal
 
 pub returns-in_err-schema-clause-cause : goal.returns-in_err-schema-clause-cause
@@ -14,7 +14,7 @@ returns-in_err-schema-clause-cause g c =
     let arguments = c.args.arguments.now in
     let p = err_from_is_err_and c.from_residual.result c.from_residual.ensures.1 in
     rw (p.1, p.2) (input_of_schema (g.I.Inputs.has c.args.inputs.now) (g.I.Inputs.failures c.args.inputs.now) (g.I.Inputs.failures c.accepted_schema.new.inputs) arguments.common (Object arguments)
-    (λ breaks are. no_object arguments breaks c.requires are) c.in_err-schema.field-0.0.cause (λ r. inl (refused_by_rules (g.I.Inputs.has c.args.inputs.now) arguments c.requires r)) c.in_err-schema.ensures.cause)
+    (λ breaks are. no_object arguments breaks c.requires are) c.in_err-schema.field-0.0.cause (λ r. inl r) c.in_err-schema.ensures.cause)
 
 pub returns-clause-answer : goal.returns-clause-answer
 returns-clause-answer g c =

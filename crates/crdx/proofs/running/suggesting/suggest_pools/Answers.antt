@@ -52,6 +52,6 @@ returns-clause-cause g c =
       N,
       record { asked = (crd.group, (crd.kind, c.in-Ok.ensures.ok.0)); unbroken = written.unbroken.0 },
       written.unbroken.1,
-      suggestion_before (g.I.Inputs.lines c.args.inputs.now) later c.in-Ok.ensures.lines arguments unread read crd.raw N r.cause (subst (λ n. IsSuggestionCause later n read arguments crd.raw N r.cause) c.in-Ok.ensures.unfailed
+      suggestion_before (g.I.Inputs.lines c.args.inputs.now) later c.in-Ok.ensures.lines arguments unread read crd.raw.tree N r.cause (subst (λ n. IsSuggestionCause later n read arguments crd.raw.tree N r.cause) c.in-Ok.ensures.unfailed
           (subst (λ raw. IsSuggestionCause later (g.I.Inputs.failures c.read_definition.new.inputs) read arguments raw N r.cause) written.raw why)),
     )) c.suggest_at.ensures.cause

@@ -20,4 +20,4 @@ invariant_of-result g c =
     let renewed = rw c.root.ensures.node at c.in_ok-renew.ensures.renewed in
     rw (c.in_ok-renew.ensures.kept.0, c.in_ok-renew.ensures.kept.1)
     (plan_changed c.paths_have_one_text.ensures c.schemas_are_sound.ensures g.Z.SizeSet.holds g.Z.SizeSet.BITS i.schema i.pools c.asking_less-pools.result p a.limit a.values a.entries.items c.renew.new.arena.entries.items i.root c.args.self (λ P. widened P lists p)
-    c.self.view_is is (record { scalars = refl; any = refl; paths = refl; names = refl }) c.root.ensures.schema c.requires.good c.requires.good_then c.requires.along c.requires.declared c.self.invariant renewed)
+    c.self.view_is is (record { scalars = refl; numbers = refl; any = refl; paths = refl; names = refl }) c.root.ensures.schema c.requires.good c.requires.good_then c.requires.along c.requires.declared c.self.invariant renewed)

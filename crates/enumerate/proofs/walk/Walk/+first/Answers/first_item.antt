@@ -62,14 +62,14 @@ returns-in-Whole g t c =
           let set = c.laws_of.ensures.sound.set (site q c.args.list.now.child) c.requires.first.item (sym c.distinct.ensures ∙ c.in-Whole.is) in
           IfOk-weaker c.first_unused.result _ _
           (λ v h. least_same tree_cmp (IsUnusedPart q c.args.list.now.child c.args.size (trees_of c.args.items.now)) (IsUnusedItem q c.args.list.now.node c.args.list.now.child c.args.size (items_of c.args.items.now)) (data_of v)
-          (λ u p. (set_item_unused q c.args.list.now.node c.args.list.now.child c.args.size c.args.items.now u set).0 p) (λ u f. (set_item_unused q c.args.list.now.node c.args.list.now.child c.args.size c.args.items.now u set).1 f) h) c.first_unused.ensures.ok;
+          (λ u p. (set_item_unused q c.args.list.now.node c.args.list.now.child c.args.size c.args.items.now u set c.requires.first.are).0 p) (λ u f. (set_item_unused q c.args.list.now.node c.args.list.now.child c.args.size c.args.items.now u set c.requires.first.are).1 f) h) c.first_unused.ensures.ok;
       following =
           let i = c.args.list.now.node in
           let k = c.args.list.now.child in
           let n = c.args.size in
           let set = c.laws_of.ensures.sound.set (site q k) c.requires.first.item (sym c.distinct.ensures ∙ c.in-Whole.is) in
           IfOk-weaker c.first_unused.result _ _ (λ v h. continue_same (IsUnusedPart q k n (trees_of c.args.items.now)) (IsUnusedItem q i k n (items_of c.args.items.now)) (data_of v) (stack_of c.first_unused.new.scratch.following.items)
-          (λ u p. (set_item_unused q i k n c.args.items.now u set).0 p) (λ u f. (set_item_unused q i k n c.args.items.now u set).1 f) h) c.first_unused.ensures.following;
+          (λ u p. (set_item_unused q i k n c.args.items.now u set c.requires.first.are).0 p) (λ u f. (set_item_unused q i k n c.args.items.now u set c.requires.first.are).1 f) h) c.first_unused.ensures.following;
       steps = costs_within c.args.self.now.plan.now c.args.meter.now c.first_unused.new.meter 1 c.args.size (some_size c.requires.size) c.first_unused.ensures.steps;
     }
 

@@ -77,9 +77,9 @@ returns-in-Whole g t c =
     let set = c.laws_of.ensures.sound.set (site q k) c.requires.first.item (sym c.distinct.ensures ∙ c.in-Whole.is) in
     record {
       ok = IfOk-weaker c.next_unused.result _ _ (λ m h. moved_same (IsUnusedPart q k n (trees_of c.args.items.now)) (IsUnusedItem q i k n (items_of c.args.items.now)) (data_of c.args.item) m
-          (λ u p. (set_item_unused q i k n c.args.items.now u set).0 p) (λ u f. (set_item_unused q i k n c.args.items.now u set).1 f) h) c.next_unused.ensures.ok;
+          (λ u p. (set_item_unused q i k n c.args.items.now u set c.requires.first.are).0 p) (λ u f. (set_item_unused q i k n c.args.items.now u set c.requires.first.are).1 f) h) c.next_unused.ensures.ok;
       following = IfOk-weaker c.next_unused.result _ _ (λ m h. moved_continues_same (IsUnusedPart q k n (trees_of c.args.items.now)) (IsUnusedItem q i k n (items_of c.args.items.now)) m (stack_of c.next_unused.new.scratch.following.items)
-          (λ u p. (set_item_unused q i k n c.args.items.now u set).0 p) (λ u f. (set_item_unused q i k n c.args.items.now u set).1 f) h) c.next_unused.ensures.following;
+          (λ u p. (set_item_unused q i k n c.args.items.now u set c.requires.first.are).0 p) (λ u f. (set_item_unused q i k n c.args.items.now u set c.requires.first.are).1 f) h) c.next_unused.ensures.following;
       steps = (costs_thrice c.args.self.now.plan.now c.args.meter.now c.next_unused.new.meter (node_count (data_of c.args.item)) (some_nodes (data_of c.args.item)) c.next_unused.ensures.steps, IfOk-weaker c.next_unused.result _ _ (λ m h. costs_less c.args.self.now.plan.now m c.args.meter.now c.next_unused.new.meter (node_count (data_of c.args.item)) (some_nodes (data_of c.args.item)) c.next_unused.ensures.steps) c.next_unused.ensures.ok);
     }
 

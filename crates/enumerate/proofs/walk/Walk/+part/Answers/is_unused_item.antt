@@ -18,8 +18,8 @@ returns-then-contains g t c =
     record {
       ok =
           let q = c.args.self.now.plan.now in
-          let any = any_found q.pools _ _ c.args.items.now c.args.item.now (c.laws_of.ensures.sound.set _ c.requires.first.item (sym c.in-Whole.ensures)) in
-          (λ no. cc, λ h. let both : true ≡ false = sym c.if-contains.true ∙ (c.contains.ensures.value ∙ (sym any ∙ h.unused)) in cc);
+          let set = c.laws_of.ensures.sound.set _ c.requires.first.item (sym c.in-Whole.ensures) in
+          (λ no. cc, λ h. let any = any_found q.pools _ _ c.args.items.now c.args.item.now set c.requires.first.are h.part.part in let both : true ≡ false = sym c.if-contains.true ∙ (c.contains.ensures.value ∙ (sym any ∙ h.unused)) in cc);
       steps = λ w wide. omega arith;
     }
 
@@ -49,8 +49,8 @@ returns-else-contains g t c =
     record {
       ok =
           let q = c.args.self.now.plan.now in
-          let any = any_found q.pools _ _ c.args.items.now c.args.item.now (c.laws_of.ensures.sound.set _ c.requires.first.item (sym c.in-Whole.ensures)) in
-          answered c.is_part-in-Whole.result _ _ (λ part. record { part = record { part = part; nodes_are = refl }; unused = any ∙ (sym c.contains.ensures.value ∙ c.if-contains.false) }) (λ h. h.part.part) c.is_part-in-Whole.ensures.ok;
+          let set = c.laws_of.ensures.sound.set _ c.requires.first.item (sym c.in-Whole.ensures) in
+          answered c.is_part-in-Whole.result _ _ (λ part. let any = any_found q.pools _ _ c.args.items.now c.args.item.now set c.requires.first.are part in record { part = record { part = part; nodes_are = refl }; unused = any ∙ (sym c.contains.ensures.value ∙ c.if-contains.false) }) (λ h. h.part.part) c.is_part-in-Whole.ensures.ok;
       steps = c.is_part-in-Whole.ensures.steps;
     }
 
