@@ -2,7 +2,6 @@
 use Rattle.std.proofs.Common.{◌≡◌, ◌≢◌, ◌∙◌, arith, List, [], ◌∷◌, refl, inl, inr}
 use Rattle.std.specs.Prelude.{map, All, IfOk, Result, Ok, Err}
 use Rattle.std.proofs.lemmas.List.Elements.{All-head, All-tail}
-use Rattle.jtree.specs.Data.{Data}
 use Rattle.jtree.specs.Internal.Rising.{contained}
 use Rattle.schema.specs.Document.Raw.{Raw}
 use Rattle.schema.specs.Rules.Breaks.{Break, AreViolations, reported, reported_of, BreaksNone}

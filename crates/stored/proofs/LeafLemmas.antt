@@ -1,7 +1,7 @@
 -- Which values are divided, and what distinguishes their parts.
 use Rattle.std.specs.Prelude.{◌≡◌, ◌==◌, ℕ, List, [], ◌∷◌, length, not}
 use Rattle.std.specs.List.{filter}
-use Rattle.std.proofs.Common.{◌⊎◌, refl, inl, inr, arith}
+use Rattle.std.proofs.Common.{refl, inl, inr, arith}
 use Rattle.std.proofs.lemmas.Bool.Decides.{nat_tests}
 use Rattle.jtree.specs.Data.{Members, no_members, member, IsNameBefore, AreMembers}
 use Rattle.jtree.specs.View.{items_of, members_of}

@@ -15,7 +15,7 @@ use Rattle.stored.specs.Objects.StoredByParts.{IsStoredField, ArePartsStored, St
 use Rattle.stored.specs.Internal.Becoming.{PartBecomes}
 use Rattle.stored.proofs.PartLemmas.{same_part, never_free, everywhere_up}
 use Rattle.stored.proofs.BecomingLemmas.{free_stays, by_steps}
-use Rattle.stored.proofs.ValidLemmas.{FindsNothing, faultless, no_fault, faultless_below, here_from, none_found}
+use Rattle.stored.proofs.ValidLemmas.{FindsNothing, faultless, no_fault, faultless_below, here_from, none_found, null_parts}
 use Rattle.stored.proofs.FilledAgain.{absent}
 
 -- what a step leads to is valid, and is there once it is pruned, and once it is filled
@@ -32,7 +32,7 @@ StaysAt M y z = Stays (option_map (at M) y) (option_map (at M) y) (option_map (a
 -- a node admits what is valid there
 admits : (M : Node) (y : Option Data) → ((K : Node) (w : Data) → option_map (at M) y ≡ Some (at K w) → IsValid K w) → admitted M y ≡ y
 admits M None v = refl
-admits (node nullable description sort) (Some tree.null) v = rw (here_from _ _ (faultless _ _ (v (node nullable description sort) tree.null refl))) refl
+admits (node nullable description sort) (Some tree.null) v = rw (null_parts _ (here_from _ _ (faultless _ _ (v (node nullable description sort) tree.null refl)))).0 refl
 admits M (Some w) v = refl
 
 -- ---- what stays is stored

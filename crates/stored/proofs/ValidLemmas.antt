@@ -17,7 +17,8 @@ use Rattle.schema.specs.declared.node.Bounds.{Bounds}
 use Rattle.schema.specs.declared.node.Constraints.{Constraints}
 use Rattle.stored.specs.Objects.Parts.{pair, at, part_of, leads}
 use Rattle.stored.specs.Objects.Tests.{accepts_scalar, fails_enum, fails_minimum, fails_maximum, fails_least_length, fails_most_length, meets_constraints, meets_branch, holds, meets_junctors}
-use Rattle.stored.specs.Objects.Fault.{Test, F01, F02, F03, F04, F05, F06, F07, F08, F09, F10, F11, F12, F13, F14, is_null, members_count, constraints_of, fails_scalar, fails_items, fails_members, are_few, are_many, fails, is_required, lacks_name, has_alike_before, any_before, are_alike, repeats, finds, IsValid}
+use Rattle.stored.specs.Objects.Fault.{Test, F01, F02, F03, F04, F05, F06, F07, F08, F09, F10, F11, F12, F13, F14, is_null, members_count, constraints_of, refuses_null, fails_scalar, fails_items, fails_members, are_few, are_many, fails, is_required, lacks_name, has_alike_before, any_before, are_alike, repeats, finds, IsValid}
+use Rattle.stored.specs.Objects.Becomes.{is_nullable}
 use Rattle.stored.specs.Objects.StoredByParts.{IsWithin, are_apart, IsValidHere}
 use Rattle.stored.specs.Internal.ValidByLevel.{is_within, has_required, true_if_any, is_valid, are_fields_valid, are_values_valid, are_items_valid}
 use Rattle.stored.proofs.FieldLemmas.{later_field, field_node}
@@ -138,14 +139,27 @@ valid_kind (node nullable description (list N type keys bounds)) (tree.list ds) 
 valid_kind (node nullable description open_) v h = refl
 valid_kind N v h = absurd h
 
+-- a null is accepted where the node is nullable and no `enum` refuses it
+pub null_parts : (N : Node) → IsValidHere N tree.null → (is_nullable N ≡ true) × (refuses_null N ≡ false)
+null_parts (node nullable description (scalar kind cs)) h = let both = and_parts _ _ h in (both.0, not-true _ both.1)
+null_parts (node nullable description sort) h = (h, refl)
+
+null_from : (N : Node) → is_nullable N ≡ true → refuses_null N ≡ false → IsValidHere N tree.null
+null_from (node nullable description (scalar kind cs)) h none = and_from _ _ h (ap not none)
+null_from (node nullable description sort) h none = h
+
 valid_null : (N : Node) (v : Data) → IsValidHere N v → fails F02 N v ≡ false
-valid_null (node nullable description sort) tree.null h = ap not h
+valid_null (node nullable description sort) tree.null h = ap not (null_parts (node nullable description sort) h).0
 valid_null (node nullable description sort) v h = refl
+
+valid_choice : (N : Node) (v : Data) → IsValidHere N v → fails F03 N v ≡ false
+valid_choice N tree.null h = or_from _ _ (passes_scalar _ (λ k cs w a m. (met k cs w a m).0) N tree.null h) (null_parts N h).1
+valid_choice N v h = or_from _ _ (passes_scalar _ (λ k cs w a m. (met k cs w a m).0) N v h) refl
 
 valid_passes : (t : Test) (N : Node) (v : Data) → IsValidHere N v → fails t N v ≡ false
 valid_passes F01 N v h = valid_kind N v h
 valid_passes F02 N v h = valid_null N v h
-valid_passes F03 N v h = passes_scalar _ (λ k cs w a m. (met k cs w a m).0) N v h
+valid_passes F03 N v h = valid_choice N v h
 valid_passes F04 N v h = passes_scalar _ (λ k cs w a m. (met k cs w a m).1) N v h
 valid_passes F05 N v h = passes_scalar _ (λ k cs w a m. (met k cs w a m).2) N v h
 valid_passes F06 N v h = passes_scalar _ (λ k cs w a m. (met k cs w a m).3) N v h
@@ -252,7 +266,7 @@ holds_from : (nullable : Bool) (description : Option (List ℕ)) (kind : ScalarK
 holds_from nullable description kind (validations t all any one negated) v a f =
     and_from _ _
     (scalar_branch kind t v a ∙ five_from (fails_enum t v) (fails_minimum t v) (fails_maximum t v) (fails_least_length t v) (fails_most_length t v)
-    (second_false _ _ a (f F03)) (second_false _ _ a (f F04)) (second_false _ _ a (f F05)) (second_false _ _ a (f F06)) (second_false _ _ a (f F07)))
+    (second_false _ _ a (or_parts _ _ (f F03)).0) (second_false _ _ a (f F04)) (second_false _ _ a (f F05)) (second_false _ _ a (f F06)) (second_false _ _ a (f F07)))
     (not-false _ (second_false _ _ a (f F14)))
 
 -- of a value that is not null
@@ -284,7 +298,7 @@ apart_from alike (item d ds) h =
     and_from _ _ (ap not (none_alike alike d ds (λ i e is. (or_parts _ _ (h (suc i) e is)).0))) (apart_from alike ds (λ i e is. (or_parts _ _ (h (suc i) e is)).1))
 
 pub here_from : (N : Node) (v : Data) → IsFaultless N v → IsValidHere N v
-here_from (node nullable description sort) tree.null h = not-false _ (h [] _ _ refl [] F02)
+here_from (node nullable description sort) tree.null h = null_from (node nullable description sort) (not-false _ (h [] _ _ refl [] F02)) (or_parts _ _ (h [] _ _ refl [] F03)).1
 here_from (node nullable description (scalar kind cs)) v h = scalar_valid nullable description kind cs v (h [] _ _ refl [] F01) (h [] _ _ refl [])
 here_from (node nullable description (object fs preserves type bounds cs)) (tree.object ms) h = ((h [] _ _ refl [] F10, h [] _ _ refl [] F11), not-false _ (h [] _ _ refl [] F14))
 here_from (node nullable description (map N type bounds)) (tree.object ms) h = (h [] _ _ refl [] F10, h [] _ _ refl [] F11)

@@ -6,7 +6,7 @@ ghost use Rattle.jtree.specs.Pointer.{name_token, index_token};
 ghost use Rattle.jtree.specs.View.{data_of, members_of};
 ghost use Rattle.schema.specs.Nodes.View.{node_of, fields_of};
 ghost use Rattle.stored.specs.Objects.Fault as Faults;
-ghost use Rattle.stored.specs.Objects.Fault.{Test, fails, F01, F02, F03, F04, F05, F06, F07, F08, F09, F10, F11, F12, F14, are_few, are_many, are_alike};
+ghost use Rattle.stored.specs.Objects.Fault.{Test, fails, F01, F02, F03, F04, F05, F06, F07, F08, F09, F10, F11, F12, F14, are_few, are_many, are_alike, is_null, refuses_null};
 ghost use Rattle.stored.specs.Objects.Fault.{has_alike_before};
 ghost use Rattle.stored.specs.Objects.AllFaults.{AreReported, AreFaults};
 ghost use Rattle.stored.specs.Objects.StrictFaults.{AreStrictFaults};
@@ -16,7 +16,7 @@ ghost use Rattle.stored.specs.Internal.FailuresByLevel.{field_parts, dropped, me
 
 use crate::constraints::{
     accepts_scalar, fails_enum, fails_least_length, fails_maximum, fails_minimum,
-    fails_most_length, is_above, is_below, meets_junctors,
+    fails_most_length, is_above, is_below, meets_junctors, null_fails_enum,
 };
 use crate::fault::Fault;
 use crate::repetition::repeats;
@@ -198,22 +198,39 @@ fn is_forbidden_null(node: &Node, tree: &Tree) -> bool
     }
 }
 
-/// Which of `enum`, `minimum`, `maximum`, `minLength` and `maxLength` a scalar fails.
+/// Whether a value is null, and `enum` refuses it.
+fn is_refused_null(node: &Node, tree: &Tree) -> bool
+    ensures { result ≡ (is_null (data_of tree.now) && refuses_null (node_of node.now)) }
+{
+    match (&node.sort, tree) {
+        (Sort::Scalar(scalar), Tree::Null) => null_fails_enum(&scalar.validations.constraints),
+        _ => false,
+    }
+}
+
+/// Which of `enum`, `minimum`, `maximum`, `minLength` and `maxLength` a value fails: a scalar, or null, which `enum` alone may refuse.
 fn constraint_tests(node: &Node, tree: &Tree) -> [(u8, bool); 5]
     ensures { result ≡ outcomes (λ t. fails t (node_of node.now) (data_of tree.now)) (F03 ∷ F04 ∷ F05 ∷ F06 ∷ F07 ∷ []) }
 {
+    let is_refused_null = is_refused_null(node, tree);
     match &node.sort {
         Sort::Scalar(scalar) if accepts_scalar(scalar.kind, tree) => {
             let constraints = &scalar.validations.constraints;
             [
-                (3, fails_enum(constraints, tree)),
+                (3, fails_enum(constraints, tree) || is_refused_null),
                 (4, fails_minimum(constraints, tree)),
                 (5, fails_maximum(constraints, tree)),
                 (6, fails_least_length(constraints, tree)),
                 (7, fails_most_length(constraints, tree)),
             ]
         }
-        _ => [(3, false), (4, false), (5, false), (6, false), (7, false)],
+        _ => [
+            (3, is_refused_null),
+            (4, false),
+            (5, false),
+            (6, false),
+            (7, false),
+        ],
     }
 }
 

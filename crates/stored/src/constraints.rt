@@ -73,6 +73,16 @@ pub(crate) fn fails_enum(constraints: &Constraints, tree: &Tree) -> bool
     }
 }
 
+/// Whether `enum` refuses null, of which it is asked by a schema as it is written alone.
+pub(crate) fn null_fails_enum(constraints: &Constraints) -> bool
+    ensures { result ≡ Tests.null_fails_enum constraints.now }
+{
+    match &constraints.written {
+        Some(schema) => !passes_enum(schema.get("enum"), &Tree::Null),
+        None => false,
+    }
+}
+
 /// Whether a number is below `minimum`, or equal to it where that is exclusive.
 pub(crate) fn fails_minimum(constraints: &Constraints, tree: &Tree) -> bool
     ensures { result ≡ Tests.fails_minimum constraints.now (data_of tree.now) }

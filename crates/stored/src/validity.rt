@@ -12,7 +12,7 @@ ghost use Rattle.stored.specs.Internal.ValidByLevel;
 ghost use Rattle.stored.specs.Internal.ValidByLevel.{true_if_any};
 
 use crate::ascending::are_ordered;
-use crate::constraints::{accepts_scalar, holds, is_within, meets_junctors};
+use crate::constraints::{accepts_scalar, holds, is_within, meets_junctors, null_fails_enum};
 use jtree::{Equality, Items, Member, Members, Text, Tree};
 use schema::{Fields, ListNode, ListType, Node, Sort};
 
@@ -32,6 +32,9 @@ fn is_valid(node: &Node, tree: &Tree) -> bool
     ensures { result ≡ ValidByLevel.is_valid (node_of node.now) (data_of tree.now) }
 {
     match (&node.sort, tree) {
+        (Sort::Scalar(scalar), Tree::Null) => {
+            node.nullable && !null_fails_enum(&scalar.validations.constraints)
+        }
         (_, Tree::Null) => node.nullable,
         (Sort::Scalar(scalar), _) => {
             accepts_scalar(scalar.kind, tree) && holds(&scalar.validations, tree)

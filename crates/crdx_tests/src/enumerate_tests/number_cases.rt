@@ -164,9 +164,11 @@ impl Kind for ReasonRow {
 // Values of a field that are good, and others. What is written is asked as a cluster asks: a bound of integers is cut to an integer, and a number
 // is turned into the kind of a listed one.
 static VALUES: &str = r#"
-19 rows: name | field | good | bad
+21 rows: name | field | good | bad
 numbers | {"type":"number"} | [0.5,1,1.5,-2.5e3,9223372036854775808,1.0] | ["x",null,true,[],{},"0.5"]
 numbers or null | {"type":"number","nullable":true} | [null,0.5,1] | ["x",false]
+an enum beside nullable | {"type":"string","nullable":true,"enum":["x"]} | ["x"] | [null,"y"]
+other tests beside nullable | {"type":"string","nullable":true,"minLength":2,"anyOf":[{"enum":["xy"]},{"minLength":3}]} | [null,"xy","abc"] | ["x","ab"]
 a minimum | {"type":"number","minimum":1} | [1,2,1.0,1.5] | [0.5,0.99,0,-1,"x",null]
 a minimum that is a fraction | {"type":"number","minimum":0.5} | [0,1,0.5,0.75] | [-1,0.25,-0.5,"x",null]
 the same of integers | {"type":"integer","minimum":1.5} | [1,2] | [0,-1,1.5,2.5]
@@ -288,8 +290,7 @@ a list for the path, of one value the least text | {"type":"number"} | {"integer
     > {"x":1}
     > {"x":0.5}
     > {"x":1.5}
-an enum, and null | {"type":"number","nullable":true,"enum":[1.5,2,0.5]} | {"integers":[7]} | 2 | {}
-    > {"x":null}
+an enum, which refuses null | {"type":"number","nullable":true,"enum":[1.5,2,0.5]} | {"integers":[7]} | 2 | {}
     > {"x":2}
     > {"x":0.5}
     > {"x":1.5}

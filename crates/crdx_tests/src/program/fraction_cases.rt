@@ -17,6 +17,8 @@ static NAMED: &str = r#"
     | {"type":"object","properties":{"m":{"type":"array","x-kubernetes-list-type":"map","x-kubernetes-list-map-keys":["k"],
     "items":{"type":"object","required":["k"],"properties":{"k":{"type":"number"},"v":{"type":"string"}}}}}}
 @BELOW | {"type":"object","properties":{"n":{"type":"number","maximum":1.5}}}
+// A list of values at a place that null may have.
+@CHOICE | {"type":"object","properties":{"e":{"type":"string","nullable":true,"enum":["x"]}}}
 // Numbers with no bounds, and integers between fractions.
 @FREE
     | {"type":"object","properties":{"i":{"type":"integer","minimum":0.5,"maximum":2.5},"n":{"type":"number"},
@@ -110,7 +112,7 @@ suggested pools: bounds of an integer that are fractions | crdx pools crd.json v
 
 // An integer is asked by a bound cut to an integer, and a number by the bound itself. A number is turned into the kind of a listed one.
 static OBJECTS: &str = r#"
-37 rows: name | command | schema | second | status
+41 rows: name | command | schema | second | status
 by core the schema is not read | crdx validate crd.json v1 object.json | @FRACTIONS | {"e":1} | 3
     ! crdx: crd: J1
 by core numbers are no kind | crdx validate crd.json v1 object.json | @NUMBER | {"n":1} | 1
@@ -131,6 +133,14 @@ the same, strictly | crdx validate crd.json v1 object.json --lines --strict --pr
     | {"e":5e-1}␊{"e":1.25}␊{"e":0.25}␊{"e":2}␊ | 1
     > 3: F03 "/e"
     > 4: F03 "/e"
+null beside an enum, by core | crdx validate crd.json v1 object.json | @CHOICE | {"e":null} | 0
+    > valid
+an enum refuses null | crdx validate crd.json v1 object.json --profile cluster | @CHOICE | {"e":null} | 1
+    > F03 "/e"
+the same, strictly | crdx validate crd.json v1 object.json --strict --profile cluster | @CHOICE | {"e":null} | 1
+    > F03 "/e"
+but it is completed as it is, since the place is nullable | crdx default crd.json v1 object.json --profile cluster | @CHOICE | {"e":null} | 0
+    > {"e":null}
 integers by bounds that are cut | crdx validate crd.json v1 object.json --lines --profile cluster | @FRACTIONS
     | {"i":0}␊{"i":-1}␊{"i":2}␊{"i":3}␊{"n":-1}␊{"n":0}␊ | 1
     > 2: F04 "/i"
@@ -235,7 +245,7 @@ suggested pools: what objects have, as they are written but for whole numbers | 
 
 // The second document has the pools.
 static SAMPLES: &str = r#"
-18 rows: name | command | schema | second | status
+20 rows: name | command | schema | second | status
 by core the schema is not read | crdx sample crd.json v1 --pools pools.json | @BELOW | {} | 3
     ! crdx: crd: J1
 by core numbers are no kind | crdx cover crd.json v1 --pools pools.json | @NUMBER | {} | 1
@@ -284,6 +294,15 @@ integers by bounds that are cut, and no numbers | crdx sample crd.json v1 --pool
     > {"i":0}
     > {"i":1}
     > {"i":2}
+    ! crdx: end
+null beside an enum, by core | crdx sample crd.json v1 --pools pools.json --limit 2 | @CHOICE | {} | 0
+    > {}
+    > {"e":null}
+    > {"e":"x"}
+    ! crdx: end
+no null beside an enum | crdx sample crd.json v1 --pools pools.json --limit 2 --profile cluster | @CHOICE | {} | 0
+    > {}
+    > {"e":"x"}
     ! crdx: end
 an enum with one value twice | crdx sample crd.json v1 --pools pools.json --limit 2 --profile cluster
     | {"type":"object","properties":{"e":{"type":"number","enum":[0.50,1.0,0.5]}}} | {} | 0

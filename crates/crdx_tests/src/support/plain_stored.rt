@@ -7,11 +7,12 @@ use schema::{
     Validations,
 };
 
-/// Whether a value is stored at a node. Of a null nothing is asked but that the node is nullable, and of the value of an open node nothing.
+/// Whether a value is stored at a node. Of a null nothing is asked but that the node is nullable, and that no `enum` which is kept as written
+/// lists anything; of the value of an open node nothing.
 #[cycle(plainly)]
 pub fn is_plainly_stored(node: &Node, value: &Tree) -> bool {
     match (value, &node.sort) {
-        (Tree::Null, _) => node.nullable,
+        (Tree::Null, sort) => node.nullable && !lists_choices(sort),
         (_, Sort::Open) => true,
         (_, Sort::Scalar(scalar)) => {
             is_of_kind(scalar.kind, value) && meets(&scalar.validations, Judged::Scalar(value))
@@ -26,6 +27,19 @@ pub fn is_plainly_stored(node: &Node, value: &Tree) -> bool {
                 && are_apart(list, &items.items)
                 && are_items_stored(&list.item.node, items)
         }
+        _ => false,
+    }
+}
+
+fn lists_choices(sort: &Sort) -> bool {
+    match sort {
+        Sort::Scalar(scalar) => match &scalar.validations.constraints.written {
+            Some(schema) => match schema.get("enum") {
+                Some(Tree::List(choices)) => !choices.items.is_empty(),
+                _ => false,
+            },
+            None => false,
+        },
         _ => false,
     }
 }

@@ -7,7 +7,7 @@ use Rattle.schema.specs.Nodes.Node.{Node, node, scalar, object, map, list, open_
 use Rattle.schema.specs.Nodes.ByPlace.{field_at}
 use Rattle.schema.specs.declared.node.Bounds.{Bounds}
 use Rattle.stored.specs.Objects.Tests.{accepts_scalar, is_below, is_above, holds, meets_junctors}
-use Rattle.stored.specs.Objects.Fault.{items_count, members_count, are_alike}
+use Rattle.stored.specs.Objects.Fault.{items_count, members_count, are_alike, accepts_null}
 use Rattle.stored.specs.Objects.StoredByParts.{are_apart}
 
 abbrev pub is_within : Bounds → ℕ → Bool
@@ -24,7 +24,7 @@ true_if_any (Some b) = b
 
 abbrev mutual
   pub is_valid : Node → Data → Bool
-  is_valid (node nullable description sort) tree.null = nullable
+  is_valid (node nullable description sort) tree.null = accepts_null (node nullable description sort)
   is_valid (node nullable description (scalar kind cs)) v = accepts_scalar kind v && holds cs v
   is_valid (node nullable description (object fs preserves type bounds cs)) (tree.object ms) =
       is_within bounds (members_count ms) && (meets_junctors cs (tree.object ms) && (has_required fs ms && are_fields_valid fs ms))

@@ -1,5 +1,6 @@
 -- What is wrong with an object, and where (OpenAPI 3.0, Schema Object; apiextensions.k8s.io/v1, nullable and merge markers). The
--- numbers are this project's own, and so is it that a null at a nullable node is asked nothing else.
+-- numbers are this project's own, and so is it that a null at a nullable node is asked nothing else, but for `enum` where the schema is
+-- kept as it is written (k8s.io/kube-openapi, pkg/validation).
 use Rattle.std.specs.Prelude.{◌≡◌, ℕ, zero, suc, List, [], ◌∷◌, ◌++◌, ◌+◌, Bool, true, false, Option, Some, None, not, ◌&&◌, ◌||◌, is_none}
 use Rattle.jtree.specs.Data.{Data, Items, no_items, item, Members, no_members, member}
 use Rattle.jtree.specs.Data as tree
@@ -14,7 +15,7 @@ use Rattle.schema.specs.declared.node.Constraints.{Constraints}
 use Rattle.schema.specs.declared.node.ListType.{ListType}
 use Rattle.schema.specs.declared.node.ListType.TheVariants.{Set, Map}
 use Rattle.stored.specs.Objects.Parts.{Pair, fields, pair, at, part_by_path, leads}
-use Rattle.stored.specs.Objects.Tests.{accepts_scalar, is_below, is_above, fails_enum, fails_minimum, fails_maximum, fails_least_length, fails_most_length, meets_junctors}
+use Rattle.stored.specs.Objects.Tests.{accepts_scalar, is_below, is_above, fails_enum, null_fails_enum, fails_minimum, fails_maximum, fails_least_length, fails_most_length, meets_junctors}
 
 pub data Test : Type 0 where
   -- the kind, and null
@@ -62,6 +63,15 @@ accepts open_ v = true
 abbrev pub constraints_of : Validations → Constraints
 constraints_of (validations t all any one negated) = t
 
+abbrev pub refuses_null : Node → Bool
+refuses_null (node nullable description (scalar kind cs)) = null_fails_enum (constraints_of cs)
+refuses_null _ = false
+
+-- null is accepted
+abbrev pub accepts_null : Node → Bool
+accepts_null (node nullable description (scalar kind cs)) = nullable && not (null_fails_enum (constraints_of cs))
+accepts_null (node nullable description sort) = nullable
+
 -- of a scalar that the node accepts
 abbrev pub fails_scalar : (Validations → Data → Bool) → Node → Data → Bool
 fails_scalar test (node nullable description (scalar kind cs)) v = accepts_scalar kind v && test cs v
@@ -99,7 +109,7 @@ are_many b n = is_above b.most n
 abbrev pub fails : Test → Node → Data → Bool
 fails F01 (node nullable description sort) v = not (is_null v) && not (accepts sort v)
 fails F02 (node nullable description sort) v = is_null v && not nullable
-fails F03 N v = fails_constraint fails_enum N v
+fails F03 N v = fails_constraint fails_enum N v || (is_null v && refuses_null N)
 fails F04 N v = fails_constraint fails_minimum N v
 fails F05 N v = fails_constraint fails_maximum N v
 fails F06 N v = fails_constraint fails_least_length N v

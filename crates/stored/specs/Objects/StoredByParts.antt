@@ -10,7 +10,7 @@ use Rattle.schema.specs.Nodes.ByPlace.{Declared, field_at}
 use Rattle.schema.specs.declared.node.Bounds.{Bounds}
 use Rattle.stored.specs.Objects.Parts.{Pair, fields, values, items, whole, pair}
 use Rattle.stored.specs.Objects.Tests.{accepts_scalar, is_below, is_above, holds, meets_junctors}
-use Rattle.stored.specs.Objects.Fault.{items_count, members_count, are_alike}
+use Rattle.stored.specs.Objects.Fault.{items_count, members_count, are_alike, accepts_null}
 use Rattle.stored.specs.Objects.Becomes.{IsStored}
 
 -- neither too few nor too many
@@ -24,7 +24,7 @@ are_apart alike (item d ds) = not (any_item (alike d) ds) && are_apart alike ds
 
 -- What the node asks of the value itself. Of a null it asks only that nulls are accepted.
 abbrev pub IsValidHere : Node → Data → Type 0
-IsValidHere (node nullable description sort) tree.null = nullable ≡ true
+IsValidHere (node nullable description sort) tree.null = accepts_null (node nullable description sort) ≡ true
 IsValidHere (node nullable description (scalar kind cs)) v = (accepts_scalar kind v ≡ true) × (holds cs v ≡ true)
 IsValidHere (node nullable description (object fs preserves type bounds cs)) (tree.object ms) = IsWithin bounds (members_count ms) × (meets_junctors cs (tree.object ms) ≡ true)
 IsValidHere (node nullable description (map N type bounds)) (tree.object ms) = IsWithin bounds (members_count ms)

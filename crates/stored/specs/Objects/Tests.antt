@@ -72,6 +72,10 @@ fails_by (Some ks) passes fails = not (passes ks)
 abbrev pub fails_enum : Constraints → Data → Bool
 fails_enum t v = fails_by t.written (λ ks. passes_enum (member_at (codes "enum") ks) v) (is_other_value t.choices v)
 
+-- of null, `enum` alone is asked, and only by the schema as it is written
+abbrev pub null_fails_enum : Constraints → Bool
+null_fails_enum t = fails_by t.written (λ ks. passes_enum (member_at (codes "enum") ks) tree.null) false
+
 abbrev pub fails_minimum : Constraints → Data → Bool
 fails_minimum t v = fails_by t.written (λ ks. passes_minimum ks v) (is_below_minimum t.minimum t.exclusive_minimum v)
 
