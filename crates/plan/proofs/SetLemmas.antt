@@ -1,6 +1,7 @@
 -- The items of a set: scalars, each its own key.
 use Rattle.std.specs.Prelude.{◌≡◌, ℕ, List, [], ◌∷◌, length, map, true}
 use Rattle.std.proofs.Common.{refl, ap, sym, subst, ◌∙◌}
+use Rattle.std.proofs.lemmas.Bool.{and_parts}
 use Rattle.std.proofs.lemmas.List.{length-map}
 use Rattle.jtree.specs.Data.{Data}
 use Rattle.jtree.specs.Data as tree
@@ -54,7 +55,7 @@ pub scalar_one : StoredLaw → (P : Pools) (s : Site) → IsPlainScalar s.node �
 scalar_one stored P s plain v h = valid_one s.node v plain ((stored s.node v).0 h.stored).0
 
 valid_no_null : (N : Node) → IsPlainScalar N → IsValidHere N tree.null → ⊥
-valid_no_null (node n t (scalar kind cs)) plain valid = let no = sym plain ∙ valid in cc
+valid_no_null (node n t (scalar kind cs)) plain valid = let no = sym plain ∙ (and_parts _ _ valid).0 in cc
 valid_no_null (node n t (object fs preserves type b cs)) plain valid = plain
 valid_no_null (node n t (nodes.map M type b)) plain valid = plain
 valid_no_null (node n t (list M type keys b)) plain valid = plain

@@ -352,7 +352,7 @@ itself_listed P nullable description kind (validations t all any one negated) v 
 
 pub scalar_valid : (nullable : Bool) (description : Option (List ℕ)) (kind : ScalarKind) (cs : Validations) (v : Data) → IsValidHere (node nullable description (scalar kind cs)) v
     → (takes (node nullable description (scalar kind cs)) v ≡ true) ⊎ ((is_null v && nullable) ≡ true)
-scalar_valid nullable description kind cs tree.null h = inr h
+scalar_valid nullable description kind cs tree.null h = inr (and_parts _ _ h).0
 scalar_valid nullable description kind cs (tree.boolean b) h = inl (and_from _ _ h.0 h.1)
 scalar_valid nullable description kind cs (tree.integer z) h = inl (and_from _ _ h.0 h.1)
 scalar_valid nullable description kind cs (tree.number s) h = inl (and_from _ _ h.0 h.1)
