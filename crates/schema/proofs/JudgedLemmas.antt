@@ -1,6 +1,10 @@
 -- What is found of the pairs of places and rules are the breaks of a schema.
 use Rattle.std.proofs.Common.{◌≡◌, ◌<◌, ◌+◌, ℕ, List, [], ◌∷◌, ◌++◌, length, take, get_or, true, false, refl, sym, ap, ◌∙◌, subst, inl, inr, arith}
-use Rattle.std.specs.Prelude.{◌↔◌, All, IsTrue, map}
+use Rattle.std.specs.Prelude.{◌↔◌, All, IsTrue, IfOk, Result, map}
+use Rattle.std.specs.Global.{Global}
+use Rattle.std.specs.declared.vec.Vec.{Vec}
+use Rattle.std.proofs.lemmas.Result.{IfOk-weaker}
+use Rattle.schema.specs.declared.fault.SFault.{SFault}
 use Rattle.std.specs.Cmp.{nat_cmp_is}
 use Rattle.std.specs.Ordering.{nat_cmp}
 use Rattle.std.proofs.lemmas.Cmp.{tied_itself}
@@ -16,10 +20,12 @@ use Rattle.schema.specs.Rules.Broken.{Broken, metadata_keyword, metadata_type, m
 use Rattle.schema.specs.Rules.Breaks.{Break, number, break_cmp, reported, reported_of, AreBreaks, AreViolations}
 use Rattle.schema.specs.Rules.Explained.{OneByOne}
 use Rattle.schema.specs.Internal.Subschemas.{IsSubschema, AreSubschemas}
-use Rattle.schema.specs.Internal.Judged.{judged, pair, pairs_at, pairs_of, AddsBreaks, IsReported}
+use Rattle.schema.specs.Internal.Judged.{judged, pair, pairs_at, pairs_of, Holds, AddsBreaks, AreAnswers, IsReported}
+use Rattle.schema.specs.declared.judging.Question.{Question}
+use Rattle.schema.specs.declared.judging.Question.TheVariants.{Breaks, Refusals, Defaults}
 use Rattle.schema.specs.declared.listing.Subschema.{Subschema}
 use Rattle.schema.specs.declared.violation.Rule.{Rule}
-use Rattle.schema.specs.declared.violation.Rule.TheVariants.{V01, V02, V03, V04, V05, V06, V07, V08, V09, V10, V11, V12, V13, V15, V16, V17}
+use Rattle.schema.specs.declared.violation.Rule.TheVariants.{V01, V02, V03, V04, V05, V06, V07, V08, V09, V10, V11, V12, V13, V14, V15, V16, V17}
 use Rattle.schema.specs.declared.violation.Violation.{Violation}
 use Rattle.jtree.specs.Internal.Rising.{Among, Rising, contains, each_of, all_pairs, among_left, among_right, among_parts, rising_join}
 use Rattle.schema.specs.Document.Raw.{Raw, raw_by}
@@ -34,39 +40,39 @@ more_pairs : (p : Place) (rules : List Rule) (i : ℕ) (d : Rule) → i < length
     → pairs_at p (take (i + 1) rules) ≡ pairs_at p (take i rules) ++ (pair p (get_or rules i d) ∷ [])
 more_pairs p rules i d within = ap (pairs_at p) (take_more rules i d within) ∙ map-append (pair p) (take i rules) (get_or rules i d ∷ [])
 
-pub found_rule : (profile : Profile) → {Y : Type 0} (T : Raw → Break → Y → Type 0) (v : Subschema) (rules : List Rule) (i : ℕ) (d : Rule) (old mid : List Y) (y : Y) → i < length rules
+pub found_rule : (question : Question) (profile : Profile) → {Y : Type 0} (T : Raw → Break → Y → Type 0) (v : Subschema) (rules : List Rule) (i : ℕ) (d : Rule) (old mid : List Y) (y : Y) → i < length rules
     → ((raw : Data) → IsSubschema raw v → T (raw_by profile raw) (pair (place_of v.place.items) (get_or rules i d)) y)
-    → ((raw : Data) → IsSubschema raw v → IsTrue true ↔ Broken (raw_by profile raw) (place_of v.place.items) (get_or rules i d))
-    → AddsBreaks profile T (λ raw. IsSubschema raw v) (pairs_at (place_of v.place.items) (take i rules)) old mid
-    → AddsBreaks profile T (λ raw. IsSubschema raw v) (pairs_at (place_of v.place.items) (take (i + 1) rules)) old (mid ++ (y ∷ []))
-found_rule profile T v rules i d old mid y within reports is f =
+    → ((raw : Data) → IsSubschema raw v → IsTrue true ↔ Holds question (raw_by profile raw) (place_of v.place.items) (get_or rules i d))
+    → AddsBreaks question profile T (λ raw. IsSubschema raw v) (pairs_at (place_of v.place.items) (take i rules)) old mid
+    → AddsBreaks question profile T (λ raw. IsSubschema raw v) (pairs_at (place_of v.place.items) (take (i + 1) rules)) old (mid ++ (y ∷ []))
+found_rule question profile T v rules i d old mid y within reports is f =
     let p = place_of v.place.items in
     let b = pair p (get_or rules i d) in
-    subst (λ ps. AddsBreaks profile T (λ raw. IsSubschema raw v) ps old (mid ++ (y ∷ []))) (sym (more_pairs p rules i d within))
+    subst (λ ps. AddsBreaks question profile T (λ raw. IsSubschema raw v) ps old (mid ++ (y ∷ []))) (sym (more_pairs p rules i d within))
     (adds_join (pairs_at p (take i rules)) (b ∷ []) old mid (mid ++ (y ∷ [])) (λ raw known. known) f
     (adds_one b y mid (λ raw known. ((is raw known).0 refl, reports raw known))))
 
-pub kept_rule : (profile : Profile) → {Y : Type 0} (T : Raw → Break → Y → Type 0) (v : Subschema) (rules : List Rule) (i : ℕ) (d : Rule) (old mid : List Y) → i < length rules
-    → ((raw : Data) → IsSubschema raw v → IsTrue false ↔ Broken (raw_by profile raw) (place_of v.place.items) (get_or rules i d))
-    → AddsBreaks profile T (λ raw. IsSubschema raw v) (pairs_at (place_of v.place.items) (take i rules)) old mid
-    → AddsBreaks profile T (λ raw. IsSubschema raw v) (pairs_at (place_of v.place.items) (take (i + 1) rules)) old mid
-kept_rule profile T v rules i d old mid within is f =
+pub kept_rule : (question : Question) (profile : Profile) → {Y : Type 0} (T : Raw → Break → Y → Type 0) (v : Subschema) (rules : List Rule) (i : ℕ) (d : Rule) (old mid : List Y) → i < length rules
+    → ((raw : Data) → IsSubschema raw v → IsTrue false ↔ Holds question (raw_by profile raw) (place_of v.place.items) (get_or rules i d))
+    → AddsBreaks question profile T (λ raw. IsSubschema raw v) (pairs_at (place_of v.place.items) (take i rules)) old mid
+    → AddsBreaks question profile T (λ raw. IsSubschema raw v) (pairs_at (place_of v.place.items) (take (i + 1) rules)) old mid
+kept_rule question profile T v rules i d old mid within is f =
     let p = place_of v.place.items in
     let b = pair p (get_or rules i d) in
-    subst (λ ps. AddsBreaks profile T (λ raw. IsSubschema raw v) ps old mid) (sym (more_pairs p rules i d within))
+    subst (λ ps. AddsBreaks question profile T (λ raw. IsSubschema raw v) ps old mid) (sym (more_pairs p rules i d within))
     (adds_join (pairs_at p (take i rules)) (b ∷ []) old mid mid (λ raw known. known) f
     (adds_nothing b mid (λ raw known h. let never : false ≡ true = (is raw known).1 h in cc)))
 
-pub found_subschema : (profile : Profile) → {Y : Type 0} (T : Raw → Break → Y → Type 0) (subschemas : List Subschema) (i : ℕ) (v : Subschema) (mid new : List Y) → i < length subschemas
-    → v ≡ get_or subschemas i v → AddsBreaks profile T (λ raw. IsSubschema raw v) (pairs_at (place_of v.place.items) judged) mid new
-    → AddsBreaks profile T (λ raw. All (IsSubschema raw) subschemas) (pairs_of (take i subschemas)) [] mid
-    → AddsBreaks profile T (λ raw. All (IsSubschema raw) subschemas) (pairs_of (take (i + 1) subschemas)) [] new
-found_subschema profile T subschemas i v mid new within at here f =
+pub found_subschema : (question : Question) (profile : Profile) → {Y : Type 0} (T : Raw → Break → Y → Type 0) (subschemas : List Subschema) (i : ℕ) (v : Subschema) (mid new : List Y) → i < length subschemas
+    → v ≡ get_or subschemas i v → AddsBreaks question profile T (λ raw. IsSubschema raw v) (pairs_at (place_of v.place.items) judged) mid new
+    → AddsBreaks question profile T (λ raw. All (IsSubschema raw) subschemas) (pairs_of (take i subschemas)) [] mid
+    → AddsBreaks question profile T (λ raw. All (IsSubschema raw) subschemas) (pairs_of (take (i + 1) subschemas)) [] new
+found_subschema question profile T subschemas i v mid new within at here f =
     let pairs = λ (w : Subschema). pairs_at (place_of w.place.items) judged in
     let more : take (i + 1) subschemas ≡ take i subschemas ++ (v ∷ []) = take_more subschemas i v within ∙ ap (λ w. take i subschemas ++ (w ∷ [])) (sym at) in
     let split : pairs_of (take (i + 1) subschemas) ≡ pairs_of (take i subschemas) ++ pairs v =
     ap pairs_of more ∙ flat_map-append pairs (take i subschemas) (v ∷ []) ∙ ap (λ ps. pairs_of (take i subschemas) ++ ps) (append-nil (pairs v)) in
-    subst (λ ps. AddsBreaks profile T (λ raw. All (IsSubschema raw) subschemas) ps [] new) (sym split)
+    subst (λ ps. AddsBreaks question profile T (λ raw. All (IsSubschema raw) subschemas) ps [] new) (sym split)
     (adds_join (pairs_of (take i subschemas)) (pairs v) [] mid new (λ raw all. subst (IsSubschema raw) (sym at) (all i v within)) f here)
 
 abbrev IsLess : Break → Break → Type 0
@@ -74,24 +80,24 @@ IsLess b c = break_cmp b c ≡ Less
 
 -- ---- each rule that is broken is judged, at a place
 
-is_judged : (profile : Profile) (raw : Data) (p : Place) (r : Rule) → Broken (raw_by profile raw) p r → Among judged r
-is_judged profile raw p V01 h = inl refl
-is_judged profile raw p V02 h = inr (inl refl)
-is_judged profile raw p V03 h = inr (inr (inl refl))
-is_judged profile raw p V04 h = inr (inr (inr (inl refl)))
-is_judged profile raw p V05 h = inr (inr (inr (inr (inl refl))))
-is_judged profile raw p V06 h = inr (inr (inr (inr (inr (inl refl)))))
-is_judged profile raw p V07 h = inr (inr (inr (inr (inr (inr (inl refl))))))
-is_judged profile raw p V08 h = inr (inr (inr (inr (inr (inr (inr (inl refl)))))))
-is_judged profile raw p V09 h = inr (inr (inr (inr (inr (inr (inr (inr (inl refl))))))))
-is_judged profile raw p V10 h = inr (inr (inr (inr (inr (inr (inr (inr (inr (inl refl)))))))))
-is_judged profile raw p V11 h = inr (inr (inr (inr (inr (inr (inr (inr (inr (inr (inl refl))))))))))
-is_judged profile raw p V12 h = inr (inr (inr (inr (inr (inr (inr (inr (inr (inr (inr (inl refl)))))))))))
-is_judged profile raw p V13 h = inr (inr (inr (inr (inr (inr (inr (inr (inr (inr (inr (inr (inl refl))))))))))))
-is_judged profile raw p V15 h = inr (inr (inr (inr (inr (inr (inr (inr (inr (inr (inr (inr (inr (inl refl)))))))))))))
-is_judged profile raw p V16 h = inr (inr (inr (inr (inr (inr (inr (inr (inr (inr (inr (inr (inr (inr (inl refl))))))))))))))
-is_judged profile raw p V17 h = inr (inr (inr (inr (inr (inr (inr (inr (inr (inr (inr (inr (inr (inr (inr (inl refl)))))))))))))))
-is_judged profile raw p _ h = absurd h
+is_judged : (r : Rule) → Among judged r
+is_judged V01 = inl refl
+is_judged V02 = inr (inl refl)
+is_judged V03 = inr (inr (inl refl))
+is_judged V04 = inr (inr (inr (inl refl)))
+is_judged V05 = inr (inr (inr (inr (inl refl))))
+is_judged V06 = inr (inr (inr (inr (inr (inl refl)))))
+is_judged V07 = inr (inr (inr (inr (inr (inr (inl refl))))))
+is_judged V08 = inr (inr (inr (inr (inr (inr (inr (inl refl)))))))
+is_judged V09 = inr (inr (inr (inr (inr (inr (inr (inr (inl refl))))))))
+is_judged V10 = inr (inr (inr (inr (inr (inr (inr (inr (inr (inl refl)))))))))
+is_judged V11 = inr (inr (inr (inr (inr (inr (inr (inr (inr (inr (inl refl))))))))))
+is_judged V12 = inr (inr (inr (inr (inr (inr (inr (inr (inr (inr (inr (inl refl)))))))))))
+is_judged V13 = inr (inr (inr (inr (inr (inr (inr (inr (inr (inr (inr (inr (inl refl))))))))))))
+is_judged V14 = inr (inr (inr (inr (inr (inr (inr (inr (inr (inr (inr (inr (inr (inl refl)))))))))))))
+is_judged V15 = inr (inr (inr (inr (inr (inr (inr (inr (inr (inr (inr (inr (inr (inr (inl refl))))))))))))))
+is_judged V16 = inr (inr (inr (inr (inr (inr (inr (inr (inr (inr (inr (inr (inr (inr (inr (inl refl)))))))))))))))
+is_judged V17 = inr (inr (inr (inr (inr (inr (inr (inr (inr (inr (inr (inr (inr (inr (inr (inr (inl refl))))))))))))))))
 
 restricted_place : (profile : Profile) (raw : Data) (p : Place) → Broken (raw_by profile raw) p V04 → IsPlace raw p
 restricted_place profile raw p (metadata_keyword r at) = (at.0, at.1)
@@ -116,6 +122,11 @@ at_place profile raw p V15 h = (h.1.0, h.1.1)
 at_place profile raw p V16 h = (h.0, h.1)
 at_place profile raw p V17 h = (h.1.0, h.1.1)
 at_place profile raw p _ h = absurd h
+
+holds_there : (question : Question) (profile : Profile) (raw : Data) (p : Place) (r : Rule) → Holds question (raw_by profile raw) p r → IsPlace raw p
+holds_there Breaks profile raw p r h = at_place profile raw p r h
+holds_there Refusals profile raw p r h = (h.0, h.1)
+holds_there Defaults profile raw p r h = (h.1.0, h.1.1)
 
 -- ---- the pairs of the places are in order, and all are there
 
@@ -156,7 +167,7 @@ pairs_rising p (r ∷ rules) h = (
 )
 
 judged_chain : Chained number judged
-judged_chain = (omega arith, (omega arith, (omega arith, (omega arith, (omega arith, (omega arith, (omega arith, (omega arith, (omega arith, (omega arith, (omega arith, (omega arith, (omega arith, (omega arith, (omega arith, tt)))))))))))))))
+judged_chain = (omega arith, (omega arith, (omega arith, (omega arith, (omega arith, (omega arith, (omega arith, (omega arith, (omega arith, (omega arith, (omega arith, (omega arith, (omega arith, (omega arith, (omega arith, (omega arith, tt))))))))))))))))
 
 abbrev pub Earlier : Subschema → Subschema → Type 0
 Earlier v w = path_cmp (place_path (place_of v.place.items)) (place_path (place_of w.place.items)) ≡ Less
@@ -222,34 +233,32 @@ subschemas_earlier : (ms : Members) (subschemas : List Subschema) → AreMembers
 subschemas_earlier ms subschemas o are = subschemas_rising subschemas (subst Ascend (sym are.whole) (subschemas_ascend (schema_events [] ms) (schema_events_are ms o).ascending))
 
 -- what is reported of the pairs are the breaks, one by one
-pub breaks_reported : (profile : Profile) → {Y : Type 0} (T : Raw → Break → Y → Type 0) (ms : Members) (subschemas : List Subschema) (ys : List Y) → AreMembers ms → AreSubschemas ms subschemas
-    → AddsBreaks profile T (λ raw. All (IsSubschema raw) subschemas) (pairs_of subschemas) [] ys
-    → (breaks : List Break) × AreBreaks (Broken (raw_by profile (object ms))) breaks × OneByOne (T (raw_by profile (object ms))) breaks ys
-breaks_reported profile T ms subschemas ys o are f =
+pub breaks_reported : (question : Question) (profile : Profile) → {Y : Type 0} (T : Raw → Break → Y → Type 0) (ms : Members) (subschemas : List Subschema) (ys : List Y) → AreMembers ms → AreSubschemas ms subschemas
+    → AddsBreaks question profile T (λ raw. All (IsSubschema raw) subschemas) (pairs_of subschemas) [] ys
+    → AreAnswers question T (raw_by profile (object ms)) ys
+breaks_reported question profile T ms subschemas ys o are f =
     let raw = object ms in
-    let P = λ (b : Break). Broken (raw_by profile raw) b.place b.rule in
+    let P = λ (b : Break). Holds question (raw_by profile raw) b.place b.rule in
     let split = taken_split P (T (raw_by profile raw)) (pairs_of subschemas) f.more (f.are raw are.each) in
     let breaks = split.0 in (
       breaks,
       record {
         each = each_of P breaks (λ b a. (same_each P (pairs_of subschemas) breaks b split.1 a).1);
         all = λ p r h.
-            let v = place_entered ms subschemas o are p (at_place profile raw p r h) in
-            let here : Among (pairs_of subschemas) (pair p r) = subst (λ q. Among (pairs_of subschemas) (pair q r)) v.2 (among_all subschemas v.0 r v.1 (is_judged profile raw p r h)) in
+            let v = place_entered ms subschemas o are p (holds_there question profile raw p r h) in
+            let here : Among (pairs_of subschemas) (pair p r) = subst (λ q. Among (pairs_of subschemas) (pair q r)) v.2 (among_all subschemas v.0 r v.1 (is_judged r)) in
             contains breaks (pair p r) (same_all P (pairs_of subschemas) breaks (pair p r) split.1 here h);
         ascending = all_pairs IsLess breaks (same_rising P IsLess (pairs_of subschemas) breaks split.1 (all_rising subschemas (subschemas_earlier ms subschemas o are)));
       },
       subst (OneByOne (T (raw_by profile raw)) breaks) (sym f.grown) split.2,
     )
 
-reported_one_by_one : (profile : Profile) (raw : Data) (breaks : List Break) (violations : List Violation) → OneByOne (IsReported (raw_by profile raw)) breaks violations → map reported violations ≡ map reported_of breaks
-reported_one_by_one profile raw [] [] h = refl
-reported_one_by_one profile raw (b ∷ breaks) (v ∷ violations) h = ap (λ t. t ∷ map reported violations) h.0 ∙ ap (λ ts. reported_of b ∷ ts) (reported_one_by_one profile raw breaks violations h.1)
-reported_one_by_one profile raw [] (v ∷ violations) h = absurd h
-reported_one_by_one profile raw (b ∷ breaks) [] h = absurd h
+reported_one_by_one : (raw : Raw) (breaks : List Break) (violations : List Violation) → OneByOne (IsReported raw) breaks violations → map reported violations ≡ map reported_of breaks
+reported_one_by_one raw [] [] h = refl
+reported_one_by_one raw (b ∷ breaks) (v ∷ violations) h = ap (λ t. t ∷ map reported violations) h.0 ∙ ap (λ ts. reported_of b ∷ ts) (reported_one_by_one raw breaks violations h.1)
+reported_one_by_one raw [] (v ∷ violations) h = absurd h
+reported_one_by_one raw (b ∷ breaks) [] h = absurd h
 
-pub violations_of : (profile : Profile) (ms : Members) (subschemas : List Subschema) (violations : List Violation) → AreMembers ms → AreSubschemas ms subschemas
-    → AddsBreaks profile IsReported (λ raw. All (IsSubschema raw) subschemas) (pairs_of subschemas) [] violations → AreViolations (Broken (raw_by profile (object ms))) violations
-violations_of profile ms subschemas violations o are f =
-    let b = breaks_reported profile IsReported ms subschemas violations o are f in
-    (b.0, b.1, reported_one_by_one profile (object ms) b.0 violations b.2)
+pub violations_of : (question : Question) (raw : Raw) (result : Result (Vec Violation Global) SFault) → IfOk result (λ found. AreAnswers question IsReported raw found.items)
+    → IfOk result (λ found. AreViolations (Holds question raw) found.items)
+violations_of question raw result answered = IfOk-weaker result _ _ (λ found h. (h.0, h.1, reported_one_by_one raw h.0 found.items h.2)) answered

@@ -2,7 +2,7 @@
 -- Reading: VersionLemmas and CrdLemmas (the document), FormFirst and FormLemmas (the first break of a form), EventParts,
 -- EventPlaces, EventLemmas, ListingLemmas and LimitLemmas (places in path order, and the first limit that is passed),
 -- SchemaFaults (both together).
--- Rules: KindLemmas, ContextLemmas, PatternLemmas, NamedLemmas and RuleLemmas say that the code's tests are the definitions' at
+-- Rules: KindLemmas, ContextLemmas, PatternLemmas, NamedLemmas, RuleLemmas and ClusterLemmas say that the code's tests are the definitions' at
 -- a place, JudgedLemmas that all pairs of a place and a rule are found.
 -- Reasons: KeyReasons, BranchReasons and ProfileReasons rule by rule, over ReasonWords; ReasonLaw all six, FindingLemmas all
 -- that is found. TakenLemmas: what a loop takes of its candidates, for rules and for reasons.
@@ -24,6 +24,7 @@ pub mod ContextLemmas
 pub mod PatternLemmas
 pub mod SchemaFaults
 pub mod RuleLemmas
+pub mod ClusterLemmas
 pub mod JudgedLemmas
 pub mod NodeLemmas
 pub mod KindLemmas

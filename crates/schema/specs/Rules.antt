@@ -9,3 +9,4 @@ pub mod Breaks
 pub mod Reasons
 pub mod ReasonTable
 pub mod Explained
+pub mod Cluster

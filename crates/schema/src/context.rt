@@ -134,7 +134,7 @@ fn is_holder(tree: &Tree) -> bool
 }
 
 /// Whether a value is `[{"type":"integer"},{"type":"string"}]`.
-fn is_pattern(tree: &Tree) -> bool
+pub(crate) fn is_pattern(tree: &Tree) -> bool
     ensures { IsTrue result ↔ (data_of tree.now ≡ pattern) }
 {
     match tree {

@@ -12,7 +12,7 @@ ghost use Rattle.schema.specs.Rules.Explained.{AreFindings, IsExplained, AreExpl
 ghost use Rattle.schema.specs.declared.fault.SFault.TheVariants.{NoMemory};
 
 use crate::fault::SFault;
-use crate::judging::{Report, reports_of, subschemas_of};
+use crate::judging::{Question, Report, answers};
 use crate::listing::Subschema;
 use crate::profile::Profile;
 use crate::raw::RawSchema;
@@ -28,10 +28,7 @@ pub fn explained(alloc: Global, raw: &RawSchema) -> Result<Vec<Explained>, SFaul
     ensures ok { IfOk result (λ found. AreExplained (Broken raw.now) raw.now found.items) }
     ensures err { IfErr result (λ e. e ≡ NoMemory) }
 {
-    match subschemas_of(alloc, raw) {
-        Ok(subschemas) => Ok(reports_of(alloc, raw.profile(), subschemas.as_slice())?),
-        Err(fault) => Err(fault),
-    }
+    answers(alloc, Question::Breaks, raw)
 }
 
 /// The break, with its reasons.

@@ -16,6 +16,7 @@
 #![tactic(auto)]
 
 mod context;
+mod defaults;
 mod definition;
 mod explaining;
 mod fault;
@@ -44,11 +45,12 @@ mod versions;
 mod violation;
 mod written;
 
+pub use defaults::{JudgedDefault, judged_defaults};
 pub use definition::{Crd, read_crd, read_crd_by, read_crd_within};
 pub use explaining::explained;
 pub use fault::SFault;
 pub use forms::Form;
-pub use judging::breaks;
+pub use judging::{breaks, refusals};
 pub use limits::{Excess, Limited, Limits};
 pub use names::{Names, is_among};
 pub use node::{

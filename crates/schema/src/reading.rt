@@ -5,7 +5,7 @@ ghost use Rattle.schema.specs.Rules.Keywords;
 ghost use Rattle.schema.specs.Rules.Keywords.{text_under, integer_under, count_under, list_under, texts_under, items_of, texts_of};
 
 use crate::node::Bounds;
-use jtree::{Items, Text, Tree};
+use jtree::{Items, Member, Members, Text, Tree};
 use std::alloc::{AllocError, Global};
 
 /// Whether true is under a keyword.
@@ -85,6 +85,20 @@ pub(crate) fn copy_list(
         Some(tree) => copied_items(alloc, tree),
         None => Ok(None),
     }
+}
+
+/// A copy of the members of an object.
+pub(crate) fn copy_members(alloc: Global, members: &Members) -> Result<Members, AllocError>
+    ensures { IfOk result (λ m. m ≡ members.now) }
+{
+    members.reveal_invariant();
+    let mut copies = Vec::with_capacity(alloc, members.members.len())?;
+    for member in &members.members {
+        let name = member.name.copy(alloc)?;
+        let tree = member.tree.try_clone(alloc)?;
+        copies.push_reserved(Member { name, tree });
+    }
+    Ok(Members { members: copies })
 }
 
 /// A copy of a list, and `None` for what is no list.

@@ -13,6 +13,7 @@ ghost use Rattle.schema.specs.Document.Texts.{is_among};
 ghost use Rattle.schema.specs.Internal.RuleParts.{IsOtherName, IsOtherField, IsUnspecified, HasOutsideKeyword, Restricts};
 ghost use Rattle.schema.specs.Internal.Subschemas.{IsSubschema};
 
+pub(crate) mod cluster;
 pub(crate) mod junctors;
 pub(crate) mod lists;
 pub(crate) mod profile;
@@ -119,7 +120,7 @@ pub(crate) fn is_root(place: &[Step<'_>]) -> bool
 }
 
 /// Whether the last step is to a property or to the items of a list.
-fn ends_in_field(place: &[Step<'_>]) -> bool
+pub(crate) fn ends_in_field(place: &[Step<'_>]) -> bool
     ensures { result ≡ BrokenSpec.ends_in_field (place_of place.now) }
 {
     match place.last() {
@@ -147,7 +148,7 @@ fn is_property_step(step: Step<'_>) -> bool
     }
 }
 
-fn is_field(step: Step<'_>) -> bool
+pub(crate) fn is_field(step: Step<'_>) -> bool
     ensures { result ≡ BrokenSpec.is_field (step_of step.entry) }
 {
     match step {

@@ -1,18 +1,6 @@
-use Rattle.std.proofs.Common.{[], sym, subst}
-use Rattle.std.specs.Prelude.{All}
-use Rattle.schema.specs.Document.Raw.{raw_by}
-use Rattle.schema.specs.Rules.Broken.{Broken}
-use Rattle.schema.specs.Rules.Breaks.{AreViolations}
-use Rattle.schema.specs.Internal.Judged.{pairs_of, AddsBreaks, IsReported}
-use Rattle.schema.specs.Internal.Subschemas.{IsSubschema}
 use Rattle.schema.proofs.JudgedLemmas.{violations_of}
+use Rattle.schema.specs.declared.judging.Question.TheVariants.{Breaks}
 use Rattle.schema.proofs.judging.breaks.Goals as goal
 
-pub returns-in_ok-reports_of-in-Ok-clause-ok : goal.returns-in_ok-reports_of-in-Ok-clause-ok
-returns-in_ok-reports_of-in-Ok-clause-ok c =
-    let s = c.in-Ok.ensures.subschemas in
-    let found = c.in_ok-reports_of-in-Ok.field-0.items in
-    let raw = c.args.raw.now in
-    let adds = subst (λ p. AddsBreaks p IsReported (λ raw. All (IsSubschema raw) c.as_slice.result.now) (pairs_of c.as_slice.result.now) [] found) c.profile.ensures c.in_ok-reports_of-in-Ok.ensures in
-    subst (λ t. AreViolations (Broken (raw_by raw.profile t)) found) (sym s.1)
-    (violations_of raw.profile s.0 c.in-Ok.subschemas.items found s.2 s.3 (subst (λ vs. AddsBreaks raw.profile IsReported (λ raw. All (IsSubschema raw) vs) (pairs_of vs) [] found) c.as_slice.ensures.value adds))
+pub returns-clause-ok : goal.returns-clause-ok
+returns-clause-ok c = violations_of Breaks c.args.raw.now c.answers.result c.answers.ensures.ok

@@ -9,7 +9,7 @@ use Rattle.schema.proofs.JudgedLemmas.{found_subschema}
 use Rattle.schema.proofs.judging.reports_of.Goals as goal
 
 pub loop-subschema-init : goal.loop-subschema-init
-loop-subschema-init g c = subst (λ rs. AddsBreaks c.args.profile g.R.Report.reports (λ raw. All (IsSubschema raw) c.args.subschemas.now) [] [] rs) (sym c.new-reports.ensures.items) (adds_none [])
+loop-subschema-init g c = subst (λ rs. AddsBreaks c.args.question c.args.profile g.R.Report.reports (λ raw. All (IsSubschema raw) c.args.subschemas.now) [] [] rs) (sym c.new-reports.ensures.items) (adds_none [])
 
 pub loop-subschema-preserved : goal.loop-subschema-preserved
 loop-subschema-preserved g c =
@@ -20,12 +20,12 @@ loop-subschema-preserved g c =
     let mid = c.loop-subschema.reports.items in
     let new = c.judge.new.reports.items in
     let within : i < length subschemas = omega arith in
-    let here : AddsBreaks c.args.profile T (λ raw. IsSubschema raw v) (pairs_at (place_of v.place.items) judged) mid new =
-    subst (λ rules. AddsBreaks c.args.profile T (λ raw. IsSubschema raw v) (pairs_at (place_of v.place.items) rules) mid new) c.judged_rules.ensures c.in_ok-judge.ensures in
-    found_subschema c.args.profile T subschemas i v mid new within c.subschema-item.is here c.loop-subschema.invariant
+    let here : AddsBreaks c.args.question c.args.profile T (λ raw. IsSubschema raw v) (pairs_at (place_of v.place.items) judged) mid new =
+    subst (λ rules. AddsBreaks c.args.question c.args.profile T (λ raw. IsSubschema raw v) (pairs_at (place_of v.place.items) rules) mid new) c.judged_rules-rules.ensures c.in_ok-judge.ensures in
+    found_subschema c.args.question c.args.profile T subschemas i v mid new within c.subschema-item.is here c.loop-subschema.invariant
 
 pub returns : goal.returns
 returns g c =
     let subschemas = c.args.subschemas.now in
     let all : take c.loop-subschema.subschema-index subschemas ≡ subschemas = take_all c.loop-subschema.subschema-index subschemas (omega arith) in
-    subst (λ vs. AddsBreaks c.args.profile g.R.Report.reports (λ raw. All (IsSubschema raw) subschemas) (pairs_of vs) [] c.loop-subschema.reports.items) all c.loop-subschema.invariant
+    subst (λ vs. AddsBreaks c.args.question c.args.profile g.R.Report.reports (λ raw. All (IsSubschema raw) subschemas) (pairs_of vs) [] c.loop-subschema.reports.items) all c.loop-subschema.invariant
