@@ -2,24 +2,22 @@
 use Rattle.std.proofs.Common.{◌≡◌, ◌≢◌, ◌⊎◌, ◌∙◌, ◌++◌, ℕ, List, [], ◌∷◌, Bool, true, false, refl, ap, sym, subst, inl, inr, map, flat_map, Ok, Err, string_bytes, codes}
 use Rattle.std.specs.Prelude.{Result, IfOk}
 use Rattle.std.specs.declared.alloc.AllocError.{AllocError}
-use Rattle.std.proofs.lemmas.List.Folds.{flat_map-map}
 use Rattle.jtree.specs.Data.{Data}
-use Rattle.jtree.specs.Internal.Rising.{contained}
 use Rattle.schema.specs.Document.Raw.{Raw}
-use Rattle.schema.specs.Rules.Breaks.{Reported, AreViolations, reported, reported_of, rule_name, IsUnbroken}
-use Rattle.schema.specs.Rules.Explained.{AreExplained}
+use Rattle.schema.specs.Rules.Breaks.{Break, Reported, AreViolations, reported, reported_of, rule_name}
+use Rattle.schema.specs.Rules.Explained.{OneByOne, IsExplained}
+use Rattle.schema.specs.declared.profile.Profile.{Profile}
+use Rattle.schema.specs.declared.profile.Profile.TheVariants.{Core, Cluster}
+use Rattle.schema.specs.declared.reason.Explained.{Explained}
 use Rattle.schema.specs.declared.violation.Violation.{Violation}
-use Rattle.stored.specs.Schemas.Accepted.{IsBroken}
 use Rattle.definition.specs.declared.finding.Fault.{Fault}
-use Rattle.crdx.specs.Internal.CheckText.{IsViolationText, IsBesidesText}
-use Rattle.crdx.specs.Program.CheckAnswer.{Besides, nothing, IsBesides, besides_lines, IsCheckAnswer, structural, violations, explained}
-use Rattle.crdx.specs.Program.DefinitionLines.{fault_lines, code_of as rule_code}
+use Rattle.crdx.specs.Internal.CheckText.{IsSaidText, IsDefinitionText}
+use Rattle.crdx.specs.Program.CheckAnswer.{Said, nothing, IsSaid, IsBeside, AreSaidOf, AreWithWords, AreLines, AreBreakLines, AreLinesBy, AreLinesOf, IsCheckAnswer, structural, refused}
+use Rattle.crdx.specs.Program.DefinitionLines.{line_of, code_of as rule_code}
 use Rattle.crdx.specs.Program.PatternLines.{code_of, pattern_lines}
 use Rattle.crdx.specs.Program.RefusedPatterns.{Refused}
-use Rattle.crdx.specs.Program.ViolationLines.{violation_line, violation_lines}
-use Rattle.schema.specs.declared.profile.Profile.{Profile}
+use Rattle.crdx.specs.Program.ViolationLines.{violation_line, violation_lines, explained_lines}
 use Rattle.crdx.specs.declared.running.answer.Answer.{Answer}
-use Rattle.crdx.proofs.RunLemmas.{some_break, none_broken}
 
 -- ---- no line is empty
 
@@ -38,80 +36,112 @@ some_letter (v ∷ xs) x ys none = cc
 some_line : (t : Reported) → violation_line t ≡ [] → ⊥
 some_line t none = some_letter (rule_name t.rule) _ _ none
 
-no_pattern_line : (why : Bool) (rs : List Refused) → pattern_lines why rs ≡ [] → rs ≡ []
-no_pattern_line why [] none = refl
-no_pattern_line false (r ∷ rs) none = absurd (some_letter (code_of r.fault) _ _ (empty_left _ _ none))
-no_pattern_line true (r ∷ rs) none = absurd (some_letter (code_of r.fault) _ _ (empty_left _ _ (empty_left _ _ none)))
+some_fault_line : (f : Fault) → line_of f ≡ [] → ⊥
+some_fault_line f none = some_letter (rule_code f.rule) _ _ none
 
-no_fault_line : (fs : List Fault) → fault_lines fs ≡ [] → fs ≡ []
-no_fault_line [] none = refl
-no_fault_line (f ∷ fs) none = absurd (some_letter (rule_code f.rule) _ _ (empty_left _ _ none))
-
--- what is said in no line is nothing
-no_besides : (why : Bool) (b : Besides) → besides_lines why b ≡ [] → b ≡ nothing
-no_besides why b none =
-    let refused = no_pattern_line why b.refused (empty_left _ _ none) in
-    let rest = empty_right (pattern_lines why b.refused) _ none in
-    let in_schema = no_fault_line b.in_schema (empty_left _ _ rest) in
-    let in_definition = no_fault_line b.in_definition (empty_right (fault_lines b.in_schema) _ rest) in
-    λ i. record { refused = refused i; in_schema = in_schema i; in_definition = in_definition i }
-
-nothing_or : (xs : List ℕ) → (xs ≡ []) ⊎ (xs ≢ [])
+pub nothing_or : (xs : List ℕ) → (xs ≡ []) ⊎ (xs ≢ [])
 nothing_or [] = inl refl
 nothing_or (x ∷ xs) = inr (λ none. cc)
 
+-- of no items, and of items that have none
+pub lines_of_none : {X : Type 0} (front : List ℕ) (why : Bool) (line : X → List ℕ) (said : List ℕ) → AreLines front why line [] said → said ≡ []
+lines_of_none front false line said are = are
+lines_of_none front true line said are = are
+
+no_items : {X : Type 0} (front : List ℕ) (why : Bool) (line : X → List ℕ) → ((x : X) → line x ≡ [] → ⊥) → (xs : List X) (said : List ℕ) → AreLines front why line xs said → said ≡ [] → xs ≡ []
+no_items front why line some [] said are none = refl
+no_items front false line some (x ∷ xs) said are none = absurd (some x (empty_right front _ (empty_left _ _ (sym are ∙ none))))
+no_items front true line some (x ∷ xs) said (words, rest, more, is) none = absurd (some x (empty_left _ _ (empty_right front _ (sym is ∙ none))))
+
+pub no_faults : (front : List ℕ) (why : Bool) (fs : List Fault) (said : List ℕ) → AreLines front why line_of fs said → said ≡ [] → fs ≡ []
+no_faults front why fs said are none = no_items front why line_of some_fault_line fs said are none
+
+no_patterns : (front : List ℕ) (why : Bool) (rs : List Refused) → pattern_lines front why rs ≡ [] → rs ≡ []
+no_patterns front why [] none = refl
+no_patterns front false (r ∷ rs) none = absurd (some_letter (code_of r.fault) _ _ (empty_right front _ (empty_left _ _ none)))
+no_patterns front true (r ∷ rs) none = absurd (some_letter (code_of r.fault) _ _ (empty_left _ _ (empty_right front _ (empty_left _ _ none))))
+
+no_breaks : (why : Bool) (raw : Raw) (bs : List Break) (said : List ℕ) → AreBreakLines why raw bs said → said ≡ [] → bs ≡ []
+no_breaks why raw [] said are none = refl
+no_breaks false raw (b ∷ bs) said are none = absurd (some_line (reported_of b) (empty_left _ _ (sym are ∙ none)))
+no_breaks true raw (b ∷ bs) said ([], each, is) none = absurd each
+no_breaks true raw (b ∷ bs) said (e ∷ found, each, is) none = absurd (some_line (reported e.violation) (empty_left _ _ (empty_left _ _ (sym is ∙ none))))
+
+breaks_of_none : (why : Bool) (raw : Raw) (said : List ℕ) → AreBreakLines why raw [] said → said ≡ []
+breaks_of_none false raw said are = are
+breaks_of_none true raw said ([], each, is) = is
+breaks_of_none true raw said (e ∷ found, each, is) = absurd each
+
+no_reported : (bs : List Break) → map reported_of bs ≡ [] → bs ≡ []
+no_reported [] none = refl
+no_reported (b ∷ bs) none = cc
+
+-- what is said in no line is nothing, and of nothing there is no line
+nothing_by : (profile : Profile) (document : Data) (version front : List ℕ) (why : Bool) (raw : Raw) (s : Said) (said : List ℕ) → IsBeside profile document version raw s → AreLinesBy profile front why raw s said
+    → said ≡ [] → s ≡ nothing
+nothing_by Core document version front why raw s said beside are none =
+    let bs = no_breaks why raw s.breaks said are none in
+    λ i. record { breaks = bs i; refused = beside.0 i; faults = beside.1 i }
+nothing_by Cluster document version front why raw s said beside (breaks, faults, of_breaks, of_faults, is) none =
+    let empty = sym is ∙ none in
+    let rest = empty_right breaks _ empty in
+    let bs = no_reported s.breaks (no_items front why violation_line some_line (map reported_of s.breaks) breaks of_breaks (empty_left breaks _ empty)) in
+    let rs = no_patterns front why s.refused (empty_left (pattern_lines front why s.refused) _ rest) in
+    let fs = no_faults front why s.faults faults of_faults (empty_right (pattern_lines front why s.refused) _ rest) in
+    λ i. record { breaks = bs i; refused = rs i; faults = fs i }
+
+pub nothing_said : (document : Data) (version front : List ℕ) (why : Bool) (raw : Raw) (s : Said) (said : List ℕ) → IsSaid document version raw s → AreLinesOf front why raw s said → said ≡ [] → s ≡ nothing
+nothing_said document version front why raw s said is are none = nothing_by raw.profile document version front why raw s said is.1 are none
+
+of_nothing_by : (profile : Profile) (front : List ℕ) (why : Bool) (raw : Raw) (said : List ℕ) → AreLinesBy profile front why raw nothing said → said ≡ []
+of_nothing_by Core front why raw said are = breaks_of_none why raw said are
+of_nothing_by Cluster front why raw said (breaks, faults, of_breaks, of_faults, is) =
+    is ∙ (ap (λ s. s ++ faults) (lines_of_none front why violation_line breaks of_breaks) ∙ lines_of_none front why line_of faults of_faults)
+
+pub of_nothing : (front : List ℕ) (why : Bool) (raw : Raw) (s : Said) (said : List ℕ) → AreLinesOf front why raw s said → s ≡ nothing → said ≡ []
+of_nothing front why raw s said are same = of_nothing_by raw.profile front why raw said (subst (λ t. AreLinesOf front why raw t said) same are)
+
 -- ---- an answer with and without lines
 
-none_explained : (raw : Raw) → AreExplained (IsBroken raw) raw [] → IsUnbroken (IsBroken raw)
-none_explained raw ([], are, each) p r is = contained [] _ (are.all p r is)
-none_explained raw (b ∷ breaks, are, each) p r is = absurd each
+check_answer : (document : Data) (version : List ℕ) (raw : Raw) (why : Bool) (said shown : List ℕ) (a : Answer)
+    → (said ++ shown ≡ [] → (a.status ≡ 0) × (string_bytes a.out ≡ codes "structural\n")) → (said ++ shown ≢ [] → (a.status ≡ 1) × (string_bytes a.out ≡ said ++ shown))
+    → IsSaidText document version raw [] why said → IsDefinitionText raw.profile document why shown → IsCheckAnswer document version raw why a.status (string_bytes a.out)
+check_answer document version raw why said shown a none some (s, is, are) (fs, of, lines) = elim (nothing_or (said ++ shown)) [
+  | inl empty ↦
+      let answer = none empty in
+      let same = nothing_said document version [] why raw s said is are (empty_left said shown empty) in
+      let no_fault = no_faults [] why fs shown lines (empty_right said shown empty) in
+      rw (answer.0, answer.1) (structural (subst (IsSaid document version raw) same is) (subst (AreSaidOf raw.profile document) no_fault of))
+  | inr full ↦
+      let answer = some full in
+      let one : (s ≢ nothing) ⊎ (fs ≢ []) = elim (nothing_or said) [
+        | inl empty ↦ inr (λ no. full (ap (λ t. t ++ shown) empty ∙ lines_of_none [] why line_of shown (subst (λ gs. AreLines [] why line_of gs shown) no lines)))
+        | inr there ↦ inl (λ no. there (of_nothing [] why raw s said are no))
+      ] in
+      rw (answer.0, answer.1) (refused s fs said shown is of one are lines)
+]
 
--- the lines of violations are those of the breaks that they report
-lines_of_breaks : (raw : Raw) (vs : List Violation) (are : AreViolations (IsBroken raw) vs) (said : List ℕ) → said ≡ flat_map (λ v. violation_line (reported v)) vs → said ≡ violation_lines (map reported_of are.0)
-lines_of_breaks raw vs are said same = same ∙ (sym (flat_map-map violation_line reported vs) ∙ ap violation_lines are.2)
-
-module _ (document : Data) (version : List ℕ) (raw : Raw) (profile : Profile) (said shown : List ℕ) (a : Answer)
-    (none : said ++ shown ≡ [] → (a.status ≡ 0) × (string_bytes a.out ≡ codes "structural\n"))
-    (some : said ++ shown ≢ [] → (a.status ≡ 1) × (string_bytes a.out ≡ said ++ shown)) where
-  abbrev Answers : Bool → Type 0
-  Answers why = IsCheckAnswer document version raw profile why a.status (string_bytes a.out)
-
-  nothing_said : (why : Bool) (b : Besides) → said ≡ [] → shown ≡ [] → shown ≡ besides_lines why b → IsUnbroken (IsBroken raw) → IsBesides profile document version raw.tree b → Answers why
-  nothing_said why b no_line no_besides_line is unbroken under =
-      let answer = none (ap (λ s. s ++ shown) no_line ∙ no_besides_line) in
-      rw (answer.0, answer.1) (structural why unbroken (subst (IsBesides profile document version raw.tree) (no_besides why b (sym is ∙ no_besides_line)) under))
-
-  -- some text, which is that of two lists of lines
-  written : (A B : List ℕ) → said ≡ A → shown ≡ B → said ++ shown ≢ [] → (a.status ≡ 1) × (string_bytes a.out ≡ A ++ B)
-  written A B same is not_empty = let yes = some not_empty in (yes.0, yes.1 ∙ (ap (λ s. s ++ shown) same ∙ ap (λ s. A ++ s) is))
-
-  -- what is said in some line is not nothing
-  something : (why : Bool) (b : Besides) → shown ≢ [] → shown ≡ besides_lines why b → b ≢ nothing
-  something why b some_shown is same = some_shown (is ∙ ap (besides_lines why) same)
-
-  check_answer : (why : Bool) → IsViolationText raw why said → IsBesidesText document version raw.tree profile why shown → Answers why
-  check_answer true ([], are, same) (b, under, is) = elim (nothing_or shown) [
-    | inl empty ↦ nothing_said true b same empty is (none_explained raw are) under
-    | inr some_shown ↦
-        let yes = written _ _ same is (λ no. some_shown (empty_right said shown no)) in
-        rw (yes.0, yes.1) (explained [] b are under (inr (something true b some_shown is)))
-  ]
-  check_answer true (e ∷ found, are, same) (b, under, is) =
-      let yes = written _ _ same is (λ empty. some_line (reported e.violation) (empty_left _ _ (empty_left _ _ (sym same ∙ empty_left said shown empty)))) in
-      rw (yes.0, yes.1) (explained (e ∷ found) b are under (inl (λ no. cc)))
-  check_answer false ([], are, same) (b, under, is) = elim (nothing_or shown) [
-    | inl empty ↦ nothing_said false b same empty is (none_broken (IsBroken raw) are) under
-    | inr some_shown ↦
-        let yes = written _ _ (lines_of_breaks raw [] are said same) is (λ no. some_shown (empty_right said shown no)) in
-        rw (yes.0, yes.1) (violations are.0 b are.1 under (inr (something false b some_shown is)))
-  ]
-  check_answer false (v ∷ vs, are, same) (b, under, is) =
-      let yes = written _ _ (lines_of_breaks raw (v ∷ vs) are said same) is (λ empty. some_line (reported v) (empty_left _ _ (sym same ∙ empty_left said shown empty))) in
-      rw (yes.0, yes.1) (violations are.0 b are.1 under (inl (some_break (v ∷ vs) are.0 are.2 (λ no. cc))))
-
-pub check_result : (document : Data) (version : List ℕ) (raw : Raw) (profile : Profile) (why : Bool) (said shown : List ℕ) (r : Result Answer AllocError)
+pub check_result : (document : Data) (version : List ℕ) (raw : Raw) (why : Bool) (said shown : List ℕ) (r : Result Answer AllocError)
     → (said ++ shown ≡ [] → IfOk r (λ a. (a.status ≡ 0) × (string_bytes a.out ≡ codes "structural\n")))
-    → (said ++ shown ≢ [] → IfOk r (λ a. (a.status ≡ 1) × (string_bytes a.out ≡ said ++ shown))) → IsViolationText raw why said → IsBesidesText document version raw.tree profile why shown
-    → IfOk r (λ a. IsCheckAnswer document version raw profile why a.status (string_bytes a.out))
-check_result document version raw profile why said shown (Ok a) none some is are = check_answer document version raw profile said shown a none some why is are
-check_result document version raw profile why said shown (Err e) none some is are = tt
+    → (said ++ shown ≢ [] → IfOk r (λ a. (a.status ≡ 1) × (string_bytes a.out ≡ said ++ shown))) → IsSaidText document version raw [] why said → IsDefinitionText raw.profile document why shown
+    → IfOk r (λ a. IsCheckAnswer document version raw why a.status (string_bytes a.out))
+check_result document version raw why said shown (Ok a) none some is are = check_answer document version raw why said shown a none some is are
+check_result document version raw why said shown (Err e) none some is are = tt
+
+-- ---- lines of violations are those of the breaks that they report
+
+words_mapped : {X Y : Type 0} (front : List ℕ) (line : Y → List ℕ) (f : X → Y) (xs : List X) (said : List ℕ) → AreWithWords front (λ x. line (f x)) xs said → AreWithWords front line (map f xs) said
+words_mapped front line f [] said are = are
+words_mapped front line f (x ∷ xs) said (words, rest, more, is) = (words, rest, words_mapped front line f xs rest more, is)
+
+flat_mapped : {X Y : Type 0} (front : List ℕ) (line : Y → List ℕ) (f : X → Y) (xs : List X) → flat_map (λ x. front ++ line (f x)) xs ≡ flat_map (λ y. front ++ line y) (map f xs)
+flat_mapped front line f [] = refl
+flat_mapped front line f (x ∷ xs) = ap (λ s. (front ++ line (f x)) ++ s) (flat_mapped front line f xs)
+
+lines_mapped : {X Y : Type 0} (front : List ℕ) (why : Bool) (line : Y → List ℕ) (f : X → Y) (xs : List X) (said : List ℕ) → AreLines front why (λ x. line (f x)) xs said → AreLines front why line (map f xs) said
+lines_mapped front false line f xs said are = are ∙ flat_mapped front line f xs
+lines_mapped front true line f xs said are = words_mapped front line f xs said are
+
+pub lines_of_breaks : (front : List ℕ) (why : Bool) (vs : List Violation) (bs : List Break) (said : List ℕ) → map reported vs ≡ map reported_of bs → AreLines front why (λ v. violation_line (reported v)) vs said
+    → AreLines front why violation_line (map reported_of bs) said
+lines_of_breaks front why vs bs said same are = subst (λ ts. AreLines front why violation_line ts said) same (lines_mapped front why violation_line reported vs said are)

@@ -23,7 +23,7 @@ use Rattle.std.proofs.lemmas.List.Elements.{All-from_recursion}
 use Rattle.clap.proofs.WalkLemmas.{find_row, first_value-rows}
 use Rattle.crdx.specs.Program.CommandLine.{crdx_app, entered, faults, value_of, values_of, crd_input, input_of, standard_inputs, decimal_value, command_names, ReadsObjectsTwice, VariesNoObject, IsCommand, IsHelp, IsRequestOf, IsUsageErrorOrMemory, IsAsked, is_other_profile, Asks}
 use Rattle.crdx.specs.declared.arguments.request.Request.{Request}
-use Rattle.crdx.specs.declared.arguments.request.Request.TheVariants.{Check, Explain, Object, ObjectLines, SuggestPools, Sample, Cover, Help, UsageError, NoMemory}
+use Rattle.crdx.specs.declared.arguments.request.Request.TheVariants.{Check, CheckAll, Explain, Object, ObjectLines, SuggestPools, Sample, Cover, Help, UsageError, NoMemory}
 
 -- the command that was met has this name and these rows
 pub met_as : {Z : Type 0} (s : Option (Box SubCommand Z)) (name : Text) (rows : List Row) → option_map (λ b. (out-SubCommand (box_value b)).name.now) s ≡ Some name
@@ -126,6 +126,7 @@ faults_are arguments = refl
 -- what is asked where `clap` takes the arguments, and where it refuses them
 pub asks_command : (arguments : List Text) (named : Option (Text × List Row)) (o : Request) → named ≡ entered arguments → faults arguments ≡ [] → IsAsked named o → Asks arguments o
 asks_command arguments named (Check w) same none is = (none, subst (λ n. IsAsked n (Check w)) same is)
+asks_command arguments named (CheckAll w) same none is = (none, subst (λ n. IsAsked n (CheckAll w)) same is)
 asks_command arguments named (Explain w) same none is = (none, subst (λ n. IsAsked n (Explain w)) same is)
 asks_command arguments named (Object w) same none is = (none, subst (λ n. IsAsked n (Object w)) same is)
 asks_command arguments named (ObjectLines w) same none is = (none, subst (λ n. IsAsked n (ObjectLines w)) same is)
@@ -142,6 +143,7 @@ no_help k memory (inr version) = cc
 
 pub asks_refused : (arguments : List Text) (e : Error) (o : Request) → HasKind (faults arguments) e → IsRequestOf (kind_of e) o → Asks arguments o
 asks_refused arguments e (Check w) has is = absurd is
+asks_refused arguments e (CheckAll w) has is = absurd is
 asks_refused arguments e (Explain w) has is = absurd is
 asks_refused arguments e (Object w) has is = absurd is
 asks_refused arguments e (ObjectLines w) has is = absurd is

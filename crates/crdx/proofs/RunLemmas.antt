@@ -26,7 +26,7 @@ use Rattle.crdx.specs.Program.Standard.{Standard, asks_as_written}
 use Rattle.crdx.specs.declared.inputs.InputName.{InputName}
 use Rattle.crdx.specs.Program.Documents.{Read as ReadDocuments, Documents, file_name, AreAmong}
 use Rattle.crdx.specs.Internal.ExitStatus.{status, cause_of_reading, cause_of_refusal, cause_of_pools, cause_of_walk, IsWritten}
-use Rattle.crdx.specs.Internal.Cause.{IsReadFailure, IsReadCause, IsPatternsCause, IsWrittenCause, IsBrokenCause, IsSchemaCause, IsPoolsCause, IsPlanCause, IsTextCause, IsAfterCause, IsOfPlan, IsRequestedPlanCause, IsFieldCause, IsObjectCause, IsDocumentCause, IsInputCause, IsSampleCause, IsSampleResult, IsWalkCause, IsCoveringCause, IsCoverCause, IsCoverResult}
+use Rattle.crdx.specs.Internal.Cause.{IsReadFailure, IsReadCause, IsVersionCause, IsPatternsCause, IsWrittenCause, IsBrokenCause, IsSchemaCause, IsPoolsCause, IsPlanCause, IsTextCause, IsAfterCause, IsOfPlan, IsRequestedPlanCause, IsFieldCause, IsObjectCause, IsDocumentCause, IsInputCause, IsSampleCause, IsSampleResult, IsWalkCause, IsCoveringCause, IsCoverCause, IsCoverResult}
 use Rattle.plan.specs.Pools.Pools.{Pools}
 use Rattle.schema.specs.declared.profile.Profile.{Profile}
 use Rattle.plan.specs.Pools.PoolsFault.{IsPoolsFaultBy}
@@ -53,7 +53,7 @@ use Rattle.crdx.specs.declared.arguments.request.CoverArguments.{CoverArguments}
 use Rattle.crdx.specs.declared.arguments.request.PlanArguments.{PlanArguments}
 use Rattle.crdx.specs.declared.arguments.request.SampleArguments.{SampleArguments}
 use Rattle.crdx.specs.declared.arguments.request.Request.{Request}
-use Rattle.crdx.specs.declared.arguments.request.Request.TheVariants.{Explain, Object, Sample, Cover}
+use Rattle.crdx.specs.declared.arguments.request.Request.TheVariants.{CheckAll, Explain, Object, Sample, Cover}
 use Rattle.crdx.specs.declared.walk.fault.WFault.{WFault}
 use Rattle.crdx.specs.declared.walk.fault.WFault.TheVariants as w
 use Rattle.jtree.specs.Failures.{HasFailed, one_more}
@@ -92,6 +92,23 @@ module _ (has : Documents) (unread read : ℕ) (arguments : CommonArguments) whe
   pub broken : (raw : Raw) (vs : List Violation) → IsRequestedSchema has arguments raw → AreViolations (IsBroken raw) vs → vs ≢ []
       → (breaks : List Break) × (map reported vs ≡ map reported_of breaks) × HasBreaks has arguments breaks
   broken raw vs asked are some = (are.0, are.2, (raw, asked, are.1, some_break vs are.0 are.2 some))
+
+-- why a request for all versions has no answer
+pub input_of_versions : (has : Documents) (unread read : ℕ) (arguments : CommonArguments) (document : Data) (cause : Cause) → has (numbers_of arguments) (file_name arguments.crd) (Ok document)
+    → IsVersionCause arguments document cause → IsInputCause has unread read (CheckAll arguments) cause
+input_of_versions has unread read arguments document (Crd fault) at why = inr (document, at, fault, why)
+input_of_versions has unread read arguments document (Place input.Crd code.KeywordForm p) at why = inr (document, at, s.KeywordForm p, why)
+input_of_versions has unread read arguments document (Place input.Crd code.TooLarge p) at why = inr (document, at, s.TooLarge p, why)
+input_of_versions has unread read arguments document NoMemory at why = tt
+input_of_versions has unread read arguments document _ at why = absurd why
+
+-- why there is no definition of which all versions are judged
+pub input_of_no_versions : (has : Documents) (unread read : ℕ) (arguments : CommonArguments) (cause : Cause)
+    → IsReadFailure (has (numbers_of arguments)) unread read input.Crd (file_name arguments.crd) cause → IsInputCause has unread read (CheckAll arguments) cause
+input_of_no_versions has unread read arguments (Read i) why = why.1
+input_of_no_versions has unread read arguments (Document i fault) why = inl (fault, why.1, why.2)
+input_of_no_versions has unread read arguments NoMemory why = tt
+input_of_no_versions has unread read arguments _ why = absurd why
 
 -- where there are no violations, no rule is broken
 pub none_broken : (rules : Breaking) → AreViolations rules [] → IsUnbroken rules

@@ -8,14 +8,15 @@ pub mod ViolationLines
 pub mod RefusedPatterns
 pub mod PatternLines
 pub mod DefinitionLines
-pub mod CheckAnswer
 pub mod Envelope
 pub mod TextList
 pub mod Standard
+pub mod CheckAnswer
 pub mod ObjectAnswer
 pub mod FieldLines
 pub mod FieldAnswer
 pub mod Requested
+pub mod VersionAnswers
 pub mod LineAnswers
 pub mod Objects
 pub mod RunResult

@@ -9,6 +9,7 @@ mod answer;
 mod as_written;
 mod causes;
 mod checking;
+mod checking_all;
 mod covering;
 mod definition_faults;
 mod documents;
@@ -22,6 +23,7 @@ mod object_inputs;
 mod objects;
 mod refusal;
 mod reporting;
+mod said;
 mod sampling;
 mod schema_formats;
 mod schema_patterns;
@@ -32,6 +34,7 @@ use crate::inputs::Inputs;
 use crate::running::answer::Answer;
 use crate::running::causes::Cause;
 use crate::running::checking::check;
+use crate::running::checking_all::check_all;
 use crate::running::covering::cover_paths;
 use crate::running::exit_status::{DONE, USAGE};
 use crate::running::explaining::explain;
@@ -58,6 +61,10 @@ pub fn run<I: Inputs, W: Sink, E: Sink>(
     match parse_arguments(alloc, arguments) {
         Request::Check(arguments) => {
             let answer = check(alloc, &arguments, inputs);
+            finish(alloc, &arguments, &answer, inputs, out, err)
+        }
+        Request::CheckAll(arguments) => {
+            let answer = check_all(alloc, &arguments, inputs);
             finish(alloc, &arguments, &answer, inputs, out, err)
         }
         Request::Explain(arguments) => {

@@ -24,6 +24,7 @@ use Rattle.crdx.specs.Program.FieldAnswer.{IsFieldAnswer}
 use Rattle.crdx.specs.Program.ObjectAnswer.{IsAnswerBy}
 use Rattle.crdx.specs.Program.Requested.{numbers_of, IsRequestedSchema, IsRequestedWritten, HasReadFault, HasPoolsFault, IsAcceptedSchema, IsRequested, IsRequestedWalk, pool_limits_of, total_of}
 use Rattle.crdx.specs.Program.Standard.{Standard}
+use Rattle.crdx.specs.Program.VersionAnswers.{IsVersionFault}
 use Rattle.crdx.specs.Internal.PatternsFound.{refused_of}
 use Rattle.crdx.specs.Program.RefusedPatterns.{AreRefusedPatterns}
 use Rattle.crdx.specs.Program.Objects.{HasInput, IsNoText, IsBrokenAt}
@@ -81,6 +82,14 @@ IsReadCause has before now arguments (Place input.Crd code.KeywordForm p) = HasR
 IsReadCause has before now arguments (Place input.Crd code.TooLarge p) = HasReadFault has arguments (s.TooLarge p)
 IsReadCause has before now arguments NoMemory = Unit {0}
 IsReadCause has before now arguments _ = ⊥
+
+-- why the schema of one of the versions is not read
+abbrev pub IsVersionCause : CommonArguments → Data → Cause → Type 0
+IsVersionCause arguments document (Crd fault) = IsVersionFault arguments document fault
+IsVersionCause arguments document (Place input.Crd code.KeywordForm p) = IsVersionFault arguments document (s.KeywordForm p)
+IsVersionCause arguments document (Place input.Crd code.TooLarge p) = IsVersionFault arguments document (s.TooLarge p)
+IsVersionCause arguments document NoMemory = Unit {0}
+IsVersionCause arguments document _ = ⊥
 
 -- why there is no schema that is taken
 abbrev pub IsSchemaCause : Documents → ℕ → ℕ → CommonArguments → Cause → Type 0

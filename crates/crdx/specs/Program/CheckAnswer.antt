@@ -1,21 +1,23 @@
--- What `check` answers of a schema as it is written: what it breaks, and under the profile `cluster` which of its patterns are refused, and what
--- else a cluster refuses in it and in its definition (this project's own).
-use Rattle.std.specs.Prelude.{◌≡◌, ◌≢◌, ◌⊎◌, ◌++◌, ℕ, List, [], Bool, true, false, Option, Some, None, option_and_then, if◌then◌else◌, map, codes}
+-- What `check` answers of a schema as it is written: what is broken in it by the profile, and under `cluster` which of its patterns are refused,
+-- and what else a cluster refuses in it and in its definition (this project's own).
+use Rattle.std.specs.Prelude.{◌≡◌, ◌≢◌, ◌⊎◌, ◌++◌, ℕ, List, [], ◌∷◌, Bool, true, false, Option, Some, None, option_and_then, if◌then◌else◌, map, flat_map, codes}
 use Rattle.std.specs.Str.{bytes_eq}
 use Rattle.jtree.specs.Data.{Data, text, list, Items, no_items, item}
 use Rattle.jtree.specs.Path.{under, under2}
 use Rattle.schema.specs.Document.Raw.{Raw}
-use Rattle.schema.specs.Rules.Breaks.{Break, AreBreaks, IsUnbroken, reported_of}
-use Rattle.schema.specs.Rules.Explained.{AreExplained}
+use Rattle.schema.specs.Rules.Breaks.{Break, Breaking, AreBreaks, Reported, reported_of}
+use Rattle.schema.specs.Rules.Cluster.{IsBrokenFor}
+use Rattle.schema.specs.Rules.Explained.{OneByOne, IsExplained}
 use Rattle.schema.specs.declared.reason.Explained.{Explained}
-use Rattle.stored.specs.Schemas.Accepted.{IsBroken}
+use Rattle.cluster.specs.Refused.{IsBrokenBy}
 use Rattle.definition.specs.Faults.{AreFaults, AreSchemaFaults}
 use Rattle.definition.specs.Reading.{is_there}
 use Rattle.definition.specs.declared.finding.Fault.{Fault}
-use Rattle.crdx.specs.Program.DefinitionLines.{fault_lines}
+use Rattle.crdx.specs.Program.DefinitionLines.{line_of}
 use Rattle.crdx.specs.Program.PatternLines.{pattern_lines}
 use Rattle.crdx.specs.Program.RefusedPatterns.{Refused, AreRefusedPatterns}
-use Rattle.crdx.specs.Program.ViolationLines.{violation_lines, explained_lines}
+use Rattle.crdx.specs.Program.Standard.{tests_of_texts}
+use Rattle.crdx.specs.Program.ViolationLines.{violation_line, violation_lines, explained_lines}
 use Rattle.schema.specs.declared.profile.Profile.{Profile}
 use Rattle.schema.specs.declared.profile.Profile.TheVariants.{Core, Cluster}
 
@@ -39,31 +41,66 @@ abbrev pub has_status : Data → List ℕ → Bool
 has_status document name =
     is_there (option_and_then (λ v. under2 v (codes "subresources") (codes "status")) (version_of name (under2 document (codes "spec") (codes "versions"))))
 
--- ---- what a cluster refuses besides
+-- ---- what is said of a schema
 
--- patterns that are refused, and what is broken in the schema and in the definition
-pub record Besides : Type 0 where
+-- which rules it breaks, which of its patterns are refused, and what else a cluster refuses in it
+pub record Said : Type 0 where
+  pub breaks : List Break
   pub refused : List Refused
-  pub in_schema : List Fault
-  pub in_definition : List Fault
+  pub faults : List Fault
 
-abbrev pub nothing : Besides
-nothing = record { refused = []; in_schema = []; in_definition = [] }
+abbrev pub nothing : Said
+nothing = record { breaks = []; refused = []; faults = [] }
 
--- so it is in a definition, of whose version of this name this is the schema; under `core` there is nothing
-abbrev pub IsBesides : Profile → Data → List ℕ → Data → Besides → Type 0
-IsBesides Core document version raw b = b ≡ nothing
-IsBesides Cluster document version raw b =
-    AreRefusedPatterns raw b.refused × AreSchemaFaults (has_status document version) raw b.in_schema × AreFaults document b.in_definition
+-- By which rules a schema is judged. Defaults are judged where no pattern is refused.
+abbrev pub IsBrokenBeside : List Refused → Raw → Breaking
+IsBrokenBeside [] raw = IsBrokenBy tests_of_texts raw.profile raw
+IsBrokenBeside (r ∷ rs) raw = IsBrokenFor raw.profile raw
 
-abbrev pub besides_lines : Bool → Besides → List ℕ
-besides_lines why b = pattern_lines why b.refused ++ (fault_lines b.in_schema ++ fault_lines b.in_definition)
+-- what stands beside the rules, of which a cluster alone asks
+abbrev pub IsBeside : Profile → Data → List ℕ → Raw → Said → Type 0
+IsBeside Core document version raw s = (s.refused ≡ []) × (s.faults ≡ [])
+IsBeside Cluster document version raw s = AreRefusedPatterns raw.tree s.refused × AreSchemaFaults (has_status document version) raw.tree s.faults
+
+-- so it is with the schema of the version of this name in a definition
+abbrev pub IsSaid : Data → List ℕ → Raw → Said → Type 0
+IsSaid document version raw s = AreBreaks (IsBrokenBeside s.refused raw) s.breaks × IsBeside raw.profile document version raw s
+
+-- what is broken in the definition, of which a cluster alone asks
+abbrev pub AreSaidOf : Profile → Data → List Fault → Type 0
+AreSaidOf Core document fs = fs ≡ []
+AreSaidOf Cluster document fs = AreFaults document fs
+
+-- ---- the lines, each behind the same text
+
+-- with `--why`: below each line one of four spaces and words, of which no more is said
+abbrev pub AreWithWords : {X : Type 0} → List ℕ → (X → List ℕ) → List X → List ℕ → Type 0
+AreWithWords front line [] said = said ≡ []
+AreWithWords front line (x ∷ xs) said = (words : List ℕ) × (rest : List ℕ) × AreWithWords front line xs rest
+    × (said ≡ front ++ (line x ++ (front ++ (codes "    " ++ (words ++ (codes "\n" ++ rest))))))
+
+abbrev pub AreLines : {X : Type 0} → List ℕ → Bool → (X → List ℕ) → List X → List ℕ → Type 0
+AreLines front false line xs said = said ≡ flat_map (λ x. front ++ line x) xs
+AreLines front true line xs said = AreWithWords front line xs said
+
+-- of what is broken by the rules of this project, with the reasons where they are asked for
+abbrev pub AreBreakLines : Bool → Raw → List Break → List ℕ → Type 0
+AreBreakLines false raw bs said = said ≡ violation_lines (map reported_of bs)
+AreBreakLines true raw bs said = (found : List Explained) × OneByOne (IsExplained raw) bs found × (said ≡ explained_lines found)
+
+-- of all that is said of a schema by a profile
+abbrev pub AreLinesBy : Profile → List ℕ → Bool → Raw → Said → List ℕ → Type 0
+AreLinesBy Core front why raw s said = AreBreakLines why raw s.breaks said
+AreLinesBy Cluster front why raw s said = (breaks : List ℕ) × (faults : List ℕ) × AreLines front why violation_line (map reported_of s.breaks) breaks
+    × AreLines front why line_of s.faults faults × (said ≡ breaks ++ (pattern_lines front why s.refused ++ faults))
+
+abbrev pub AreLinesOf : List ℕ → Bool → Raw → Said → List ℕ → Type 0
+AreLinesOf front why raw s said = AreLinesBy raw.profile front why raw s said
+
+-- ---- the answer
 
 -- with `--why` or without, the exit status, and the whole text on standard output
-pub data IsCheckAnswer (document : Data) (version : List ℕ) (raw : Raw) (profile : Profile) : Bool → ℕ → List ℕ → Type 0 where
-  structural : (why : Bool) → IsUnbroken (IsBroken raw) → IsBesides profile document version raw.tree nothing → IsCheckAnswer document version raw profile why 0 (codes "structural\n")
-  violations : (breaks : List Break) (b : Besides) → AreBreaks (IsBroken raw) breaks → IsBesides profile document version raw.tree b → (breaks ≢ []) ⊎ (b ≢ nothing)
-      → IsCheckAnswer document version raw profile false 1 (violation_lines (map reported_of breaks) ++ besides_lines false b)
-  -- the violations with their reasons
-  explained : (found : List Explained) (b : Besides) → AreExplained (IsBroken raw) raw found → IsBesides profile document version raw.tree b → (found ≢ []) ⊎ (b ≢ nothing)
-      → IsCheckAnswer document version raw profile true 1 (explained_lines found ++ besides_lines true b)
+pub data IsCheckAnswer (document : Data) (version : List ℕ) (raw : Raw) (why : Bool) : ℕ → List ℕ → Type 0 where
+  structural : IsSaid document version raw nothing → AreSaidOf raw.profile document [] → IsCheckAnswer document version raw why 0 (codes "structural\n")
+  refused : (s : Said) (fs : List Fault) (of_schema of_definition : List ℕ) → IsSaid document version raw s → AreSaidOf raw.profile document fs → (s ≢ nothing) ⊎ (fs ≢ [])
+      → AreLinesOf [] why raw s of_schema → AreLines [] why line_of fs of_definition → IsCheckAnswer document version raw why 1 (of_schema ++ of_definition)

@@ -25,7 +25,7 @@ use Rattle.crdx.specs.declared.arguments.request.PoolsArguments.{PoolsArguments}
 use Rattle.crdx.specs.declared.arguments.request.PlanArguments.{PlanArguments}
 use Rattle.crdx.specs.declared.arguments.request.SampleArguments.{SampleArguments}
 use Rattle.crdx.specs.declared.arguments.request.Request.{Request}
-use Rattle.crdx.specs.declared.arguments.request.Request.TheVariants.{Check, Explain, Object, ObjectLines, SuggestPools, Sample, Cover, Help, UsageError, NoMemory}
+use Rattle.crdx.specs.declared.arguments.request.Request.TheVariants.{Check, CheckAll, Explain, Object, ObjectLines, SuggestPools, Sample, Cover, Help, UsageError, NoMemory}
 
 -- a word that has to be there
 abbrev pub required_rule : Text → Rule
@@ -47,10 +47,17 @@ number_rule id most usual = record (option_rule id) { parser = Some (Signed (pos
 abbrev pub flag_rule : Text → Rule
 flag_rule id = record (new_rule id) { long = Some id; action = Some SetTrue }
 
--- a command, with the arguments that every command takes
-abbrev pub crd_app : Text → App
-crd_app name = with_rule (with_rule (with_rule (with_rule (with_rule (new_app name) (required_rule (codes "CRD"))) (required_rule (codes "VERSION")))
+-- a command, with the arguments that every command takes, of which this is the version
+abbrev pub crd_app_with : Rule → Text → App
+crd_app_with version name = with_rule (with_rule (with_rule (with_rule (with_rule (new_app name) (required_rule (codes "CRD"))) version)
     (flag_rule (codes "large"))) (flag_rule (codes "why"))) (option_rule (codes "profile"))
+
+abbrev pub crd_app : Text → App
+crd_app name = crd_app_with (required_rule (codes "VERSION")) name
+
+-- the version may be left out
+abbrev pub check_app : App
+check_app = crd_app_with (new_rule (codes "VERSION")) (codes "check")
 
 abbrev pub explain_app : App
 explain_app = with_rule (crd_app (codes "explain")) (new_rule (codes "PATH"))
@@ -77,7 +84,7 @@ top_app = on_top (λ s. record s { has_version = true; subcommand_required = tru
 
 abbrev pub crdx_app : App
 crdx_app = with_subcommand (with_subcommand (with_subcommand (with_subcommand (with_subcommand (with_subcommand (with_subcommand (with_subcommand (with_subcommand top_app
-    (crd_app (codes "check")).top) explain_app.top) validate_app.top) (object_app (codes "prune")).top) (object_app (codes "default")).top)
+    check_app.top) explain_app.top) validate_app.top) (object_app (codes "prune")).top) (object_app (codes "default")).top)
     (object_app (codes "leaves")).top) pools_app.top) sample_app.top) cover_app.top
 
 -- what `clap` refuses of the arguments after the program's name, and the command that they name with the value of each of its arguments
@@ -212,9 +219,18 @@ AsksAllAndSome named = (rows : List Row) × (named ≡ Some (codes "sample", row
 abbrev pub AsksOtherProfile : Option (Text × List Row) → Type 0
 AsksOtherProfile named = (name : Text) × (rows : List Row) × (named ≡ Some (name, rows)) × (is_other_profile (first_of (codes "profile") rows) ≡ true)
 
+-- no version is named, and the profile is not that of a cluster
+abbrev pub IsOfNoVersion : List Row → Type 0
+IsOfNoVersion rows = (first_of (codes "VERSION") rows ≡ None) × (profile_by (first_of (codes "profile") rows) ≡ Core)
+
+abbrev pub ChecksNoVersion : Option (Text × List Row) → Type 0
+ChecksNoVersion named = (rows : List Row) × (named ≡ Some (codes "check", rows)) × IsOfNoVersion rows
+
 -- what a command that was named asks for
 abbrev pub IsCommand : Option (Text × List Row) → Request → Type 0
-IsCommand named (Check arguments) = (rows : List Row) × (named ≡ Some (codes "check", rows)) × AreCommonArguments rows arguments
+IsCommand named (Check arguments) = (rows : List Row) × (named ≡ Some (codes "check", rows)) × AreCommonArguments rows arguments × (first_of (codes "VERSION") rows ≡ None → ⊥)
+IsCommand named (CheckAll arguments) = (rows : List Row) × (named ≡ Some (codes "check", rows)) × AreCommonArguments rows arguments × (first_of (codes "VERSION") rows ≡ None)
+    × (arguments.profile ≡ Core → ⊥)
 IsCommand named (Explain arguments) = (rows : List Row) × (named ≡ Some (codes "explain", rows)) × AreExplainArguments rows arguments
 IsCommand named (Object arguments) = (rows : List Row) × (named ≡ Some (object_command_name arguments.command, rows)) × AreObjectArguments arguments.command rows arguments
     × (IsReadTwice rows (Some (object_input rows)) → ⊥) × IsFlagOf (codes "lines") rows false
@@ -226,7 +242,7 @@ IsCommand named (Sample arguments) = (rows : List Row) × (named ≡ Some (codes
     × (arguments.all ≡ true → IsGiven (codes "count") rows → ⊥)
 IsCommand named (Cover arguments) = (rows : List Row) × (named ≡ Some (codes "cover", rows)) × AreCoverArguments rows arguments × (IsReadTwice rows (pools_input rows) → ⊥)
 IsCommand named (Help text) = ⊥
-IsCommand named (UsageError text) = All (λ name. (rows : List Row) → named ≢ Some (name, rows)) command_names ⊎ (ReadsInputTwice named ⊎ (AsksAllAndSome named ⊎ (MixesObjects named ⊎ AsksOtherProfile named)))
+IsCommand named (UsageError text) = All (λ name. (rows : List Row) → named ≢ Some (name, rows)) command_names ⊎ (ReadsInputTwice named ⊎ (AsksAllAndSome named ⊎ (MixesObjects named ⊎ (AsksOtherProfile named ⊎ ChecksNoVersion named))))
 IsCommand named NoMemory = Unit {0}
 
 abbrev pub IsHelp : ErrorKind → Type 0
@@ -249,9 +265,11 @@ abbrev pub IsAsked : Option (Text × List Row) → Request → Type 0
 IsAsked named request = IsCommand named request × (AsksOtherProfile named → IsUsageErrorOrMemory request)
 
 -- what the arguments ask for: a command, or help; or they are refused, by `clap`, or since the command names the standard input
--- twice, asks for all samples and for a number of them, varies no object or several, or names another profile. Running out of memory says nothing of them.
+-- twice, asks for all samples and for a number of them, varies no object or several, names another profile, or names no version outside a
+-- cluster's. Running out of memory says nothing of them.
 abbrev pub Asks : List Text → Request → Type 0
 Asks arguments (Check w) = (faults arguments ≡ []) × IsAsked (entered arguments) (Check w)
+Asks arguments (CheckAll w) = (faults arguments ≡ []) × IsAsked (entered arguments) (CheckAll w)
 Asks arguments (Explain w) = (faults arguments ≡ []) × IsAsked (entered arguments) (Explain w)
 Asks arguments (Object w) = (faults arguments ≡ []) × IsAsked (entered arguments) (Object w)
 Asks arguments (ObjectLines w) = (faults arguments ≡ []) × IsAsked (entered arguments) (ObjectLines w)

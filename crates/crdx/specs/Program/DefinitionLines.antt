@@ -1,5 +1,5 @@
 -- What is printed of the rules of a cluster that are broken in a definition or in its schema: a line for each (this project's own).
-use Rattle.std.specs.Prelude.{ℕ, List, ◌++◌, flat_map, codes}
+use Rattle.std.specs.Prelude.{ℕ, List, ◌++◌, codes}
 use Rattle.jtree.specs.Data.{text}
 use Rattle.jtree.specs.Text.{compact}
 use Rattle.definition.specs.Faults.{Reported, reported}
@@ -61,6 +61,3 @@ fault_line f = code_of f.rule ++ (codes " " ++ (compact (text f.pointer) ++ (cod
 
 abbrev pub line_of : Fault → List ℕ
 line_of fault = fault_line (reported fault)
-
-abbrev pub fault_lines : List Fault → List ℕ
-fault_lines faults = flat_map line_of faults

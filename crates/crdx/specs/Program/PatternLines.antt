@@ -26,10 +26,10 @@ pattern_line r = code_of r.fault ++ (codes " " ++ (compact (text r.pattern.point
 abbrev pub found_line : Refused → List ℕ
 found_line r = codes "    \"pattern\": found " ++ (compact (text r.pattern.text) ++ (codes "; " ++ (allowed_by r.fault ++ codes "\n")))
 
--- with `--why` or without
-abbrev pub lines_of_pattern : Bool → Refused → List ℕ
-lines_of_pattern false r = pattern_line r
-lines_of_pattern true r = pattern_line r ++ found_line r
+-- with `--why` or without, each behind a text
+abbrev pub lines_of_pattern : List ℕ → Bool → Refused → List ℕ
+lines_of_pattern front false r = front ++ pattern_line r
+lines_of_pattern front true r = front ++ (pattern_line r ++ (front ++ found_line r))
 
-abbrev pub pattern_lines : Bool → List Refused → List ℕ
-pattern_lines why rs = flat_map (lines_of_pattern why) rs
+abbrev pub pattern_lines : List ℕ → Bool → List Refused → List ℕ
+pattern_lines front why rs = flat_map (lines_of_pattern front why) rs

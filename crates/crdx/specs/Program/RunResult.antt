@@ -1,5 +1,5 @@
 -- What a run answers: its exit status, and what it leaves on standard output (this project's own).
-use Rattle.std.specs.Prelude.{◌≡◌, ◌≢◌, ◌⊎◌, ℕ, List, [], take, Bool, true, false, Option, Some, None, IfSome, String, map, string_bytes}
+use Rattle.std.specs.Prelude.{◌≡◌, ◌≢◌, ◌⊎◌, ℕ, List, [], take, Bool, true, false, Option, Some, None, IfSome, Ok, Err, String, map, string_bytes}
 use Rattle.std.specs.Global.{Global}
 use Rattle.std.specs.Io.KnownBytes.{Appends, Keeps}
 use Rattle.jtree.specs.Data.{Data}
@@ -18,6 +18,10 @@ use Rattle.crdx.specs.Program.LineAnswers.{AreAnswered, AreOut, AreCut}
 use Rattle.crdx.specs.Program.ObjectAnswer.{IsAnswerBy}
 use Rattle.crdx.specs.Program.Objects.{AreObjects, AreRefused}
 use Rattle.crdx.specs.Program.Standard.{Standard, asks_as_written}
+use Rattle.crdx.specs.Program.InputFault.{IsOfBytes}
+use Rattle.crdx.specs.Program.VersionAnswers.{AreChecked, IsVersionFault}
+use Rattle.jtree.specs.declared.fault.JFault.{JFault}
+use Rattle.schema.specs.declared.fault.SFault.{SFault}
 use Rattle.suggest.specs.Suggested.Document.{suggested_document}
 use Rattle.suggest.specs.Suggested.Fault.{IsSuggestFault}
 use Rattle.suggest.specs.Suggested.Wanted.{Wanted as PoolsWanted}
@@ -38,7 +42,7 @@ use Rattle.crdx.specs.declared.arguments.request.PlanArguments.{PlanArguments}
 use Rattle.crdx.specs.declared.arguments.request.PoolsArguments.{PoolsArguments}
 use Rattle.crdx.specs.declared.arguments.request.SampleArguments.{SampleArguments}
 use Rattle.crdx.specs.declared.arguments.request.Request.{Request}
-use Rattle.crdx.specs.declared.arguments.request.Request.TheVariants.{Check, Explain, Object, ObjectLines, SuggestPools, Sample, Cover, Help, UsageError}
+use Rattle.crdx.specs.declared.arguments.request.Request.TheVariants.{Check, CheckAll, Explain, Object, ObjectLines, SuggestPools, Sample, Cover, Help, UsageError}
 
 -- these are all breaks of the schema that is asked for, and there are some
 abbrev pub HasBreaks : Documents → CommonArguments → List Break → Type 0
@@ -47,8 +51,10 @@ HasBreaks has arguments breaks = (raw : Raw) × IsRequestedSchema has arguments 
 -- the answer to a request: the exit status, and the whole text on standard output
 pub data IsAnswer (has : Documents) : Request → ℕ → List ℕ → Type 0 where
   checked : (arguments : CommonArguments) (document : Data) (group kind : List ℕ) (raw : Raw) (status : ℕ) (answer : List ℕ)
-      → IsRequestedFrom document has arguments group kind raw → IsCheckAnswer document arguments.version.now raw arguments.profile arguments.why status answer
+      → IsRequestedFrom document has arguments group kind raw → IsCheckAnswer document arguments.version.now raw arguments.why status answer
       → IsAnswer has (Check arguments) status answer
+  checked_all : (arguments : CommonArguments) (document : Data) (status : ℕ) (answer : List ℕ) → has (numbers_of arguments) (file_name arguments.crd) (Ok document)
+      → AreChecked arguments document status answer → IsAnswer has (CheckAll arguments) status answer
   fields : (arguments : ExplainArguments) (N : Node) (status : ℕ) (answer : List ℕ) → IsRequestedRoot has arguments.common N
       → IsFieldAnswer N arguments.path status answer → IsAnswer has (Explain arguments) status answer
   -- the violations are on standard error
@@ -86,8 +92,14 @@ abbrev pub IsSamplingRefused : Documents → SampleArguments → Type 0
 IsSamplingRefused has arguments = IsPlanRefused has arguments.plan
     ⊎ ((N : Node) × (P : Pools) × AreRootAndPools has arguments.plan N P × HasGoodPaths N P × IsAfterRefused (numbers_of arguments.plan.common) arguments.after)
 
+-- there is no document of this name, or the schema of one of its versions cannot be read
+abbrev pub IsAnyVersionRefused : Documents → CommonArguments → Type 0
+IsAnyVersionRefused has arguments = ((fault : JFault) × IsOfBytes fault × has (numbers_of arguments) (file_name arguments.crd) (Err fault))
+    ⊎ ((document : Data) × has (numbers_of arguments) (file_name arguments.crd) (Ok document) × (fault : SFault) × IsVersionFault arguments document fault)
+
 abbrev pub IsInputRefused : Documents → Request → Type 0
 IsInputRefused has (Check arguments) = IsCrdRefused has arguments
+IsInputRefused has (CheckAll arguments) = IsAnyVersionRefused has arguments
 IsInputRefused has (Explain arguments) = IsCrdRefused has arguments.common
 IsInputRefused has (Object arguments) = IsCrdRefused has arguments.common
     ⊎ (((S : Standard) × IsRequestedStandard has arguments S) × IsObjectRefused has arguments)

@@ -42,8 +42,7 @@ pub(crate) fn crdx_command<'a>(alloc: Global) -> Result<Command<'a>, AllocError>
     ensures { IfOk result (λ c. app_of c ≡ line.crdx_app) }
 {
     let command = top_command(alloc);
-    let check = crd_command(alloc, "check", help::CHECK);
-    let command = add_command(command, check);
+    let command = add_command(command, check_command(alloc));
     let command = add_command(command, explain_command(alloc));
     let command = add_command(command, validate_command(alloc));
     let prune = object_command(alloc, "prune", help::PRUNE);
@@ -95,6 +94,15 @@ fn add_command<'a>(
     }
 }
 
+/// The arguments that `check` takes.
+fn check_command<'a>(alloc: Global) -> Result<Command<'a>, AllocError>
+    ensures app { IfOk result (λ c. app_of c ≡ line.check_app) }
+    ensures local { IfOk result (λ c. (out-Command c).has_globals ≡ false) }
+{
+    let version = optional_argument(alloc, "VERSION", help::CHECKED_VERSION);
+    crd_command_with(alloc, "check", version, help::CHECK)
+}
+
 /// The command of this name, with the arguments that each command takes.
 fn crd_command<'a>(
     alloc: Global,
@@ -102,6 +110,21 @@ fn crd_command<'a>(
     help: CommandHelp,
 ) -> Result<Command<'a>, AllocError>
     ensures app { IfOk result (λ c. app_of c ≡ line.crd_app name.now) }
+    ensures local { IfOk result (λ c. (out-Command c).has_globals ≡ false) }
+{
+    let version = required_argument(alloc, "VERSION", help::CRD_VERSION);
+    crd_command_with(alloc, name, version, help)
+}
+
+/// The same, of which this is the version.
+fn crd_command_with<'a>(
+    alloc: Global,
+    name: &'a str,
+    version: Arg<'a>,
+    help: CommandHelp,
+) -> Result<Command<'a>, AllocError>
+    requires { version.global ≡ false }
+    ensures app { (r : Rule) → rule_of version.entry ≡ r → IfOk result (λ c. app_of c ≡ line.crd_app_with r name.now) }
     ensures local { IfOk result (λ c. (out-Command c).has_globals ≡ false) }
 {
     let CommandHelp {
@@ -114,7 +137,6 @@ fn crd_command<'a>(
         .long_about(long_about)
         .after_long_help(end)
         .arg(required_argument(alloc, "CRD", help::CRD));
-    let version = required_argument(alloc, "VERSION", help::CRD_VERSION);
     let command = add_argument(command, version);
     let large = flag(alloc, "large", help::LARGE, help::LARGE_LONG);
     let command = add_argument(command, large);

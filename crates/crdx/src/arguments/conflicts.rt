@@ -9,14 +9,29 @@ ghost use Rattle.crdx.specs.Program.CommandLine as line;
 
 use crate::arguments::command::crdx_command;
 use crate::arguments::reading::{
-    cover_arguments, flag_of, is_given, object_arguments, pools_arguments, request_of,
+    common_arguments, cover_arguments, flag_of, is_given, object_arguments, pools_arguments, request_of,
     sample_arguments,
 };
 use crate::arguments::request::{ObjectCommand, Request};
 use crate::inputs::InputName;
 use clap::error::ErrorKind;
 use clap::{ArgMatches, Error};
+use schema::Profile;
 use std::alloc::{AllocError, Global};
+
+/// The request of `check`, to which by a cluster's profile no version has to be named.
+pub(crate) fn check_request<'a>(alloc: Global, found: &ArgMatches<'a>) -> Request<'a>
+    ensures { line.IsCommand (Some (codes "check", rows_of (found_of found.now))) result }
+{
+    let arguments = common_arguments(found);
+    if found.get_str("VERSION").is_some() {
+        return Request::Check(arguments);
+    }
+    match arguments.profile {
+        Profile::Core => refuse(alloc, "VERSION is needed without --profile cluster"),
+        Profile::Cluster => Request::CheckAll(arguments),
+    }
+}
 
 /// The request of a command on an object, which may read the standard input for one of its two inputs.
 pub(crate) fn object_request<'a>(

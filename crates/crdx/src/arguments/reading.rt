@@ -11,7 +11,7 @@ ghost use Rattle.crdx.specs.Program.CommandLine as line;
 
 use crate::arguments::command::{MOST_COUNT, MOST_LIMIT, crdx_command};
 use crate::arguments::conflicts::{
-    cover_request, object_request, pools_request, refuse, sample_request,
+    check_request, cover_request, object_request, pools_request, refuse, sample_request,
 };
 use crate::arguments::request::{
     CommonArguments, CoverArguments, ExplainArguments, ObjectArguments, ObjectCommand,
@@ -75,7 +75,7 @@ fn request_of_named<'a>(alloc: Global, name: &str, found: &ArgMatches<'a>) -> Re
     ensures { line.IsCommand (Some (name.now, rows_of (found_of found.now))) result }
 {
     match name {
-        "check" => Request::Check(common_arguments(found)),
+        "check" => check_request(alloc, found),
         "explain" => Request::Explain(explain_arguments(found)),
         "validate" => object_request(alloc, validate_request(found), found),
         "prune" => object_request(alloc, ObjectCommand::Prune, found),
@@ -106,7 +106,7 @@ fn matches_of<'a>(alloc: Global, arguments: &'a [String]) -> Result<ArgMatches<'
     command.try_get_matches_from(arguments)
 }
 
-fn common_arguments<'a>(matches: &ArgMatches<'a>) -> CommonArguments<'a>
+pub(crate) fn common_arguments<'a>(matches: &ArgMatches<'a>) -> CommonArguments<'a>
     ensures { line.AreCommonArguments (rows_of (found_of matches.now)) result }
 {
     CommonArguments {

@@ -10,7 +10,7 @@ use schema::Profile;
 pub struct CommonArguments<'a> {
     /// The input of the CustomResourceDefinition.
     pub crd: InputName<'a>,
-    /// The version whose schema is asked for.
+    /// The version whose schema is asked for; the empty text where none is named.
     pub version: &'a str,
     /// Whether `--large` is given: `Limits::LARGE` and `PoolLimits::LARGE` are kept, and else the standard ones.
     pub large: bool,
@@ -116,8 +116,10 @@ impl ObjectArguments<'_> {
 /// What the arguments ask for.
 #[derive(Drop)]
 pub enum Request<'a> {
-    /// To judge a schema.
+    /// To judge the schema of a version.
     Check(CommonArguments<'a>),
+    /// To judge the schemas of all versions, whichever is named.
+    CheckAll(CommonArguments<'a>),
     /// To list the fields of a schema, or to say all of one.
     Explain(ExplainArguments<'a>),
     /// To say what becomes of an object.

@@ -3,7 +3,6 @@ ghost use Rattle.std.specs.Prelude.{◌≡◌, ◌≢◌, [], IfOk, IfErr, strin
 ghost use Rattle.jtree.specs.View.{data_of};
 ghost use Rattle.schema.specs.Rules.Breaks.{reported};
 ghost use Rattle.crdx.specs.Internal.Cause.{IsInputCause};
-ghost use Rattle.crdx.specs.Internal.CheckText.{IsViolationText, IsBesidesText};
 ghost use Rattle.crdx.specs.Program.CheckAnswer.{IsCheckAnswer};
 ghost use Rattle.crdx.specs.Program.RunResult.{IsAnswer};
 ghost use Rattle.crdx.specs.Program.ViolationLines.{violation_line, reason_line, explained_line};
@@ -13,19 +12,18 @@ use crate::arguments::CommonArguments;
 use crate::inputs::Inputs;
 use crate::phrases::{phrase, reason_phrase};
 use crate::running::answer::{Answer, json_text};
-use crate::running::definition_faults::fault_text;
 use crate::running::documents::read_definition;
 use crate::running::exit_status::{DONE, NO};
-use crate::running::lines::{Lines, all_lines};
+use crate::running::explanation::allowed_by;
+use crate::running::lines::{Explains, Lines, all_lines};
 use crate::running::refusal::Refusal;
-use crate::running::schema_patterns::{pattern_lines, refused_patterns};
+use crate::running::said::{Manner, definition_text, schema_text};
 use jtree::Tree;
-use schema::{Explained, Finding, Profile, RawSchema, Violation};
+use schema::{Explained, Finding, RawSchema, Violation};
 use std::alloc::{AllocError, Global};
-use stored::{explained, violations};
 
 /// `structural` of a schema of which nothing is said, and else a line for each rule and place, and under `cluster` for each pattern that is
-/// refused and each rule of definitions that is broken; where the reasons are asked for, a line for each of them below it.
+/// refused and each rule of definitions that is broken; where the reasons are asked for, lines of them below it.
 pub(crate) fn check<'a, I: Inputs>(
     alloc: Global,
     arguments: &CommonArguments<'a>,
@@ -47,16 +45,18 @@ fn check_schema(
     raw: &RawSchema,
     arguments: &CommonArguments<'_>,
 ) -> Result<Answer, AllocError>
-    ensures { IfOk result (λ a. IsCheckAnswer (data_of document.now) arguments.now.version.now raw.now arguments.now.profile arguments.now.why a.status (string_bytes a.out)) }
+    ensures { IfOk result (λ a. IsCheckAnswer (data_of document.now) arguments.now.version.now raw.now arguments.now.why a.status (string_bytes a.out)) }
 {
-    let mut text = violation_text(alloc, raw, arguments.why)?;
-    let besides = besides_text(alloc, document, raw.tree(), arguments)?;
+    let why = arguments.why;
+    let manner = Manner { front: "", why };
+    let mut text = schema_text(alloc, document, arguments.version, raw, manner)?;
+    let besides = definition_text(alloc, document, raw.profile(), why)?;
     text.push_str(besides.as_str())?;
     verdict(alloc, text)
 }
 
-/// `structural` where no line is said of a schema, and else the lines.
-fn verdict(alloc: Global, text: String) -> Result<Answer, AllocError>
+/// `structural` where no line is said, and else the lines.
+pub(crate) fn verdict(alloc: Global, text: String) -> Result<Answer, AllocError>
     ensures none { string_bytes text ≡ [] → IfOk result (λ a. (a.status ≡ 0) × (string_bytes a.out ≡ codes "structural\n")) }
     ensures some { string_bytes text ≢ [] → IfOk result (λ a. (a.status ≡ 1) × (string_bytes a.out ≡ string_bytes text)) }
 {
@@ -75,38 +75,6 @@ fn verdict(alloc: Global, text: String) -> Result<Answer, AllocError>
     }
 }
 
-/// The lines of all that is broken in a schema, with the reasons where they are asked for.
-fn violation_text(alloc: Global, raw: &RawSchema, why: bool) -> Result<String, AllocError>
-    ensures { IfOk result (λ s. IsViolationText raw.now why (string_bytes s)) }
-{
-    if why {
-        all_lines(alloc, explained(alloc, raw)?.as_slice())
-    } else {
-        all_lines(alloc, violations(alloc, raw)?.as_slice())
-    }
-}
-
-/// The lines of what a cluster refuses besides, of which `cluster` alone asks.
-fn besides_text(
-    alloc: Global,
-    document: &Tree,
-    schema: &Tree,
-    arguments: &CommonArguments<'_>,
-) -> Result<String, AllocError>
-    ensures { IfOk result (λ s. IsBesidesText (data_of document.now) arguments.now.version.now (data_of schema.now) arguments.now.profile arguments.now.why (string_bytes s)) }
-{
-    match arguments.profile {
-        Profile::Core => Ok(String::new(alloc)),
-        Profile::Cluster => {
-            let refused = refused_patterns(alloc, schema)?;
-            let mut text = pattern_lines(alloc, refused.as_slice(), arguments.why)?;
-            let faults = fault_text(alloc, document, arguments.version, schema)?;
-            text.push_str(faults.as_str())?;
-            Ok(text)
-        }
-    }
-}
-
 /// The rule, the pointer of the place as a JSON text, and what is wrong there.
 impl Lines for Violation {
     ghost text = { λ violation. violation_line (reported violation) };
@@ -115,6 +83,12 @@ impl Lines for Violation {
         let pointer = json_text(alloc, self.pointer.as_str())?;
         let rule = self.rule;
         format!(in alloc; "{rule} {pointer} {}\n", phrase(rule))
+    }
+}
+
+impl Explains for Violation {
+    fn words(&self, alloc: Global, _document: &Tree) -> Result<String, AllocError> {
+        String::from_str(alloc, allowed_by(self.rule))
     }
 }
 

@@ -1,38 +1,21 @@
-//! What a cluster refuses in a definition and in the schema of a version, beside what the schema breaks and its patterns.
-ghost use Rattle.std.specs.Prelude.{◌≡◌, IfOk, option_map, option_and_then, string_bytes, codes};
+//! The rules of a cluster that are broken in a definition and in its schemas, as they are printed.
+ghost use Rattle.std.specs.Prelude.{◌≡◌, option_map, option_and_then, codes};
 ghost use Rattle.jtree.specs.Data.{list};
 ghost use Rattle.jtree.specs.Path.{under2};
 ghost use Rattle.jtree.specs.View.{data_of};
 ghost use Rattle.definition.specs.Reading.{is_there as there};
-ghost use Rattle.crdx.specs.Internal.CheckText.{IsFaultText};
 ghost use Rattle.crdx.specs.Program.CheckAnswer as spec;
 ghost use Rattle.crdx.specs.Program.DefinitionLines as said;
 
 use crate::running::answer::json_text;
-use crate::running::lines::{Lines, all_lines};
-use definition::{Fault, Rule, faults, schema_faults};
+use crate::running::explanation::fault_reason;
+use crate::running::lines::{Explains, Lines};
+use definition::{Fault, Rule};
 use jtree::{Items, Tree};
 use std::alloc::{AllocError, Global};
 
-/// A line for each rule that is broken: in the schema of the version of this name, with pointers that begin at the schema, and then in the
-/// definition.
-pub(crate) fn fault_text(
-    alloc: Global,
-    document: &Tree,
-    version: &str,
-    schema: &Tree,
-) -> Result<String, AllocError>
-    ensures { IfOk result (λ s. IsFaultText (data_of document.now) version.now (data_of schema.now) (string_bytes s)) }
-{
-    let of_schema = schema_faults(alloc, schema, has_status(document, version))?;
-    let of_definition = faults(alloc, document)?;
-    let mut text = all_lines(alloc, of_schema.as_slice())?;
-    text.push_str(all_lines(alloc, of_definition.as_slice())?.as_str())?;
-    Ok(text)
-}
-
 /// Whether the version of this name has the subresource `status`.
-fn has_status(document: &Tree, version: &str) -> bool
+pub(crate) fn has_status(document: &Tree, version: &str) -> bool
     ensures { result ≡ spec.has_status (data_of document.now) version.now }
 {
     match part_below(document, "spec", "versions") {
@@ -45,7 +28,7 @@ fn has_status(document: &Tree, version: &str) -> bool
 }
 
 /// What is under a name below another.
-fn part_below<'a>(tree: &'a Tree, outer: &str, inner: &str) -> Option<&'a Tree>
+pub(crate) fn part_below<'a>(tree: &'a Tree, outer: &str, inner: &str) -> Option<&'a Tree>
     ensures { option_map (λ t. data_of t.now) result ≡ under2 (data_of tree.now) outer.now inner.now }
 {
     match tree.get(outer) {
@@ -93,6 +76,12 @@ impl Lines for Fault {
         let pointer = json_text(alloc, self.pointer.as_str())?;
         let rule = self.rule;
         format!(in alloc; "{} {pointer} {}\n", code_of(rule), phrase_of(rule))
+    }
+}
+
+impl Explains for Fault {
+    fn words(&self, alloc: Global, document: &Tree) -> Result<String, AllocError> {
+        fault_reason(alloc, self, document)
     }
 }
 

@@ -2,9 +2,11 @@
 
 mod definitions;
 mod documents;
+mod faults;
 mod fields;
 mod objects;
 mod pools;
+mod rules;
 mod samples;
 mod values;
 
@@ -27,6 +29,9 @@ use schema::{Crd, read_crd_by};
 use std::alloc::{AllocError, Global};
 use stored::explained;
 
+pub(crate) use crate::running::explanation::faults::fault_reason;
+pub(crate) use crate::running::explanation::rules::allowed_by;
+
 /// What is said of a refusal, each line with its end; nothing where there is no more to say. The lines of violations and of
 /// patterns have those of the cause in them.
 pub(crate) fn explanation_of<I: Inputs>(
@@ -41,7 +46,7 @@ pub(crate) fn explanation_of<I: Inputs>(
             violation_lines(alloc, document, arguments)
         }
         (Cause::Patterns(refused), _) => {
-            Ok(Some(pattern_lines(alloc, refused.as_slice(), true)?))
+            Ok(Some(pattern_lines(alloc, "", refused.as_slice(), true)?))
         }
         (_, Subject::Input(name)) => line_of(
             alloc,

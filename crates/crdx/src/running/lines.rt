@@ -1,7 +1,9 @@
 //! What is printed of several items, one after another.
-ghost use Rattle.std.specs.Prelude.{◌≡◌, ℕ, List, IfOk, string_bytes};
+ghost use Rattle.std.specs.Prelude.{◌≡◌, ◌++◌, ℕ, List, IfOk, string_bytes, codes};
 ghost use Rattle.std.specs.List.{flat_map};
+ghost use Rattle.crdx.specs.Program.CheckAnswer.{AreLines};
 
+use jtree::Tree;
 use std::alloc::{AllocError, Global};
 
 /// What is printed as a line, or as several.
@@ -23,4 +25,44 @@ pub(crate) fn all_lines<T: Lines>(alloc: Global, items: &[T]) -> Result<String, 
         lines.push_str(item.lines(alloc)?.as_str())?;
     }
     Ok(lines)
+}
+
+/// What is printed as a line of a document, with words that explain it.
+pub(crate) trait Explains: Lines {
+    /// What was found in the document, and what is allowed there; on one line, without its end.
+    fn words(&self, alloc: Global, document: &Tree) -> Result<String, AllocError>;
+}
+
+/// The line of each item, in order, and where the reasons are asked for the words below it, each behind the same text.
+pub(crate) fn lines_behind<T: Explains>(
+    alloc: Global,
+    front: &str,
+    items: &[T],
+    document: &Tree,
+    why: bool,
+) -> Result<String, AllocError>
+    ensures { IfOk result (λ s. AreLines front.now why T.text items.now (string_bytes s)) }
+{
+    let mut lines = String::new(alloc);
+    for item in items {
+        lines.push_str(front)?;
+        lines.push_str(item.lines(alloc)?.as_str())?;
+        if why {
+            lines.push_str(words_line(alloc, front, item, document)?.as_str())?;
+        }
+    }
+    Ok(lines)
+}
+
+/// The words below the line of an item.
+fn words_line<T: Explains>(
+    alloc: Global,
+    front: &str,
+    item: &T,
+    document: &Tree,
+) -> Result<String, AllocError>
+    ensures { IfOk result (λ s. (words : List ℕ) × (string_bytes s ≡ front.now ++ (codes "    " ++ (words ++ codes "\n")))) }
+{
+    let words = item.words(alloc, document)?;
+    format!(in alloc; "{front}    {words}\n")
 }

@@ -193,7 +193,7 @@ fn line_of(alloc: Global, cause: &Cause) -> Result<String, AllocError> {
             format!(in alloc; "crdx: {input}: {code} {pointer}\n")
         }
         Cause::Violations(violations) => all_lines(alloc, violations),
-        Cause::Patterns(refused) => pattern_lines(alloc, refused.as_slice(), false),
+        Cause::Patterns(refused) => pattern_lines(alloc, "", refused.as_slice(), false),
         Cause::NoField(fault) => format!(in alloc; "crdx: explain: {fault}\n"),
         Cause::NotStored => format!(in alloc; "crdx: object: {}\n", LFault::NotStored),
         Cause::NotASample => format!(in alloc; "crdx: after: not a sample\n"),

@@ -26,9 +26,9 @@ pub(crate) struct RefusedPattern {
 
 /// What comes of patterns.
 #[derive(Drop)]
-struct Compiled {
-    patterns: Vec<Pattern>,
-    refused: Vec<RefusedPattern>,
+pub(crate) struct Compiled {
+    pub patterns: Vec<Pattern>,
+    pub refused: Vec<RefusedPattern>,
 }
 
 /// The patterns of a schema, where each is one, and is not too big.
@@ -45,22 +45,8 @@ pub(crate) fn compile_patterns(alloc: Global, schema: &Tree) -> Result<Vec<Patte
     }
 }
 
-/// The patterns of a schema that are refused, in path order.
-pub(crate) fn refused_patterns(
-    alloc: Global,
-    schema: &Tree,
-) -> Result<Vec<RefusedPattern>, AllocError>
-    ensures { IfOk result (λ refused. AreRefusedPatterns (data_of schema.now) (map refused_of refused.items)) }
-{
-    let Compiled {
-        patterns: _,
-        refused,
-    } = compile_schema(alloc, schema)?;
-    Ok(refused)
-}
-
-/// What comes of the patterns of a schema.
-fn compile_schema(alloc: Global, schema: &Tree) -> Result<Compiled, AllocError>
+/// What comes of the patterns of a schema; those that are refused are in path order.
+pub(crate) fn compile_schema(alloc: Global, schema: &Tree) -> Result<Compiled, AllocError>
     ensures { IfOk result (λ c. AreRefusedPatterns (data_of schema.now) (map refused_of c.refused.items)) }
 {
     let found = judge::patterns(alloc, schema)?;
@@ -119,17 +105,18 @@ fn refuse(
     Ok(compiled.refused.push(refused)?)
 }
 
-/// The lines of patterns that are refused; where the reasons are asked for, what was found below each.
+/// The lines of patterns that are refused, each behind the same text; where the reasons are asked for, what was found below each.
 pub(crate) fn pattern_lines(
     alloc: Global,
+    front: &str,
     refused: &[RefusedPattern],
     why: bool,
 ) -> Result<String, AllocError>
-    ensures { IfOk result (λ s. string_bytes s ≡ said.pattern_lines why (map refused_of refused.now)) }
+    ensures { IfOk result (λ s. string_bytes s ≡ said.pattern_lines front.now why (map refused_of refused.now)) }
 {
     let mut lines = String::new(alloc);
     for pattern in refused {
-        lines.push_str(lines_of_pattern(alloc, pattern, why)?.as_str())?;
+        lines.push_str(lines_of_pattern(alloc, front, pattern, why)?.as_str())?;
     }
     Ok(lines)
 }
@@ -137,16 +124,19 @@ pub(crate) fn pattern_lines(
 /// The same of one of them.
 fn lines_of_pattern(
     alloc: Global,
+    front: &str,
     pattern: &RefusedPattern,
     why: bool,
 ) -> Result<String, AllocError>
-    ensures { IfOk result (λ s. string_bytes s ≡ said.lines_of_pattern why (refused_of pattern.now)) }
+    ensures { IfOk result (λ s. string_bytes s ≡ said.lines_of_pattern front.now why (refused_of pattern.now)) }
 {
-    let mut lines = pattern_line(alloc, pattern)?;
+    let line = pattern_line(alloc, pattern)?;
     if why {
-        lines.push_str(found_line(alloc, pattern)?.as_str())?;
+        let found = found_line(alloc, pattern)?;
+        format!(in alloc; "{front}{line}{front}{found}")
+    } else {
+        format!(in alloc; "{front}{line}")
     }
-    Ok(lines)
 }
 
 /// The code, the pointer of the schema as a JSON text, and what is wrong there.

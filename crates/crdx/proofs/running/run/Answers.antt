@@ -1,7 +1,7 @@
 use Rattle.std.proofs.Common.{◌≡◌, refl, sym, subst, inl, inr}
 use Rattle.std.proofs.KnownBytes.{Keeps-refl}
 use Rattle.crdx.specs.Program.RunResult.{IsAnswer, help, usage_error}
-use Rattle.crdx.specs.declared.arguments.request.Request.TheVariants.{Check, Explain, Object, ObjectLines, SuggestPools, Sample, Cover, Help, UsageError, NoMemory}
+use Rattle.crdx.specs.declared.arguments.request.Request.TheVariants.{Check, CheckAll, Explain, Object, ObjectLines, SuggestPools, Sample, Cover, Help, UsageError, NoMemory}
 use Rattle.crdx.proofs.RunLemmas.{result_of_finished, result_of_written, result_of_sample, result_of_cover, result_of_nothing}
 use Rattle.crdx.proofs.LineAnswerLemmas.{result_of_lines}
 use Rattle.crdx.proofs.PoolsLemmas.{result_of_pools}
@@ -14,6 +14,15 @@ returns-in-Check g c =
       c.in-Check.ensures,
       result_of_finished _ request c.check-answer.result c.finish.result c.check-answer.ensures.answer c.check-answer.ensures.cause (λ status text is n out. (status, text, is, n, out))
           c.finish.ensures.written c.finish.ensures.said c.finish.ensures.kept c.finish.ensures.unfailed,
+    )
+
+pub returns-in-CheckAll : goal.returns-in-CheckAll
+returns-in-CheckAll g c =
+    let request = CheckAll c.in-CheckAll.arguments in (
+      request,
+      c.in-CheckAll.ensures,
+      result_of_finished _ request c.check_all-answer.result c.finish-in-CheckAll.result c.check_all-answer.ensures.answer c.check_all-answer.ensures.cause (λ status text is n out. (status, text, is, n, out))
+          c.finish-in-CheckAll.ensures.written c.finish-in-CheckAll.ensures.said c.finish-in-CheckAll.ensures.kept c.finish-in-CheckAll.ensures.unfailed,
     )
 
 pub returns-in-Explain : goal.returns-in-Explain

@@ -1,0 +1,7 @@
+use Rattle.crdx.proofs.arguments.command.check_command.Goals as goal
+
+pub returns-clause-app : goal.returns-clause-app
+returns-clause-app c = c.crd_command_with.ensures.app _ c.optional_argument-version.ensures.rule
+
+pub returns-clause-local : goal.returns-clause-local
+returns-clause-local c = c.crd_command_with.ensures.local
