@@ -213,21 +213,27 @@ as
 
 V03, V05, V11, V12, V16 and V17 have reasons; the other rules say it all.
 
-With --profile cluster the lines of rules are followed by one for each pattern
-that is no regular expression of Go, or is too big: the code, a JSON pointer to
-the schema that has the pattern, and what is wrong with it, such as
+With --profile cluster the rules V01 to V15 are asked as the API server of
+Kubernetes 1.34 asks them, of patterns and formats too, and V16 and V17 are not.
+Their lines are followed by one for each pattern that is no regular expression
+of Go, or is too big: the code, a JSON pointer to the schema that has the
+pattern, and what is wrong with it, such as
 
     C01 "/properties/spec/properties/name" bad pattern
 
-With --why the line below it has the pattern and what is allowed. Then come the
-rules that a cluster has besides: those that the schema breaks, with pointers
-that begin at the schema, and those that the definition breaks, with pointers
-that begin at the root of the document, such as
+Then come the rules that a cluster has besides: those that the schema breaks,
+with pointers that begin at the schema, and those that the definition breaks,
+with pointers that begin at the root of the document, such as
 
     C11 "/spec/versions" not one stored version
 
-The other versions are not judged. A definition with such a line is not
-structural."#,
+With --why the line below each has what was found and what is allowed. Without
+VERSION all versions are checked, and each line of a schema has the version's
+name and a colon before it, such as
+
+    v1beta1: V06 "/properties/spec/properties/ids" uniqueItems is true
+
+A definition with such a line is not structural."#,
     end: "Examples, at the top of the repository:
   ./crdx check examples/widget/crd.json v1
   ./crdx check --why examples/workflow/crd.json v1
