@@ -29,7 +29,12 @@ pub(crate) fn prune_value(schema: &Tree, value: &mut Tree)
     ensures { data_of value.new ≡ pruned_value (data_of schema.now) (data_of value.old) }
 {
     let schema = Some(schema);
-    prune_tree(is_set(schema, EMBEDDED), is_set(schema, PRESERVES), schema, value);
+    prune_tree(
+        is_set(schema, EMBEDDED),
+        is_set(schema, PRESERVES),
+        schema,
+        value,
+    );
 }
 
 #[cycle(prune)]
