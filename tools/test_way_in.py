@@ -28,7 +28,7 @@ from way_in_cases import Cases
 PROGRAMS = ROOT / "tools" / "test_way_in"
 SCHEMA = pathlib.PurePath("k8s.io", "apiextensions-apiserver", "pkg", "apiserver", "schema")
 CRATES = """jtree: fast_float itoa json serde_json thiserror
-cluster: jtree
+cluster: jtree judge schema stored text_tests
 way_in_lines: cluster jtree
 """
 # a package that old releases have in a version that new releases of Go do not run

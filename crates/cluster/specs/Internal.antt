@@ -1,3 +1,4 @@
 -- What private contracts cite.
 pub mod Trees
 pub mod Walks
+pub mod BadDefaults

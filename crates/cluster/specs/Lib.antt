@@ -5,4 +5,5 @@ pub mod WithoutNulls
 pub mod Metadata
 pub mod Filled
 pub mod WayIn
+pub mod Refused
 pub mod Internal

@@ -2,7 +2,8 @@
 //! nullable, defaulting).
 //!
 //! [`prune`] drops what no schema declares, [`drop_nulls`] the nulls that have no place, and [`fill`] puts defaults in. [`way_in`] does all
-//! three, as the API server of Kubernetes does before it judges an object. A schema is a tree that is read with all numbers.
+//! three, as the API server of Kubernetes does before it judges an object. A schema is a tree that is read with all numbers. [`violations`] lists
+//! the rules by which a definition's schema is refused.
 //!
 //! ```
 //! let schema = Tree::from_bytes(alloc, r#"{"properties":{"a":{"default":1}}}"#.as_bytes())?;
@@ -20,10 +21,12 @@ mod metadata;
 mod nulls;
 mod object_meta;
 mod pruning;
+mod refusing;
 mod way;
 
 pub use filling::fill;
 pub use metadata::prune_metadata;
 pub use nulls::drop_nulls;
 pub use pruning::prune;
+pub use refusing::violations;
 pub use way::way_in;

@@ -5,6 +5,7 @@ ghost use Rattle.jtree.specs.View.{data_of};
 ghost use Rattle.cluster.specs.Keywords.{is_embedded as is_embedded_of};
 ghost use Rattle.cluster.specs.Pruned.{is_enveloped as is_enveloped_of, is_entered as is_entered_of, is_kept as is_kept_of};
 ghost use Rattle.cluster.specs.Pruned.{items_keep as items_keep_of, pruned, pruned_object};
+ghost use Rattle.cluster.specs.Refused.{pruned_value};
 ghost use Rattle.cluster.specs.Internal.Trees.{schema_of, pruned_tree, pruned_member, is_kept_member};
 
 use crate::keywords::{is_set, keyword, member_schema};
@@ -21,6 +22,19 @@ pub fn prune(schema: &Tree, object: &mut Tree)
     ensures { data_of object.new ≡ pruned_object (data_of schema.now) (data_of object.old) }
 {
     prune_tree(true, is_set(Some(schema), PRESERVES), Some(schema), object);
+}
+
+/// Prunes a value in place, by the schema of its place.
+pub(crate) fn prune_value(schema: &Tree, value: &mut Tree)
+    ensures { data_of value.new ≡ pruned_value (data_of schema.now) (data_of value.old) }
+{
+    let schema = Some(schema);
+    prune_tree(
+        is_set(schema, EMBEDDED),
+        is_set(schema, PRESERVES),
+        schema,
+        value,
+    );
 }
 
 #[cycle(prune)]
