@@ -2,20 +2,24 @@
 use Rattle.std.proofs.Common.{◌≡◌, ◌≢◌, ◌⊎◌, ◌∙◌, ◌++◌, ℕ, List, [], ◌∷◌, Bool, true, false, refl, ap, sym, subst, inl, inr, map, flat_map, Ok, Err, string_bytes, codes}
 use Rattle.std.specs.Prelude.{Result, IfOk}
 use Rattle.std.specs.declared.alloc.AllocError.{AllocError}
+use Rattle.std.proofs.lemmas.List.Folds.{flat_map-map}
 use Rattle.jtree.specs.Data.{Data}
 use Rattle.schema.specs.Document.Raw.{Raw}
-use Rattle.schema.specs.Rules.Breaks.{Break, Reported, AreViolations, reported, reported_of, rule_name}
-use Rattle.schema.specs.Rules.Explained.{OneByOne, IsExplained}
+use Rattle.schema.specs.Rules.Breaks.{Break, Reported, AreBreaks, AreViolations, reported, reported_of, rule_name}
+use Rattle.schema.specs.Rules.Explained.{AreExplained, OneByOne, IsExplained}
 use Rattle.schema.specs.declared.profile.Profile.{Profile}
 use Rattle.schema.specs.declared.profile.Profile.TheVariants.{Core, Cluster}
 use Rattle.schema.specs.declared.reason.Explained.{Explained}
 use Rattle.schema.specs.declared.violation.Violation.{Violation}
+use Rattle.stored.specs.Schemas.Accepted.{IsBroken}
+use Rattle.cluster.specs.Refused.{IsBrokenBy}
 use Rattle.definition.specs.declared.finding.Fault.{Fault}
 use Rattle.crdx.specs.Internal.CheckText.{IsSaidText, IsDefinitionText}
-use Rattle.crdx.specs.Program.CheckAnswer.{Said, nothing, IsSaid, IsBeside, AreSaidOf, AreWithWords, AreLines, AreBreakLines, AreLinesBy, AreLinesOf, IsCheckAnswer, structural, refused}
+use Rattle.crdx.specs.Program.CheckAnswer.{Said, nothing, IsBrokenBeside, IsSaid, IsBeside, AreSaidOf, AreWithWords, AreLines, AreBreakLines, AreLinesBy, AreLinesOf, IsCheckAnswer, structural, refused}
 use Rattle.crdx.specs.Program.DefinitionLines.{line_of, code_of as rule_code}
 use Rattle.crdx.specs.Program.PatternLines.{code_of, pattern_lines}
 use Rattle.crdx.specs.Program.RefusedPatterns.{Refused}
+use Rattle.crdx.specs.Program.Standard.{tests_of_texts}
 use Rattle.crdx.specs.Program.ViolationLines.{violation_line, violation_lines, explained_lines}
 use Rattle.crdx.specs.declared.running.answer.Answer.{Answer}
 
@@ -127,6 +131,31 @@ pub check_result : (document : Data) (version : List ℕ) (raw : Raw) (why : Boo
     → IfOk r (λ a. IsCheckAnswer document version raw why a.status (string_bytes a.out))
 check_result document version raw why said shown (Ok a) none some is are = check_answer document version raw why said shown a none some is are
 check_result document version raw why said shown (Err e) none some is are = tt
+
+-- ---- what is said by a profile
+
+abbrev IsSaidBy : Profile → Data → List ℕ → List ℕ → Bool → Raw → Said → List ℕ → Type 0
+IsSaidBy profile document version front why raw s said = IsBeside profile document version raw s × AreLinesBy profile front why raw s said
+
+pub said_by : (profile : Profile) (document : Data) (version front : List ℕ) (why : Bool) (raw : Raw) (s : Said) (said : List ℕ) → raw.profile ≡ profile → AreBreaks (IsBrokenBeside s.refused raw) s.breaks
+    → IsSaidBy profile document version front why raw s said → IsSaidText document version raw front why said
+said_by profile document version front why raw s said same broken by =
+    let moved = subst (λ p. IsSaidBy p document version front why raw s said) (sym same) by in (s, (broken, moved.0), moved.1)
+
+core_breaks : (raw : Raw) (bs : List Break) → raw.profile ≡ Core → AreBreaks (IsBroken raw) bs → AreBreaks (IsBrokenBeside [] raw) bs
+core_breaks raw bs same are = subst (λ p. AreBreaks (IsBrokenBy tests_of_texts p raw) bs) (sym same) are
+
+-- by the rules of this project, with the reasons and without
+pub explained_said : (document : Data) (version front : List ℕ) (raw : Raw) (found : List Explained) (said : List ℕ) → raw.profile ≡ Core → AreExplained (IsBroken raw) raw found → said ≡ explained_lines found
+    → IsSaidText document version raw front true said
+explained_said document version front raw found said same (bs, are, each) is =
+    said_by Core document version front true raw (record { breaks = bs; refused = []; faults = [] }) said same (core_breaks raw bs same are) ((refl, refl), (found, each, is))
+
+pub violations_said : (document : Data) (version front : List ℕ) (raw : Raw) (vs : List Violation) (said : List ℕ) → raw.profile ≡ Core → AreViolations (IsBroken raw) vs
+    → said ≡ flat_map (λ v. violation_line (reported v)) vs → IsSaidText document version raw front false said
+violations_said document version front raw vs said same (bs, are, reports) is =
+    said_by Core document version front false raw (record { breaks = bs; refused = []; faults = [] }) said same (core_breaks raw bs same are)
+    ((refl, refl), is ∙ (sym (flat_map-map violation_line reported vs) ∙ ap violation_lines reports))
 
 -- ---- lines of violations are those of the breaks that they report
 

@@ -48,6 +48,7 @@
 //! | `program/check_cases`, `validate_cases`, `prune_cases`, `sample_cases` | what each command prints |
 //! | `program/all_cases` | `sample --all`: all lines, past 10,000 too, flushes, and sinks that fail |
 //! | `program/line_cases` | `validate`, `prune`, `default` and `leaves` of objects on lines |
+//! | `program/version_cases` | `check --profile cluster`: all versions, and what a cluster alone takes or refuses |
 //! | `program/why_cases` | the reasons that `check --why` prints |
 //! | `program/cover_cases` | what `cover` prints |
 //! | `program/limit_cases` | `sample` with limits up to 127 |

@@ -30,4 +30,5 @@ mod resume_cases;
 mod sample_cases;
 mod sample_refusal_cases;
 mod validate_cases;
+mod version_cases;
 mod why_cases;
