@@ -1,8 +1,9 @@
 """Schemas of definitions, most of them good, and others with slips that the API server refuses, drawn at random."""
 from __future__ import annotations
 
+import copy
 import random
-from typing import Callable, Dict, Mapping, Sequence
+from typing import Callable, Dict, List, Mapping, Sequence
 
 import judged_cases
 from crdx_schemas.documents import Json
@@ -13,6 +14,11 @@ SCALARS = ("string", "integer", "number", "boolean", "int-or-string")
 SORTS = (*3 * ("object",), "map", "list", "list", "set", "map list", "map list", "embedded", "open", *SCALARS)
 TYPES = ("array", "boolean", "integer", "number", "object", "string", "", "any")
 PATTERN: Json = [{"type": "integer"}, {"type": "string"}]
+PATTERN_KEYWORDS: tuple[Schema, ...] = (
+    {"anyOf": PATTERN},
+    {"allOf": [{"anyOf": PATTERN}]},
+    {"allOf": [{"anyOf": PATTERN, "minLength": 1}, {}]},
+)
 # how often a slip is made, where one can be
 RATES = (0.0, 0.0, 0.01, 0.04, 0.15)
 ENVELOPE: Schema = {"apiVersion": "v1", "kind": "K", "metadata": {"name": "n"}}
@@ -106,18 +112,18 @@ class Cases(judged_cases.Cases):
     def slip(self, made: Schema) -> None:
         while self.is_slip():
             name, value = self.draw.choice(ODD_KEYWORDS)
-            made[name] = value
+            made[name] = copy.deepcopy(value)
         if self.is_slip():
             made["type"] = self.draw.choice(TYPES)
         if self.is_slip():
             made.pop(self.draw.choice([*made]), None)
 
     def metadata(self) -> Schema:
-        fields = {name: {"type": "string"} for name in ("name", "generateName") if self.is_drawn(0.5)}
+        fields: Schema = {name: {"type": "string"} for name in ("name", "generateName") if self.is_drawn(0.5)}
         made: Schema = {"type": "object", **({"properties": fields} if self.is_drawn(0.8) else {})}
         if self.is_drawn(self.rate * 3):
             name, value = self.draw.choice(ODD_KEYWORDS)
-            made[name] = value
+            made[name] = copy.deepcopy(value)
         if self.is_slip():
             members_of(made.get("properties"))["labels"] = {"type": "object"}
         return made
@@ -151,20 +157,24 @@ class Cases(judged_cases.Cases):
             "list": lambda depth: {"type": "array", "items": self.place(depth - 1), **self.picked((0.2, "maxItems", lambda: 2))},
             "set": self.a_set,
             "map list": self.a_map_list,
-            "embedded": lambda depth: {**self.fields(depth), "x-kubernetes-embedded-resource": True, **self.picked((0.3, "x-kubernetes-preserve-unknown-fields", lambda: True))},
+            "embedded": lambda depth: {**self.fields(depth), "x-kubernetes-embedded-resource": True, **self.kept(0.3)},
             "open": lambda depth: {"x-kubernetes-preserve-unknown-fields": True, **self.picked((0.5, "type", lambda: "object"))},
         }
         return made[sort](depth) if sort in made else self.a_scalar(sort)
 
     def fields(self, depth: int) -> Schema:
-        properties = {name: self.place(depth - 1) for name in self.names()}
-        required = [name for name in properties if self.is_drawn(0.2)]
+        properties: Schema = {name: self.place(depth - 1) for name in self.names()}
+        required: List[Json] = [name for name in properties if self.is_drawn(0.2)]
         return {
             "type": "object",
             "properties": properties,
             **({"required": required} if required else {}),
-            **self.picked((0.1, "x-kubernetes-preserve-unknown-fields", lambda: True), (0.1, "x-kubernetes-map-type", lambda: "atomic")),
+            **self.kept(0.1),
+            **self.picked((0.1, "x-kubernetes-map-type", lambda: "atomic")),
         }
+
+    def kept(self, share: float) -> Schema:
+        return self.picked((share, "x-kubernetes-preserve-unknown-fields", lambda: True))
 
     def a_map(self, depth: int) -> Schema:
         return {"type": "object", "additionalProperties": self.place(depth - 1) if self.is_drawn(0.8) else True}
@@ -198,13 +208,16 @@ class Cases(judged_cases.Cases):
         if self.is_drawn(0.15):
             made["enum"] = [self.value(made) for _ in range(2)]
         if sort == "int-or-string" and self.is_drawn(0.5):
-            made.update(self.draw.choice(({"anyOf": PATTERN}, {"allOf": [{"anyOf": PATTERN}]}, {"allOf": [{"anyOf": PATTERN, "minLength": 1}, {}]})))
+            made.update(self.draw.choice(PATTERN_KEYWORDS))
         return made
 
     # ---- branches
 
     def junctors_of(self, schema: Schema, depth: int) -> Schema:
-        made = self.picked(*((0.3, name, lambda: [self.branch_of(schema, depth) for _ in range(self.draw.randint(0, 2))]) for name in judged_cases.JUNCTORS))
+        def branches() -> Json:
+            return [self.branch_of(schema, depth) for _ in range(self.draw.randint(0, 2))]
+
+        made = self.picked(*((0.3, name, branches) for name in judged_cases.JUNCTORS))
         if self.is_drawn(0.2):
             made["not"] = self.branch_of(schema, depth)
         return {name: value for name, value in made.items() if name not in schema}
@@ -220,5 +233,6 @@ class Cases(judged_cases.Cases):
             made["items"] = self.branch_of(members_of(schema.get("items")), depth)
         if depth and self.is_drawn(0.2):
             made.update(self.junctors_of({**schema, **made}, depth - 1))
-        self.slip(made) if made else None
+        if made:
+            self.slip(made)
         return made

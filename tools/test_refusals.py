@@ -28,12 +28,13 @@ import re
 import shutil
 import sys
 import tempfile
-from typing import Any, Dict, NamedTuple, Set, Tuple
+from typing import NamedTuple, Set, Tuple
 
 sys.dont_write_bytecode = True
 
 from compared_lines import ROOT, of_crates, of_go
-from judged_cases import PATTERNS
+from crdx_schemas.documents import Json
+from judged_cases import PATTERNS, items_of, members_of
 from large_schema import Schema
 from refusal_cases import Cases
 from test_judge import BELOW, VALIDATE, as_read, texts_of_formats
@@ -100,6 +101,36 @@ OTHERS = (
 )
 
 
+class Said(NamedTuple):
+    """An error of the API server's."""
+
+    field: str
+    sort: str
+    detail: str
+
+
+def said_of(errors: Json) -> Set[Said]:
+    made = (members_of(error) for error in items_of(errors))
+    return {Said(str(error["Field"]), str(error["Type"]), str(error["Detail"])) for error in made}
+
+
+class Answer(NamedTuple):
+    """What the API server's code says of a schema."""
+
+    errors: Set[Said]
+    is_structural: bool
+    is_judged: bool
+    defaults: Set[Said]
+    extra: Set[str]
+    has_ended: bool
+
+    @classmethod
+    def of(cls, text: str) -> Answer:
+        said = members_of(json.loads(text))
+        extra = {str(pointer) for pointer in items_of(said["Extra"])}
+        return cls(said_of(said["Errors"]), bool(said["Structural"]), bool(said["Judged"]), said_of(said["Defaults"]), extra, not said["Panic"])
+
+
 class Field(NamedTuple):
     """A place, its steps, and the keyword there, by the API server's name of a field."""
 
@@ -131,11 +162,12 @@ def field_of(text: str) -> Field:
     return Field(tuple(steps), "")
 
 
-def schema_at(schema: Any, pointer: str) -> Any:
+def schema_at(schema: Schema, pointer: str) -> Schema:
+    at: Json = schema
     for name in pointer.split("/")[1:]:
         word = name.replace("~1", "/").replace("~0", "~")
-        schema = schema[int(word)] if isinstance(schema, list) else schema[word]
-    return schema
+        at = at[int(word)] if isinstance(at, list) else members_of(at)[word]
+    return members_of(at)
 
 
 def is_inside(pointer: str) -> bool:
@@ -149,9 +181,9 @@ def is_hidden(pointer: str) -> bool:
     return bool(branches) and "additionalProperties" in steps[branches[0]:]
 
 
-def break_of(schema: Schema, said: Dict[str, str]) -> Break | None:
+def break_of(schema: Schema, said: Said) -> Break | None:
     """The rule that an error is about, and its place."""
-    detail, field = said["Detail"], field_of(said["Field"])
+    detail, field = said.detail, field_of(said.field)
     if detail.startswith("because it is defined in "):
         return "V02", "".join(field_of(detail[len("because it is defined in "):]).steps)
     if "mutual exclusive" in detail:
@@ -159,7 +191,7 @@ def break_of(schema: Schema, said: Dict[str, str]) -> Break | None:
         return ("V07" if schema_at(schema, place)["additionalProperties"] is False else "V08"), place
     if detail == "must be object" and field.steps == ("/properties/metadata",):
         return "V04", "/properties/metadata"
-    if any(words in detail for words in OTHERS) or detail == "must be object" or (said["Type"] == "FieldValueNotSupported" and field.keyword == "type"):
+    if any(words in detail for words in OTHERS) or detail == "must be object" or (said.sort == "FieldValueNotSupported" and field.keyword == "type"):
         return None
     for words, rule, above in WORDS:
         if words in detail:
@@ -169,7 +201,7 @@ def break_of(schema: Schema, said: Dict[str, str]) -> Break | None:
     raise SystemExit(f"an error that no rule has: {said} of {json.dumps(schema)}")
 
 
-def is_asked_otherwise(tree: Any) -> bool:
+def is_asked_otherwise(tree: Json) -> bool:
     """Whether some schema is int-or-string and has a type or a format."""
     if isinstance(tree, list):
         return any(map(is_asked_otherwise, tree))
@@ -204,7 +236,7 @@ def without_resources(schema: Schema, breaks: Set[Break]) -> Set[Break]:
 
 class Case(NamedTuple):
     schema: Schema
-    go: Dict[str, Any]
+    go: Answer
     rt: str
 
     @property
@@ -213,37 +245,35 @@ class Case(NamedTuple):
 
     @property
     def expected(self) -> Set[Break]:
-        defaults = {(said["Field"], said["Detail"]) for said in self.go["Defaults"] or ()}
-        errors = [said for said in self.go["Errors"] or () if (said["Field"], said["Detail"]) not in defaults and said["Field"].startswith(ROOT_FIELD)]
-        found = {break_of(self.schema, said) for said in errors}
+        found = {break_of(self.schema, said) for said in self.go.errors - self.go.defaults if said.field.startswith(ROOT_FIELD)}
         return {one for one in found if one is not None}
 
     @property
     def bad_defaults(self) -> Set[str]:
-        return {"".join(field_of(said["Field"]).steps) for said in self.go["Defaults"] or ()}
+        return {"".join(field_of(said.field).steps) for said in self.go.defaults}
 
     @property
     def is_judged(self) -> bool:
         """Whether both sides judge defaults, by the same words."""
-        return bool(self.go["Judged"]) and all(rule == "V14" for rule, _ in self.said) and not is_asked_otherwise(self.schema)
+        return self.go.is_judged and all(rule == "V14" for rule, _ in self.said) and not is_asked_otherwise(self.schema)
 
     def asked(self, breaks: Set[Break]) -> Set[Break]:
-        return {(rule, place) for rule, place in breaks if self.go["Structural"] or rule > "V04"}
+        return {(rule, place) for rule, place in breaks if self.go.is_structural or rule > "V04"}
 
     def difference(self) -> str | None:
-        if self.go["Panic"]:
+        if not self.go.has_ended:
             return None
         said, expected = (self.asked(compared(without_resources(self.schema, breaks))) for breaks in (self.said, self.expected))
         if said != expected:
             return f"API server {sorted(expected)}, crate {sorted(said)}"
         bad = {place for rule, place in self.said if rule == "V14"}
-        if self.is_judged and bad != self.bad_defaults | {*(self.go["Extra"] or ())}:
-            return f"defaults: API server {sorted(self.bad_defaults)} and {self.go['Extra']}, crate {sorted(bad)}"
+        if self.is_judged and bad != self.bad_defaults | self.go.extra:
+            return f"defaults: API server {sorted(self.bad_defaults)} and {sorted(self.go.extra)}, crate {sorted(bad)}"
         return None
 
 
 def drawn(cases: Cases, count: int) -> list[str]:
-    lines: Dict[str, None] = {}
+    lines: dict[str, None] = {}
     while len(lines) < count:
         lines[json.dumps(as_read(cases.definition()))] = None
     return [*lines]
@@ -267,9 +297,10 @@ def newer_validator(folder: pathlib.Path) -> str:
 def compare(cases: list[Case]) -> bool:
     differing = [(case, difference) for case in cases for difference in (case.difference(),) if difference is not None]
     rules = collections.Counter(rule for case in cases for rule in {rule for rule, _ in case.said})
-    panics, judged = sum(case.go["Panic"] for case in cases), [case for case in cases if not case.go["Panic"] and case.is_judged]
-    more = sum({*(case.go["Extra"] or ())} - case.bad_defaults != set() for case in judged)
-    print(f"test_refusals: {len(cases)} cases, {len(differing)} differ; in {len(judged)} both sides judge defaults, in {more} of them one that the API server takes; it panics at {panics}")
+    panics, judged = sum(not case.go.has_ended for case in cases), [case for case in cases if case.go.has_ended and case.is_judged]
+    more = sum(case.go.extra - case.bad_defaults != set() for case in judged)
+    print(f"test_refusals: {len(cases)} cases, {len(differing)} differ; the API server panics at {panics}")
+    print(f"  both sides judge defaults in {len(judged)}; in {more} of them one is refused by what the API server asks objects alone")
     print("  broken: " + ", ".join(f"{rule} {count}" for rule, count in sorted(rules.items())))
     for case, difference in sorted(differing, key=lambda pair: len(json.dumps(pair[0].schema)))[:SHOWN]:
         print(f"  {json.dumps(case.schema)}\n    {difference}")
@@ -293,7 +324,7 @@ def main() -> int:
         folder = pathlib.Path(name)
         go = of_go(folder, PROGRAMS / "main.go", "".join(schema + "\n" for schema in schemas), f"{newer_validator(folder)}:{packages_of(folder, source)}")
         rt = of_crates(folder, (*BELOW, "schema", "stored", "cluster"), PROGRAMS / "main.rt.txt", CRATES, kept + "".join(map(document_of, schemas)))[1:]
-    cases = [Case(json.loads(schema), json.loads(answer), said) for schema, answer, said in zip(schemas, go, rt)]
+    cases = [Case(members_of(json.loads(schema)), Answer.of(answer), said) for schema, answer, said in zip(schemas, go, rt)]
     return 0 if compare(cases) else 1
 
 

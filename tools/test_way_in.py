@@ -28,6 +28,10 @@ from way_in_cases import Cases
 PROGRAMS = ROOT / "tools" / "test_way_in"
 SCHEMA = pathlib.PurePath("k8s.io", "apiextensions-apiserver", "pkg", "apiserver", "schema")
 CRATES = """jtree: fast_float itoa json serde_json thiserror
+text_tests:
+judge: jtree text_tests
+schema: jtree thiserror
+stored: jtree judge schema thiserror
 cluster: jtree judge schema stored text_tests
 way_in_lines: cluster jtree
 """
@@ -99,7 +103,7 @@ def main() -> int:
     with tempfile.TemporaryDirectory() as name:
         folder = pathlib.Path(name)
         go = of_go(folder, PROGRAMS / "main.go", "".join(lines), packages_of(folder, source))
-        rt = of_crates(folder, ("jtree", "cluster"), PROGRAMS / "main.rt.txt", CRATES, "".join(lines))
+        rt = of_crates(folder, ("jtree", "text_tests", "judge", "schema", "stored", "cluster"), PROGRAMS / "main.rt.txt", CRATES, "".join(lines))
     return 0 if compare([*map(Answers, lines, go, rt)]) else 1
 
 

@@ -115,7 +115,8 @@ func answerTo(text string) (made answer) {
 		}
 	}()
 	props := schemaOf(text)
-	made.Errors = saidOf(validation.ValidateCustomResourceDefinition(definitionOf(props), runtimeschema.GroupVersion{Group: "apiextensions.k8s.io", Version: "v1"}))
+	version := runtimeschema.GroupVersion{Group: "apiextensions.k8s.io", Version: "v1"}
+	made.Errors = saidOf(validation.ValidateCustomResourceDefinition(definitionOf(props), version))
 	structural, err := schema.NewStructural(props)
 	made.Structural = err == nil
 	made.Judged = err == nil && len(schema.ValidateStructural(nil, structural)) == 0

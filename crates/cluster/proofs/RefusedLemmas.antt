@@ -1,6 +1,6 @@
 -- Defaults that are not good, and the violations that report them.
-use Rattle.std.proofs.Common.{◌≡◌, ◌≢◌, ◌↔◌, ◌⊎◌, ℕ, List, [], ◌∷◌, ◌++◌, Bool, true, false, Some, refl, sym, ap, ◌∙◌, subst, inl, inr, arith}
-use Rattle.std.specs.Prelude.{IsTrue, Decides, All, map, string_bytes}
+use Rattle.std.proofs.Common.{◌≡◌, ◌≢◌, ◌↔◌, List, [], ◌∷◌, ◌++◌, Bool, true, Some, refl, sym, ap, ◌∙◌, subst, inl, inr}
+use Rattle.std.specs.Prelude.{IsTrue, Decides, All, map}
 use Rattle.std.specs.Cmp.{Equal-is}
 use Rattle.std.specs.Ordering.{is_eq}
 use Rattle.std.specs.declared.cmp.Ordering.TheVariants.{Less, Equal}
@@ -14,13 +14,12 @@ use Rattle.jtree.specs.Internal.OrderLaws.{tree_total, tree_same}
 use Rattle.jtree.specs.Internal.Rising.{Among, Rising, index_of, contained, contains, each_of, rising, all_pairs}
 use Rattle.judge.specs.Faults.{some_fails, IsValid}
 use Rattle.judge.specs.Keywords.{Texts}
-use Rattle.schema.specs.Document.Places.{Place, schema_at}
+use Rattle.schema.specs.Document.Places.{schema_at}
 use Rattle.schema.specs.Document.Raw.{Raw}
-use Rattle.schema.specs.Rules.Breaks.{Break, Breaking, break_cmp, AreBreaks, IsUnbroken, AreViolations, reported, reported_of}
+use Rattle.schema.specs.Rules.Breaks.{Break, Breaking, break_cmp, IsUnbroken, AreViolations, reported, reported_of}
 use Rattle.schema.specs.Rules.Cluster.{IsRefused, HasDefaultAt, IsDefaultOf, AreJudgedDefaults, is_judged_default}
 use Rattle.schema.specs.Rules.Explained.{OneByOne}
 use Rattle.schema.specs.declared.defaults.JudgedDefault.{JudgedDefault}
-use Rattle.schema.specs.declared.violation.Rule.{Rule}
 use Rattle.schema.specs.declared.violation.Violation.{Violation}
 use Rattle.cluster.specs.Refused.{pruned_value, IsGoodDefault, IsBadDefault, HasBadDefault, IsRefusedBy}
 use Rattle.cluster.specs.Internal.BadDefaults.{IsBad, IsReportOf, AreBad}

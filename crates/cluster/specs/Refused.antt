@@ -1,7 +1,7 @@
 -- By which rules the schema of a definition is refused, by the profile that it was read by: by those of this project, or by those of a cluster
 -- (k8s.io/apiextensions-apiserver). A default that a cluster judges has to be left as it is by pruning, and valid by the schema of its place as
 -- it is written, before anything is filled in ("defaulting" of apiextensions.k8s.io/v1; pkg/apiserver/schema/defaulting/validation.go).
-use Rattle.std.specs.Prelude.{◌≡◌, ◌⊎◌, ℕ, List, Bool, true, Option, Some, codes}
+use Rattle.std.specs.Prelude.{◌≡◌, ◌⊎◌, true, Some, codes}
 use Rattle.jtree.specs.Data.{Data}
 use Rattle.jtree.specs.Path.{under}
 use Rattle.judge.specs.Faults.{some_fails, IsValid}
@@ -13,7 +13,6 @@ use Rattle.schema.specs.Rules.Breaks.{Breaking, IsUnbroken}
 use Rattle.schema.specs.Rules.Cluster.{IsRefused, is_judged_default}
 use Rattle.schema.specs.declared.profile.Profile.{Profile}
 use Rattle.schema.specs.declared.profile.Profile.TheVariants.{Core, Cluster}
-use Rattle.schema.specs.declared.violation.Rule.{Rule}
 use Rattle.schema.specs.declared.violation.Rule.TheVariants.{V14}
 use Rattle.stored.specs.Schemas.Accepted.{IsBroken}
 use Rattle.cluster.specs.Keywords.{is_embedded, keeps_undeclared}

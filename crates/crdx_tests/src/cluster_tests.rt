@@ -1,2 +1,3 @@
 //! Tests of `cluster`.
+mod refusal_cases;
 mod way_cases;

@@ -27,6 +27,7 @@
 //! | `cel_tests/token_cases` | the tokens of expressions, and why a text has none |
 //! | `cel_tests/tree_cases` | the syntax trees of expressions, and where tokens are none |
 //! | `cel_tests/eval_cases` | what expressions give: values, errors, and what is not judged |
+//! | `cluster_tests/refusal_cases` | by which rules a cluster refuses schemas, and where it judges defaults |
 //! | `cluster_tests/way_cases` | objects on their way in: pruned, without nulls, filled |
 //! | `judge_tests/fault_cases` | values judged by schemas as they are written |
 //! | `judge_tests/pattern_cases` | the patterns of a schema, with their pointers |

@@ -17,7 +17,7 @@ use Rattle.schema.specs.Document.Places.{Place, place_path, IsPlace}
 use Rattle.schema.specs.Internal.PlaceView.{place_of, subschema_of}
 use Rattle.schema.specs.Internal.Events.{Event, entered, counted, IsIn, Ascend, subschemas_of, schema_events}
 use Rattle.schema.specs.Rules.Broken.{Broken, metadata_keyword, metadata_type, metadata_field}
-use Rattle.schema.specs.Rules.Breaks.{Break, number, break_cmp, reported, reported_of, AreBreaks, AreViolations}
+use Rattle.schema.specs.Rules.Breaks.{Break, number, break_cmp, reported, reported_of, AreViolations}
 use Rattle.schema.specs.Rules.Explained.{OneByOne}
 use Rattle.schema.specs.Internal.Subschemas.{IsSubschema, AreSubschemas}
 use Rattle.schema.specs.Internal.Judged.{judged, pair, pairs_at, pairs_of, Holds, AddsBreaks, AreAnswers, IsReported}

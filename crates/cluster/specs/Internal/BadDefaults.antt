@@ -1,5 +1,5 @@
 -- For private contracts: the violations that report the defaults that are not good.
-use Rattle.std.specs.Prelude.{◌≡◌, List, [], ◌∷◌, string_bytes}
+use Rattle.std.specs.Prelude.{◌≡◌, List, string_bytes}
 use Rattle.jtree.specs.View.{data_of}
 use Rattle.judge.specs.Keywords.{Texts}
 use Rattle.schema.specs.Internal.Taken.{Taken}
