@@ -49,6 +49,7 @@
 //! | `program/all_cases` | `sample --all`: all lines, past 10,000 too, flushes, and sinks that fail |
 //! | `program/line_cases` | `validate`, `prune`, `default` and `leaves` of objects on lines |
 //! | `program/why_cases` | the reasons that `check --why` prints |
+//! | `program/definition_why_cases` | what `check --why` says below each rule of a cluster, and its warnings |
 //! | `program/cover_cases` | what `cover` prints |
 //! | `program/limit_cases` | `sample` with limits up to 127 |
 //! | `program/path_cases`, `bad_path_cases` | `sample` with values listed for the paths of fields, and paths that are refused |

@@ -2,11 +2,19 @@
 
 mod definitions;
 mod documents;
+mod fault_places;
+mod fault_values;
+pub(crate) mod faults;
 mod fields;
+mod keywords;
 mod objects;
+mod pointers;
 mod pools;
+pub(crate) mod rules;
 mod samples;
 mod values;
+pub(crate) mod warnings;
+mod words;
 
 use crate::arguments::CommonArguments;
 use crate::inputs::{InputName, Inputs};
