@@ -53,7 +53,7 @@ a group in capitals | .example.org"},"spec":{"group":"example.org" | .Example.or
     >     found "Example.org"; allowed is a DNS subdomain (RFC 1123: lowercase letters, digits, "-" and ".") with a "." in it
 a group of Kubernetes | "group":"example.org" | "group":"x.k8s.io"
     > C07 "/metadata"
-    >     found the group "x.k8s.io", which is one of Kubernetes; it needs the annotation "api-approved.kubernetes.io"
+    >     found the group "x.k8s.io", which is reserved for Kubernetes; it needs the annotation "api-approved.kubernetes.io"
     > C05 "/metadata/name"
     >     found "widgets.example.org"; allowed is "widgets.x.k8s.io"
 another scope | "Namespaced" | "Everywhere"
@@ -274,7 +274,7 @@ an embedded resource that is a map | {"type":"string"}
 an embedded resource in metadata | "properties":{"a":{"type":"string"}} | "properties":{"metadata":{"type":"object","properties":{"name":
     {"type":"object","x-kubernetes-embedded-resource":true,"x-kubernetes-preserve-unknown-fields":true}}}}
     > C21 "/properties/metadata/properties/name"
-    >     found a resource in the "apiVersion", "kind" or "metadata" of another; allowed is none there
+    >     found an embedded resource in the "apiVersion", "kind" or "metadata" of another, where none is allowed
 a reference | {"type":"string"} | {"type":"string","$ref":""}
     > C22 "/properties/a"
     >     found "$ref": ""; no custom resource may have this: write out what it stands for, or remove it
@@ -307,7 +307,7 @@ metadata in a branch | "properties":{"a" | "anyOf":[{"properties":{"metadata":{}
 long texts | {"type":"string"} | {"type":"float-and-a-very-long-name-that-nobody-would-want-to-read-on-one-line-and-that-would-fill-a-whole-screen
     -if-it-were-printed-as-it-stands"}
     > C16 "/properties/a"
-    >     found "type": a string of 136 bytes; allowed are "array", "boolean", "integer", "number", "object" and "string"
+    >     found "type": a string; allowed are "array", "boolean", "integer", "number", "object" and "string"
 a resource, and other fields | {"type":"string"} | {"x-kubernetes-embedded-resource":true,"type":"string","properties":{}}
     > C21 "/properties/a"
     >     found "properties": {} and "type": "string"; an embedded resource has to have "type": "object", no "additionalProperties", and␄

@@ -1,5 +1,6 @@
 //! Why a schema is refused by a cluster.
 
+use crate::running::explanation::keywords::is_true;
 use crate::running::explanation::pointers::last_name;
 use crate::running::explanation::words::{allowed_names, member_texts, names_text, shown_name};
 use definition::{Fault, Fields, Needed, Place, Rule, schema_faults};
@@ -40,7 +41,7 @@ pub(crate) fn place_reason(
         ),
         Rule::BadResource if place.is_in_metadata => String::from_str(
             alloc,
-            r#"found a resource in the "apiVersion", "kind" or "metadata" of another; allowed is none there"#,
+            r#"found an embedded resource in the "apiVersion", "kind" or "metadata" of another, where none is allowed"#,
         ),
         Rule::BadResource => resource_reason(alloc, schema),
         Rule::UnsupportedKeyword => unsupported_reason(alloc, schema),
@@ -83,10 +84,11 @@ fn int_or_string_reason(alloc: Global, schema: &Tree) -> Result<String, AllocErr
 }
 
 fn resource_reason(alloc: Global, schema: &Tree) -> Result<String, AllocError> {
-    let mut keywords = ["additionalProperties", "type"].as_slice();
-    if !is_true(schema.get("x-kubernetes-preserve-unknown-fields")) {
-        keywords = &["additionalProperties", "properties", "type"];
-    }
+    let keywords: &[&str] = if is_true(schema.get("x-kubernetes-preserve-unknown-fields")) {
+        &["additionalProperties", "type"]
+    } else {
+        &["additionalProperties", "properties", "type"]
+    };
     let bad = bad_keywords(alloc, Rule::BadResource, schema, keywords)?;
     let found = member_texts(alloc, schema, bad.as_slice())?;
     format!(in alloc;
@@ -145,10 +147,6 @@ fn is_unsupported(keyword: &str, value: Option<&Tree>) -> bool {
 
 fn is_there(value: Option<&Tree>) -> bool {
     !matches!(value, None | Some(Tree::Null))
-}
-
-fn is_true(value: Option<&Tree>) -> bool {
-    matches!(value, Some(Tree::Bool(true)))
 }
 
 fn has_members(value: Option<&Tree>) -> bool {

@@ -135,7 +135,7 @@ fn metadata_reason(
         (Rule::ProtectedGroup, Some(spec)) => {
             let group = shown_value(alloc, spec.get("group").unwrap_or(spec))?;
             format!(in alloc;
-                "found the group {group}, which is one of Kubernetes; it needs the annotation \"api-approved.kubernetes.io\""
+                "found the group {group}, which is reserved for Kubernetes; it needs the annotation \"api-approved.kubernetes.io\""
             )
         }
         _ => missing_reason(alloc, Fields::Metadata, metadata),

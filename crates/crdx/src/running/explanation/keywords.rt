@@ -1,4 +1,6 @@
-//! Where a schema has other schemas.
+//! The keywords of a schema: where it has other schemas, and which are true.
+
+use jtree::Tree;
 
 /// What stands under a keyword of a schema.
 #[derive(Clone, Copy)]
@@ -24,4 +26,8 @@ impl Under {
 
 pub(crate) fn is_junctor(keyword: &str) -> bool {
     matches!(keyword, "allOf" | "anyOf" | "not" | "oneOf")
+}
+
+pub(crate) fn is_true(value: Option<&Tree>) -> bool {
+    matches!(value, Some(Tree::Bool(true)))
 }

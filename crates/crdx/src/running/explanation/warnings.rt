@@ -1,7 +1,7 @@
 //! What a cluster takes in a schema, and is hardly meant: formats of which nothing is asked, and required fields that are always pruned.
 
 use crate::running::answer::json_text;
-use crate::running::explanation::keywords::{Under, is_junctor};
+use crate::running::explanation::keywords::{Under, is_junctor, is_true};
 use crate::running::explanation::pointers::member_at;
 use crate::running::explanation::words::shown_name;
 use formats::Format;
@@ -166,7 +166,8 @@ fn add_unreachable(
     let Some(properties) = only_properties(keywords) else {
         return Ok(());
     };
-    let is_resource = place.pointer.is_empty() || is_embedded(keywords);
+    let is_resource = place.pointer.is_empty()
+        || is_true(member_at(keywords, "x-kubernetes-embedded-resource"));
     for name in &required.items {
         if let Tree::Text(name) = name {
             let name = name.as_str();
@@ -194,22 +195,16 @@ fn add_required(
 
 /// The properties of a schema, where all else is pruned.
 fn only_properties(keywords: &Members) -> Option<&Members> {
+    if is_true(member_at(keywords, "x-kubernetes-preserve-unknown-fields")) {
+        return None;
+    }
     match (
         member_at(keywords, "properties"),
         member_at(keywords, "additionalProperties"),
-        member_at(keywords, "x-kubernetes-preserve-unknown-fields"),
     ) {
-        (_, _, Some(Tree::Bool(true))) => None,
-        (Some(Tree::Object(properties)), None | Some(Tree::Null), _) => Some(properties),
+        (Some(Tree::Object(properties)), None | Some(Tree::Null)) => Some(properties),
         _ => None,
     }
-}
-
-fn is_embedded(keywords: &Members) -> bool {
-    matches!(
-        member_at(keywords, "x-kubernetes-embedded-resource"),
-        Some(Tree::Bool(true))
-    )
 }
 
 /// Whether a resource keeps the field, though it declares none.

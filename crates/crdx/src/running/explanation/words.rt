@@ -37,7 +37,10 @@ fn shown_text(alloc: Global, kind: &str, text: &str) -> Result<String, AllocErro
 fn member_text(alloc: Global, schema: &Tree, keyword: &str) -> Result<String, AllocError> {
     match schema.get(keyword) {
         Some(value) => {
-            let value = shown_value(alloc, value)?;
+            let value = match value {
+                Tree::Text(_) => found_text(alloc, Some(value))?,
+                _ => shown_value(alloc, value)?,
+            };
             format!(in alloc; "\"{keyword}\": {value}")
         }
         None => format!(in alloc; "no \"{keyword}\""),
