@@ -51,6 +51,7 @@
 //! | `program/line_cases` | `validate`, `prune`, `default` and `leaves` of objects on lines |
 //! | `program/version_cases` | `check --profile cluster`: all versions, and what a cluster alone takes or refuses |
 //! | `program/why_cases` | the reasons that `check --why` prints |
+//! | `program/definition_why_cases` | what `check --why` says below each rule of a cluster, and its warnings |
 //! | `program/cover_cases` | what `cover` prints |
 //! | `program/limit_cases` | `sample` with limits up to 127 |
 //! | `program/path_cases`, `bad_path_cases` | `sample` with values listed for the paths of fields, and paths that are refused |

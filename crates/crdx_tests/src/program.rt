@@ -6,6 +6,7 @@ mod broken_sink_cases;
 mod check_cases;
 mod cover_beside_cases;
 mod cover_cases;
+mod definition_why_cases;
 mod envelope_cases;
 mod explain_cases;
 mod explanation_cases;

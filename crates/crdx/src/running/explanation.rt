@@ -1,14 +1,21 @@
 //! What `--why` adds to a refusal: what was found, and what is allowed. No contract speaks of its words.
 
+mod allowed;
 mod definitions;
 mod documents;
+mod fault_places;
+mod fault_values;
 mod faults;
 mod fields;
+mod keywords;
 mod objects;
+mod pointers;
 mod pools;
 mod rules;
 mod samples;
 mod values;
+mod warnings;
+mod words;
 
 use crate::arguments::CommonArguments;
 use crate::inputs::{InputName, Inputs};
@@ -29,8 +36,10 @@ use schema::{Crd, read_crd_by};
 use std::alloc::{AllocError, Global};
 use stored::explained;
 
+pub(crate) use crate::running::explanation::allowed::allowed_by;
 pub(crate) use crate::running::explanation::faults::fault_reason;
-pub(crate) use crate::running::explanation::rules::allowed_by;
+pub(crate) use crate::running::explanation::rules::{count_rules, rules_line};
+pub(crate) use crate::running::explanation::warnings::warning_lines;
 
 /// What is said of a refusal, each line with its end; nothing where there is no more to say. The lines of violations and of
 /// patterns have those of the cause in them.

@@ -1,36 +1,67 @@
-//! What a cluster allows where a schema breaks one of its rules.
+//! The rules of a schema in the Common Expression Language, which are not judged.
 
-use schema::Rule;
+use crate::running::explanation::keywords::Under;
+use jtree::{Items, Members, Tree};
+use std::alloc::{AllocError, Global};
 
-/// What is allowed at the place, on one line.
-pub(crate) fn allowed_by(rule: Rule) -> &'static str {
-    match rule {
-        Rule::V01 => {
-            "a place outside of junctors has a type, unless it is int-or-string or preserves unknown fields"
+/// How many entries `x-kubernetes-validations` has in a schema and in all that are in it, at most 2^64 - 1.
+#[cycle(rules)]
+pub(crate) fn count_rules(schema: &Tree) -> u64 {
+    match schema {
+        Tree::Object(keywords) => rules_of_keywords(keywords),
+        _ => 0,
+    }
+}
+
+#[cycle(rules)]
+fn rules_of_keywords(keywords: &Members) -> u64 {
+    let mut count: u64 = 0;
+    for keyword in &keywords.members {
+        let below = rules_under(keyword.name.as_str(), &keyword.tree);
+        count = count.saturating_add(below);
+    }
+    count
+}
+
+#[cycle(rules)]
+fn rules_under(keyword: &str, value: &Tree) -> u64 {
+    match (Under::keyword(keyword), value) {
+        (Under::Schema, schema) => count_rules(schema),
+        (Under::Schemas, Tree::List(schemas)) => rules_of_branches(schemas),
+        (Under::NamedSchemas, Tree::Object(schemas)) => rules_of_properties(schemas),
+        (_, Tree::List(rules)) if keyword == "x-kubernetes-validations" => {
+            rules.items.len() as u64
         }
-        Rule::V02 => "a field that a junctor of the root names is declared outside of it too",
-        Rule::V03 => {
-            "a junctor has no additionalProperties, default, description, nullable, title or type, and no keyword of Kubernetes"
-        }
-        Rule::V04 => "metadata is an object, and restricts name and generateName alone",
-        Rule::V05 => {
-            "no $ref, $schema, additionalItems, definitions, dependencies, id or patternProperties"
-        }
-        Rule::V06 => "no uniqueItems; x-kubernetes-list-type: set says the same of scalars",
-        Rule::V07 => "additionalProperties beside properties is absent or true",
-        Rule::V08 => "an object has either properties or a schema at additionalProperties",
-        Rule::V10 => "x-kubernetes-list-type is atomic, set or map, and of an array",
-        Rule::V11 => {
-            "the items of a map list are objects that are not nullable, and each key is a scalar property of them, listed once, that is required or has a default"
-        }
-        Rule::V12 => {
-            "the items of a set are scalars, atomic lists or atomic objects, and not nullable"
-        }
-        Rule::V13 => "x-kubernetes-map-type is granular or atomic, and of an object",
-        Rule::V14 => {
-            "a default is as pruning leaves it, and valid by its schema as it is written, before defaults are filled in"
-        }
-        Rule::V15 => "no default at the root, nor at apiVersion, kind or metadata",
-        Rule::V09 | Rule::V16 | Rule::V17 => "a cluster asks nothing here",
+        _ => 0,
+    }
+}
+
+#[cycle(rules)]
+fn rules_of_branches(schemas: &Items) -> u64 {
+    let mut count: u64 = 0;
+    for schema in &schemas.items {
+        count = count.saturating_add(count_rules(schema));
+    }
+    count
+}
+
+#[cycle(rules)]
+fn rules_of_properties(schemas: &Members) -> u64 {
+    let mut count: u64 = 0;
+    for member in &schemas.members {
+        count = count.saturating_add(count_rules(&member.tree));
+    }
+    count
+}
+
+/// The line that says how many rules are not judged, with its end; nothing where there are none.
+pub(crate) fn rules_line(alloc: Global, count: u64) -> Result<String, AllocError> {
+    match count {
+        0 => Ok(String::new(alloc)),
+        1 => String::from_str(
+            alloc,
+            "crdx: 1 rule of x-kubernetes-validations is not judged\n",
+        ),
+        _ => format!(in alloc; "crdx: {count} rules of x-kubernetes-validations are not judged\n"),
     }
 }
