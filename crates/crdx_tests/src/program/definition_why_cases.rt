@@ -316,7 +316,7 @@ a resource, and other fields | {"type":"string"} | {"x-kubernetes-embedded-resou
 
 // What is said of definitions that break no rule.
 static WARNINGS: &str = r#"
-11 rows: name | old | new
+15 rows: name | old | new
 a format that nobody knows | {"type":"string"} | {"type":"string","format":"int33"}
     ! crdx: warning: "/properties/a" format "int33" is not one that the API server knows, so nothing is asked
 formats that are tested, and of which nothing is asked on purpose | "a":{"type":"string"} | "a":{"type":"string","format":"date-time"},
@@ -326,6 +326,15 @@ in a branch, and below an escaped name | "a":{"type":"string"} | "a/b":{"type":"
 a field with the name of a keyword | {"type":"string"} | {"type":"object","properties":{"format":{"type":"string"}}}
 a required name that is not declared | {"type":"string"} | {"type":"object","required":["b","c"],"properties":{"c":{"type":"string"}}}
     ! crdx: warning: "/properties/a" required names "b", which no property declares, so no object meets it
+of an embedded resource, but not of its envelope | {"type":"string"} | {"type":"object","x-kubernetes-embedded-resource":true,
+    "required":["kind","spec"],"properties":{"metadata":{"type":"object","required":["labels"],"properties":{"name":{"type":"string"}}}}}
+    ! crdx: warning: "/properties/a" required names "spec", which no property declares, so no object meets it
+in the metadata of the root | "properties":{ | "properties":{"metadata":{"type":"object","required":["labels"],"properties":{"name":{"type":"string"}}},
+of items | {"type":"string"} | {"type":"array","items":{"type":"object","required":["b"],"properties":{"c":{"type":"string"}}}}
+    ! crdx: warning: "/properties/a/items" required names "b", which no property declares, so no object meets it
+of items that are preserved, and below them | {"type":"string"} | {"type":"array","x-kubernetes-preserve-unknown-fields":true,"items":{"type":"object",
+    "required":["b"],"properties":{"c":{"type":"object","required":["d"],"properties":{"e":{"type":"string"}}}}}}
+    ! crdx: warning: "/properties/a/items/properties/c" required names "d", which no property declares, so no object meets it
 that is preserved | {"type":"string"}
     | {"type":"object","required":["b"],"properties":{"c":{"type":"string"}},"x-kubernetes-preserve-unknown-fields":true}
 of a map | {"type":"string"} | {"type":"object","required":["b"],"additionalProperties":{"type":"string"}}

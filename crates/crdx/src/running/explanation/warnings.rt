@@ -26,8 +26,12 @@ const UNASKED: [&str; 9] = [
 #[derive(Clone, Copy)]
 struct Place<'a> {
     pointer: &'a str,
-    /// Whether it is in a branch of a junctor.
-    is_inside: bool,
+    /// Whether fields are pruned by it: outside of junctors and of the metadata of resources.
+    prunes: bool,
+    /// Whether it is the root or an embedded resource.
+    is_resource: bool,
+    /// Whether it, or the list whose items it is for, preserves unknown fields.
+    preserves: bool,
 }
 
 /// The warnings about a schema and all that are in it, in path order, each a line with its end. Pointers begin at the schema.
@@ -35,7 +39,9 @@ pub(crate) fn warning_lines(alloc: Global, schema: &Tree) -> Result<String, Allo
     let mut lines = String::new(alloc);
     let root = Place {
         pointer: "",
-        is_inside: false,
+        prunes: true,
+        is_resource: true,
+        preserves: false,
     };
     add_schema(alloc, &mut lines, root, schema)?;
     Ok(lines)
@@ -51,14 +57,29 @@ fn add_schema(
     let Tree::Object(keywords) = schema else {
         return Ok(());
     };
+    let place = place.with(keywords);
     add_format(alloc, lines, place, keywords)?;
-    if !place.is_inside {
+    if place.prunes && !place.preserves {
         add_unreachable(alloc, lines, place, keywords)?;
     }
     for keyword in &keywords.members {
         add_keyword(alloc, lines, place, keyword)?;
     }
     Ok(())
+}
+
+impl Place<'_> {
+    /// The same, by what its keywords say.
+    fn with(self, keywords: &Members) -> Self {
+        let is_embedded = is_true(member_at(keywords, "x-kubernetes-embedded-resource"));
+        let preserves = is_true(member_at(keywords, "x-kubernetes-preserve-unknown-fields"));
+        Place {
+            pointer: self.pointer,
+            prunes: self.prunes,
+            is_resource: self.is_resource || is_embedded,
+            preserves: self.preserves || preserves,
+        }
+    }
 }
 
 /// Adds the warnings about the schemas under a keyword.
@@ -73,7 +94,9 @@ fn add_keyword(
     let pointer = pointer_under(alloc, place.pointer, name)?;
     let below = Place {
         pointer: pointer.as_str(),
-        is_inside: place.is_inside || is_junctor(name),
+        prunes: place.prunes && !is_junctor(name),
+        is_resource: place.is_resource && name == "properties",
+        preserves: place.preserves && name == "items",
     };
     match (Under::keyword(name), &keyword.tree) {
         (Under::Schema, schema) => add_schema(alloc, lines, below, schema),
@@ -97,13 +120,16 @@ fn add_branches(
         push_index(&mut pointer, index as u64).map_err(|_| AllocError)?;
         let branch = Place {
             pointer: pointer.as_str(),
-            is_inside: place.is_inside,
+            prunes: false,
+            is_resource: false,
+            preserves: false,
         };
         add_schema(alloc, lines, branch, schema)?;
     }
     Ok(())
 }
 
+/// Adds the warnings about properties, which are those of a resource where the place is one.
 #[cycle(warnings)]
 fn add_properties(
     alloc: Global,
@@ -112,10 +138,13 @@ fn add_properties(
     schemas: &Members,
 ) -> Result<(), AllocError> {
     for member in &schemas.members {
-        let pointer = pointer_under(alloc, place.pointer, member.name.as_str())?;
+        let name = member.name.as_str();
+        let pointer = pointer_under(alloc, place.pointer, name)?;
         let property = Place {
             pointer: pointer.as_str(),
-            is_inside: place.is_inside,
+            prunes: place.prunes && !(place.is_resource && is_envelope(name)),
+            is_resource: false,
+            preserves: false,
         };
         add_schema(alloc, lines, property, &member.tree)?;
     }
@@ -166,12 +195,10 @@ fn add_unreachable(
     let Some(properties) = only_properties(keywords) else {
         return Ok(());
     };
-    let is_resource = place.pointer.is_empty()
-        || is_true(member_at(keywords, "x-kubernetes-embedded-resource"));
     for name in &required.items {
         if let Tree::Text(name) = name {
             let name = name.as_str();
-            if member_at(properties, name).is_none() && !(is_resource && is_envelope(name)) {
+            if member_at(properties, name).is_none() && !(place.is_resource && is_envelope(name)) {
                 add_required(alloc, lines, place, name)?;
             }
         }
@@ -193,11 +220,8 @@ fn add_required(
     lines.push_str(line.as_str())
 }
 
-/// The properties of a schema, where all else is pruned.
+/// The properties of a schema that has no others.
 fn only_properties(keywords: &Members) -> Option<&Members> {
-    if is_true(member_at(keywords, "x-kubernetes-preserve-unknown-fields")) {
-        return None;
-    }
     match (
         member_at(keywords, "properties"),
         member_at(keywords, "additionalProperties"),
