@@ -1,7 +1,8 @@
 -- What `check` says of a schema, as an answer.
-use Rattle.std.proofs.Common.{◌≡◌, ◌≢◌, ◌⊎◌, ◌∙◌, ◌++◌, ℕ, List, [], ◌∷◌, Bool, true, false, refl, ap, sym, subst, inl, inr, map, flat_map, Ok, Err, string_bytes, codes}
+use Rattle.std.proofs.Common.{◌≡◌, ◌≢◌, ◌⊎◌, ◌∙◌, ◌++◌, ℕ, List, [], ◌∷◌, Bool, true, false, refl, ap, sym, subst, inl, inr, ◌+◌, ◌<◌, ◌≤◌, length, get_or, drop, map, flat_map, Ok, Err, string_bytes, codes, append-nil, append_assoc}
 use Rattle.std.specs.Prelude.{Result, IfOk}
 use Rattle.std.specs.declared.alloc.AllocError.{AllocError}
+use Rattle.std.proofs.lemmas.List.{drop_more, drop_all}
 use Rattle.std.proofs.lemmas.List.Folds.{flat_map-map}
 use Rattle.jtree.specs.Data.{Data}
 use Rattle.schema.specs.Document.Raw.{Raw}
@@ -13,12 +14,13 @@ use Rattle.schema.specs.declared.reason.Explained.{Explained}
 use Rattle.schema.specs.declared.violation.Violation.{Violation}
 use Rattle.stored.specs.Schemas.Accepted.{IsBroken}
 use Rattle.cluster.specs.Refused.{IsBrokenBy}
+use Rattle.definition.specs.Faults.{AreSchemaFaults}
 use Rattle.definition.specs.declared.finding.Fault.{Fault}
-use Rattle.crdx.specs.Internal.CheckText.{IsSaidText, IsDefinitionText}
-use Rattle.crdx.specs.Program.CheckAnswer.{Said, nothing, IsBrokenBeside, IsSaid, IsBeside, AreSaidOf, AreWithWords, AreLines, AreBreakLines, AreLinesBy, AreLinesOf, IsCheckAnswer, structural, refused}
+use Rattle.crdx.specs.Internal.CheckText.{IsItemText, IsSaidText, IsDefinitionText}
+use Rattle.crdx.specs.Program.CheckAnswer.{Said, nothing, has_status, IsBrokenBeside, IsSaid, IsBeside, AreSaidOf, AreWithWords, AreLines, AreBreakLines, AreLinesBy, AreLinesOf, IsCheckAnswer, structural, refused}
 use Rattle.crdx.specs.Program.DefinitionLines.{line_of, code_of as rule_code}
 use Rattle.crdx.specs.Program.PatternLines.{code_of, pattern_lines}
-use Rattle.crdx.specs.Program.RefusedPatterns.{Refused}
+use Rattle.crdx.specs.Program.RefusedPatterns.{Refused, AreRefusedPatterns}
 use Rattle.crdx.specs.Program.Standard.{tests_of_texts}
 use Rattle.crdx.specs.Program.ViolationLines.{violation_line, violation_lines, explained_lines}
 use Rattle.crdx.specs.declared.running.answer.Answer.{Answer}
@@ -132,6 +134,28 @@ pub check_result : (document : Data) (version : List ℕ) (raw : Raw) (why : Boo
 check_result document version raw why said shown (Ok a) none some is are = check_answer document version raw why said shown a none some is are
 check_result document version raw why said shown (Err e) none some is are = tt
 
+-- one more item before others
+six : (a b c d e f rest : List ℕ) → (a ++ (b ++ (c ++ (d ++ (e ++ f))))) ++ rest ≡ a ++ (b ++ (c ++ (d ++ (e ++ (f ++ rest)))))
+six a b c d e f rest = append_assoc a _ rest ∙ ap (λ t. a ++ t) (append_assoc b _ rest ∙ ap (λ t. b ++ t) (append_assoc c _ rest ∙ ap (λ t. c ++ t) (append_assoc d _ rest ∙ ap (λ t. d ++ t) (append_assoc e f rest))))
+
+item_first : {X : Type 0} (front : List ℕ) (why : Bool) (line : X → List ℕ) (x : X) (xs : List X) (text rest : List ℕ) → IsItemText front why (line x) text → AreLines front why line xs rest
+    → AreLines front why line (x ∷ xs) (text ++ rest)
+item_first front false line x xs text rest is are = ap (λ t. t ++ rest) is ∙ ap (λ t. (front ++ line x) ++ t) are
+item_first front true line x xs text rest (words, is) are = (words, rest, are, ap (λ t. t ++ rest) is ∙ six front (line x) front (codes "    ") words (codes "\n") rest)
+
+pub item_added : {X : Type 0} (front : List ℕ) (why : Bool) (line : X → List ℕ) (items : List X) (i : ℕ) (x : X) (before text rest : List ℕ) → i < length items → x ≡ get_or items i x
+    → ((more : List ℕ) → AreLines front why line (drop i items) more → AreLines front why line items (before ++ more)) → IsItemText front why (line x) text → AreLines front why line (drop (i + 1) items) rest
+    → AreLines front why line items ((before ++ text) ++ rest)
+item_added front why line items i x before text rest lt here so_far is are =
+    let at = drop_more items i x lt ∙ ap (λ z. z ∷ drop (i + 1) items) (sym here) in
+    subst (AreLines front why line items) (sym (append_assoc before text rest))
+    (so_far (text ++ rest) (subst (λ xs. AreLines front why line xs (text ++ rest)) (sym at) (item_first front why line x (drop (i + 1) items) text rest is are)))
+
+pub all_items : {X : Type 0} (front : List ℕ) (why : Bool) (line : X → List ℕ) (items : List X) (i : ℕ) (text : List ℕ) → length items ≤ i
+    → ((more : List ℕ) → AreLines front why line (drop i items) more → AreLines front why line items (text ++ more)) → AreLines front why line items text
+all_items front false line items i text end so_far = subst (AreLines front false line items) (append-nil text) (so_far [] (subst (λ xs. AreLines front false line xs []) (sym (drop_all i items end)) refl))
+all_items front true line items i text end so_far = subst (AreLines front true line items) (append-nil text) (so_far [] (subst (λ xs. AreLines front true line xs []) (sym (drop_all i items end)) refl))
+
 -- ---- what is said by a profile
 
 abbrev IsSaidBy : Profile → Data → List ℕ → List ℕ → Bool → Raw → Said → List ℕ → Type 0
@@ -174,3 +198,12 @@ lines_mapped front true line f xs said are = words_mapped front line f xs said a
 pub lines_of_breaks : (front : List ℕ) (why : Bool) (vs : List Violation) (bs : List Break) (said : List ℕ) → map reported vs ≡ map reported_of bs → AreLines front why (λ v. violation_line (reported v)) vs said
     → AreLines front why violation_line (map reported_of bs) said
 lines_of_breaks front why vs bs said same are = subst (λ ts. AreLines front why violation_line ts said) same (lines_mapped front why violation_line reported vs said are)
+
+-- by a cluster, what is broken, the patterns that are refused, and the faults
+pub cluster_said : (document : Data) (version front : List ℕ) (why : Bool) (raw : Raw) (vs : List Violation) (rs : List Refused) (fs : List Fault) (broken patterns found said : List ℕ) → raw.profile ≡ Cluster
+    → AreViolations (IsBrokenBeside rs raw) vs → AreRefusedPatterns raw.tree rs → AreSchemaFaults (has_status document version) raw.tree fs
+    → AreLines front why (λ v. violation_line (reported v)) vs broken → patterns ≡ pattern_lines front why rs → AreLines front why line_of fs found → said ≡ broken ++ (patterns ++ found)
+    → IsSaidText document version raw front why said
+cluster_said document version front why raw vs rs fs broken patterns found said same (bs, are, reports) refusals faults of_breaks of_patterns of_faults is =
+    said_by Cluster document version front why raw (record { breaks = bs; refused = rs; faults = fs }) said same are
+    ((refusals, faults), (broken, found, lines_of_breaks front why vs bs broken reports of_breaks, of_faults, is ∙ ap (λ p. broken ++ (p ++ found)) of_patterns))

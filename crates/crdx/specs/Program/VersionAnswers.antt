@@ -69,9 +69,9 @@ AreOfVersions arguments document _ _ = ⊥
 
 -- the lines of each behind the version's name and a colon
 abbrev pub AreLinesOfAll : Bool → List OfVersion → List ℕ → Type 0
-AreLinesOfAll why [] text = text ≡ []
-AreLinesOfAll why (v ∷ vs) text =
-    (alone : List ℕ) × (rest : List ℕ) × AreLinesOf (v.name ++ codes ": ") why v.raw v.said alone × AreLinesOfAll why vs rest × (text ≡ alone ++ rest)
+AreLinesOfAll why [] said = said ≡ []
+AreLinesOfAll why (v ∷ vs) said =
+    (alone : List ℕ) × (rest : List ℕ) × AreLinesOf (v.name ++ codes ": ") why v.raw v.said alone × AreLinesOfAll why vs rest × (said ≡ alone ++ rest)
 
 -- ---- the answer
 

@@ -1,6 +1,7 @@
 //! What is printed of several items, one after another.
-ghost use Rattle.std.specs.Prelude.{◌≡◌, ◌++◌, ℕ, List, IfOk, string_bytes, codes};
+ghost use Rattle.std.specs.Prelude.{◌≡◌, ℕ, List, IfOk, string_bytes};
 ghost use Rattle.std.specs.List.{flat_map};
+ghost use Rattle.crdx.specs.Internal.CheckText.{IsItemText};
 ghost use Rattle.crdx.specs.Program.CheckAnswer.{AreLines};
 
 use jtree::Tree;
@@ -45,24 +46,26 @@ pub(crate) fn lines_behind<T: Explains>(
 {
     let mut lines = String::new(alloc);
     for item in items {
-        lines.push_str(front)?;
-        lines.push_str(item.lines(alloc)?.as_str())?;
-        if why {
-            lines.push_str(words_line(alloc, front, item, document)?.as_str())?;
-        }
+        lines.push_str(lines_of(alloc, front, item, document, why)?.as_str())?;
     }
     Ok(lines)
 }
 
-/// The words below the line of an item.
-fn words_line<T: Explains>(
+/// The same of one item.
+fn lines_of<T: Explains>(
     alloc: Global,
     front: &str,
     item: &T,
     document: &Tree,
+    why: bool,
 ) -> Result<String, AllocError>
-    ensures { IfOk result (λ s. (words : List ℕ) × (string_bytes s ≡ front.now ++ (codes "    " ++ (words ++ codes "\n")))) }
+    ensures { IfOk result (λ s. IsItemText front.now why (T.text item.now) (string_bytes s)) }
 {
-    let words = item.words(alloc, document)?;
-    format!(in alloc; "{front}    {words}\n")
+    let line = item.lines(alloc)?;
+    if why {
+        let words = item.words(alloc, document)?;
+        format!(in alloc; "{front}{line}{front}    {words}\n")
+    } else {
+        format!(in alloc; "{front}{line}")
+    }
 }

@@ -1,5 +1,6 @@
 //! What `check` says of a schema and of a definition.
-ghost use Rattle.std.specs.Prelude.{◌≡◌, IfOk, [], map, string_bytes};
+ghost use Rattle.std.specs.Prelude.{◌≡◌, ℕ, List, IfOk, map, string_bytes};
+ghost use Rattle.jtree.specs.Data.{Data};
 ghost use Rattle.jtree.specs.View.{data_of};
 ghost use Rattle.schema.specs.Rules.Breaks.{AreViolations};
 ghost use Rattle.schema.specs.declared.profile.Profile.TheVariants.{Core, Cluster};
@@ -38,7 +39,7 @@ pub(crate) fn schema_text(
     raw: &RawSchema,
     manner: Manner<'_>,
 ) -> Result<String, AllocError>
-    ensures { IfOk result (λ s. IsSaidText (data_of document.now) version.now raw.now manner.front.now manner.why (string_bytes s)) }
+    ensures { IfOk result (λ s. IsSaidText (data_of document.now) version.now raw.now manner.entry.front.now manner.entry.why (string_bytes s)) }
 {
     match raw.profile() {
         Profile::Core => core_text(alloc, raw, manner.why),
@@ -67,7 +68,7 @@ fn cluster_text(
     manner: Manner<'_>,
 ) -> Result<String, AllocError>
     requires { raw.now.profile ≡ Cluster }
-    ensures { IfOk result (λ s. IsSaidText (data_of document.now) version.now raw.now manner.front.now manner.why (string_bytes s)) }
+    ensures { IfOk result (λ s. IsSaidText (data_of document.now) version.now raw.now manner.entry.front.now manner.entry.why (string_bytes s)) }
 {
     let Manner { front, why } = manner;
     let schema = raw.tree();

@@ -28,16 +28,16 @@ static NAMED: &str = r#"
 static VERSIONS: &str = r#"
 7 rows: name | command | definition | second | status
 the first is not structural | crdx check crd.json --profile cluster | @TWO | - | 1
-    > v1: V01 "/properties/a"
+    > v1: V01 "/properties/a" missing type
 the second alone | crdx check crd.json v2 --profile cluster | @TWO | - | 0
     > structural
 both, in the order of the definition, and the definition | crdx check crd.json --profile cluster | @BOTH | - | 1
-    > v2: C19 "/properties/a"
-    > v1: C01 "/properties/a"
+    > v2: C19 "/properties/a" array without items
+    > v1: C01 "/properties/a" bad pattern
     > C11 "/spec/versions"
 two sound ones | crdx check crd.json --profile cluster | @SOUND | - | 0
     > structural
-from the standard input | crdx check - --profile cluster | @SOUND | - | 4
+a definition that is not there | crdx check nowhere.json --profile cluster | @SOUND | - | 4
     ! crdx: crd: read failed
 none | crdx check crd.json --profile cluster | @NONE | - | 3
     ! crdx: crd: S2
