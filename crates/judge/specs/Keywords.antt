@@ -131,12 +131,13 @@ is_named_type _ v = false
 abbrev pub is_typed : Members → Data → Bool
 is_typed ks v = if is_int_or_string ks then is_whole_number v || is_text v else is_named_type (member_at (codes "type") ks) v
 
-abbrev pub is_a_text : Option Data → Bool
-is_a_text (Some (tree.text t)) = true
-is_a_text _ = false
+-- an empty text is as good as no type
+abbrev pub names_type : Option Data → Bool
+names_type (Some (tree.text t)) = not (bytes_eq t [])
+names_type _ = false
 
 abbrev pub has_type : Members → Bool
-has_type ks = is_int_or_string ks || is_a_text (member_at (codes "type") ks)
+has_type ks = is_int_or_string ks || names_type (member_at (codes "type") ks)
 
 abbrev pub is_numeric : Option Data → Bool
 is_numeric (Some (tree.text t)) = bytes_eq t (codes "integer") || bytes_eq t (codes "number")

@@ -8,7 +8,7 @@ ghost use Rattle.jtree.specs.Path.{member_at};
 ghost use Rattle.jtree.specs.View.{data_of, items_of};
 ghost use Rattle.judge.specs.Keywords.{texts, is_true, is_whole_number as is_whole_number_of, is_int_or_string as is_int_or_string_of};
 ghost use Rattle.judge.specs.Keywords.{is_of_type as is_of_type_of, is_named_type as is_named_type_of, is_typed as is_typed_of};
-ghost use Rattle.judge.specs.Keywords.{is_a_text as is_a_text_of, has_type as has_type_of, is_numeric as is_numeric_of};
+ghost use Rattle.judge.specs.Keywords.{names_type as names_type_of, has_type as has_type_of, is_numeric as is_numeric_of};
 ghost use Rattle.judge.specs.Keywords.{has_number_type as has_number_type_of, names_format as names_format_of, is_untyped as is_untyped_of};
 ghost use Rattle.judge.specs.Keywords.{passes_type as passes_type_of, accepts_null as accepts_null_of, passes_null as passes_null_of};
 ghost use Rattle.judge.specs.Keywords.{character_at as character_at_of, character_of, is_listed as is_listed_of, is_among as is_among_of};
@@ -72,7 +72,17 @@ fn is_named_type(name: Option<&Tree>, value: &Tree) -> bool
 fn has_type(schema: &Members) -> bool
     ensures { result ≡ has_type_of schema.now }
 {
-    is_int_or_string(schema) || matches!(schema.get("type"), Some(Tree::Text(_)))
+    is_int_or_string(schema) || names_type(schema.get("type"))
+}
+
+/// Whether there is a text, and it is not empty.
+fn names_type(name: Option<&Tree>) -> bool
+    ensures { result ≡ names_type_of (option_map (λ t. data_of t.now) name.entry) }
+{
+    match name {
+        Some(Tree::Text(name)) => !name.as_str().is_empty(),
+        _ => false,
+    }
 }
 
 fn is_numeric(name: Option<&Tree>) -> bool

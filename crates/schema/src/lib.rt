@@ -12,7 +12,8 @@
 //! ```
 //!
 //! A larger definition is read with other [`Limits`] by [`read_crd_within`], and one with the forms that a cluster reads by
-//! [`read_written`]. `laws` says what holds of nodes and reasons.
+//! [`read_written`]. [`refusals`] lists what is broken by the profile that a schema was read by, and [`judged_defaults`] the defaults that a
+//! cluster judges. `laws` says what holds of nodes and reasons.
 #![tactic(auto)]
 
 mod context;

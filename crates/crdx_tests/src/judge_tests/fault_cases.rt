@@ -16,7 +16,7 @@ use std::test::Fail;
 use text_tests::{FormatTests, TextTests};
 
 static TYPES: &str = r#"
-19 rows: name | schema | value | faults
+21 rows: name | schema | value | faults
 an integer | {"type":"integer"} | 1 | -
 a text for an integer | {"type":"integer"} | "a" | F01
 a float for an integer | {"type":"integer"} | 1.5 | F01
@@ -29,6 +29,8 @@ a list for an object | {"type":"object"} | [] | F01
 null | {"type":"string"} | null | F02
 null where it may be | {"type":"string","nullable":true} | null | -
 null without a type | {} | null | -
+an empty type | {"type":""} | 1 | -
+null and an empty type | {"type":""} | null | -
 an integer or a string | {"x-kubernetes-int-or-string":true} | "1" | -
 neither of them | {"x-kubernetes-int-or-string":true} | 1.5 | F01
 a type and a format | {"type":"boolean","format":"date"} | "2020-01-02" | -
