@@ -27,11 +27,11 @@ use Rattle.crdx.specs.declared.running.answer.Answer.{Answer}
 
 -- ---- no line is empty
 
-empty_left : (xs ys : List ℕ) → xs ++ ys ≡ [] → xs ≡ []
+pub empty_left : (xs ys : List ℕ) → xs ++ ys ≡ [] → xs ≡ []
 empty_left [] ys none = refl
 empty_left (x ∷ xs) ys none = cc
 
-empty_right : (xs ys : List ℕ) → xs ++ ys ≡ [] → ys ≡ []
+pub empty_right : (xs ys : List ℕ) → xs ++ ys ≡ [] → ys ≡ []
 empty_right [] ys none = none
 empty_right (x ∷ xs) ys none = cc
 

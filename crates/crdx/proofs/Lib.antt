@@ -5,7 +5,7 @@
 -- Lines: `WrittenLemmas` has the lines of a block, those of them that a sink took, and lines that are made of the line before.
 -- The envelope: `EnvelopeLemmas` is about what `split` and `join` make of an object, and about a sample in its envelope.
 -- The command line: `CommandLineLemmas` says what the matches of `clap` ask for.
--- Answers: `CheckLemmas` has those of `check`, `ObjectLemmas` those of `validate`, `prune`, `default` and `leaves`, `LineLemmas` texts
+-- Answers: `CheckLemmas` has those of `check`, `VersionLemmas` those of all versions, `ObjectLemmas` those of `validate`, `prune`, `default` and `leaves`, `LineLemmas` texts
 -- and choices as they are printed, `PatternLemmas` patterns that are refused.
 -- `LineAnswerLemmas` has the answers to lines, one after the other. `ObjectInputLemmas` has the documents on lines, and over lines.
 -- `CoverLemmas` has the lines of a cover that are out.
@@ -23,6 +23,7 @@ pub mod RunLemmas
 pub mod PoolsLemmas
 pub mod ObjectInputLemmas
 pub mod CheckLemmas
+pub mod VersionLemmas
 pub mod PatternLemmas
 pub mod CommandLineLemmas
 pub mod EnvelopeLemmas

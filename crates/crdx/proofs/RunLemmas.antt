@@ -1,5 +1,5 @@
 -- How the causes of a run and its status go together with what is asked of the documents at hand.
-use Rattle.std.proofs.Common.{◌≡◌, ◌≢◌, ◌⊎◌, ◌≤◌, ◌<◌, ℕ, List, [], ◌∷◌, Option, Some, None, Bor, Ok, Err, refl, sym, subst, inl, inr, take, map, string_bytes, IsSomeAnd, Bool, true, false, arith, length, append-nil, ◌∙◌}
+use Rattle.std.proofs.Common.{Contains, ◌≡◌, ◌≢◌, ◌⊎◌, ◌≤◌, ◌<◌, ℕ, List, [], ◌∷◌, Option, Some, None, Bor, Ok, Err, refl, sym, subst, inl, inr, take, map, string_bytes, IsSomeAnd, Bool, true, false, arith, length, append-nil, ◌∙◌}
 use Rattle.std.specs.Prelude.{if◌then◌else◌, IfSome, IfOk, IfErr, OnErr, Result}
 use Rattle.cover.specs.Cover.{objects_of}
 use Rattle.std.specs.Io.KnownBytes.{Appends, Keeps}
@@ -26,6 +26,7 @@ use Rattle.crdx.specs.Program.Standard.{Standard, asks_as_written}
 use Rattle.crdx.specs.declared.inputs.InputName.{InputName}
 use Rattle.crdx.specs.Program.Documents.{Read as ReadDocuments, Documents, file_name, AreAmong}
 use Rattle.crdx.specs.Internal.ExitStatus.{status, cause_of_reading, cause_of_refusal, cause_of_pools, cause_of_walk, IsWritten}
+use Rattle.crdx.specs.Program.VersionAnswers.{version_names}
 use Rattle.crdx.specs.Internal.Cause.{IsReadFailure, IsReadCause, IsVersionCause, IsPatternsCause, IsWrittenCause, IsBrokenCause, IsSchemaCause, IsPoolsCause, IsPlanCause, IsTextCause, IsAfterCause, IsOfPlan, IsRequestedPlanCause, IsFieldCause, IsObjectCause, IsDocumentCause, IsInputCause, IsSampleCause, IsSampleResult, IsWalkCause, IsCoveringCause, IsCoverCause, IsCoverResult}
 use Rattle.plan.specs.Pools.Pools.{Pools}
 use Rattle.schema.specs.declared.profile.Profile.{Profile}
@@ -92,6 +93,15 @@ module _ (has : Documents) (unread read : ℕ) (arguments : CommonArguments) whe
   pub broken : (raw : Raw) (vs : List Violation) → IsRequestedSchema has arguments raw → AreViolations (IsBroken raw) vs → vs ≢ []
       → (breaks : List Break) × (map reported vs ≡ map reported_of breaks) × HasBreaks has arguments breaks
   broken raw vs asked are some = (are.0, are.2, (raw, asked, are.1, some_break vs are.0 are.2 some))
+
+-- why the schema of one of the versions is not read, by the fault of reading it
+pub cause_of_version : (arguments : CommonArguments) (document : Data) (name : List ℕ) (fault : SFault) → Contains (version_names document) name
+    → IsReadFaultOf (form_by arguments.profile) (limits_of arguments) document name fault → IsVersionCause arguments document (cause_of_reading fault)
+cause_of_version arguments document name s.NotACrd there is = (λ no. cc, name, there, is)
+cause_of_version arguments document name s.NoSuchVersion there is = (λ no. cc, name, there, is)
+cause_of_version arguments document name (s.KeywordForm p) there is = (λ no. cc, name, there, is)
+cause_of_version arguments document name (s.TooLarge p) there is = (λ no. cc, name, there, is)
+cause_of_version arguments document name s.NoMemory there is = tt
 
 -- why a request for all versions has no answer
 pub input_of_versions : (has : Documents) (unread read : ℕ) (arguments : CommonArguments) (document : Data) (cause : Cause) → has (numbers_of arguments) (file_name arguments.crd) (Ok document)

@@ -1,6 +1,6 @@
 -- What `check` answers without a version, under `cluster`: what it says of the schema of each version, in the order of the definition and behind
 -- the version's name, and of the definition (this project's own).
-use Rattle.std.specs.Prelude.{◌≡◌, ◌≢◌, ◌⊎◌, ◌++◌, ℕ, List, [], ◌∷◌, Bool, Option, Some, None, All, Contains, codes}
+use Rattle.std.specs.Prelude.{◌≡◌, ◌≢◌, ◌⊎◌, ◌++◌, ℕ, List, [], ◌∷◌, Bool, Option, Some, None, Contains, codes}
 use Rattle.jtree.specs.Data.{Data, text, list, Items, no_items, item}
 use Rattle.jtree.specs.Path.{under, under2}
 use Rattle.schema.specs.Document.Crd.{IsRead}
@@ -75,13 +75,15 @@ AreLinesOfAll why (v ∷ vs) said =
 
 -- ---- the answer
 
-abbrev pub HasNothing : OfVersion → Type 0
-HasNothing v = v.said ≡ nothing
+-- nothing is said of any of them
+abbrev pub HaveNothing : List OfVersion → Type 0
+HaveNothing [] = Unit {0}
+HaveNothing (v ∷ vs) = (v.said ≡ nothing) × HaveNothing vs
 
 -- the exit status, and the whole text on standard output
 pub data AreChecked (arguments : CommonArguments) (document : Data) : ℕ → List ℕ → Type 0 where
-  structural : (vs : List OfVersion) → AreOfVersions arguments document (version_names document) vs → All HasNothing vs → AreSaidOf arguments.profile document []
+  structural : (vs : List OfVersion) → AreOfVersions arguments document (version_names document) vs → HaveNothing vs → AreSaidOf arguments.profile document []
       → AreChecked arguments document 0 (codes "structural\n")
   refused : (vs : List OfVersion) (fs : List Fault) (of_versions of_definition : List ℕ) → AreOfVersions arguments document (version_names document) vs → AreSaidOf arguments.profile document fs
-      → (All HasNothing vs → ⊥) ⊎ (fs ≢ []) → AreLinesOfAll arguments.why vs of_versions → AreLines [] arguments.why line_of fs of_definition
+      → (HaveNothing vs → ⊥) ⊎ (fs ≢ []) → AreLinesOfAll arguments.why vs of_versions → AreLines [] arguments.why line_of fs of_definition
       → AreChecked arguments document 1 (of_versions ++ of_definition)
