@@ -1,7 +1,5 @@
 -- What `check` says of a schema, as an answer.
-use Rattle.std.proofs.Common.{◌≡◌, ◌≢◌, ◌⊎◌, ◌∙◌, ◌++◌, ℕ, List, [], ◌∷◌, Bool, true, false, refl, ap, sym, subst, inl, inr, ◌+◌, ◌<◌, ◌≤◌, length, get_or, drop, map, flat_map, Ok, Err, string_bytes, codes, append-nil, append_assoc}
-use Rattle.std.specs.Prelude.{Result, IfOk}
-use Rattle.std.specs.declared.alloc.AllocError.{AllocError}
+use Rattle.std.proofs.Common.{◌≡◌, ◌≢◌, ◌⊎◌, ◌∙◌, ◌++◌, ℕ, List, [], ◌∷◌, Bool, true, false, refl, ap, sym, subst, inl, inr, ◌+◌, ◌<◌, ◌≤◌, length, get_or, drop, map, flat_map, string_bytes, codes, append-nil, append_assoc}
 use Rattle.std.proofs.lemmas.List.{drop_more, drop_all}
 use Rattle.std.proofs.lemmas.List.Folds.{flat_map-map}
 use Rattle.jtree.specs.Data.{Data}
@@ -109,7 +107,7 @@ of_nothing front why raw s said are same = of_nothing_by raw.profile front why r
 
 -- ---- an answer with and without lines
 
-check_answer : (document : Data) (version : List ℕ) (raw : Raw) (why : Bool) (said shown : List ℕ) (a : Answer)
+pub check_answer : (document : Data) (version : List ℕ) (raw : Raw) (why : Bool) (said shown : List ℕ) (a : Answer)
     → (said ++ shown ≡ [] → (a.status ≡ 0) × (string_bytes a.out ≡ codes "structural\n")) → (said ++ shown ≢ [] → (a.status ≡ 1) × (string_bytes a.out ≡ said ++ shown))
     → IsSaidText document version raw [] why said → IsDefinitionText raw.profile document why shown → IsCheckAnswer document version raw why a.status (string_bytes a.out)
 check_answer document version raw why said shown a none some (s, is, are) (fs, of, lines) = elim (nothing_or (said ++ shown)) [
@@ -126,13 +124,6 @@ check_answer document version raw why said shown a none some (s, is, are) (fs, o
       ] in
       rw (answer.0, answer.1) (refused s fs said shown is of one are lines)
 ]
-
-pub check_result : (document : Data) (version : List ℕ) (raw : Raw) (why : Bool) (said shown : List ℕ) (r : Result Answer AllocError)
-    → (said ++ shown ≡ [] → IfOk r (λ a. (a.status ≡ 0) × (string_bytes a.out ≡ codes "structural\n")))
-    → (said ++ shown ≢ [] → IfOk r (λ a. (a.status ≡ 1) × (string_bytes a.out ≡ said ++ shown))) → IsSaidText document version raw [] why said → IsDefinitionText raw.profile document why shown
-    → IfOk r (λ a. IsCheckAnswer document version raw why a.status (string_bytes a.out))
-check_result document version raw why said shown (Ok a) none some is are = check_answer document version raw why said shown a none some is are
-check_result document version raw why said shown (Err e) none some is are = tt
 
 -- one more item before others
 six : (a b c d e f rest : List ℕ) → (a ++ (b ++ (c ++ (d ++ (e ++ f))))) ++ rest ≡ a ++ (b ++ (c ++ (d ++ (e ++ (f ++ rest)))))

@@ -21,7 +21,7 @@ use Rattle.clap.specs.declared.error.kind.ErrorKind.TheVariants.{OutOfMemory}
 use Rattle.std.proofs.lemmas.List.{length-map}
 use Rattle.std.proofs.lemmas.List.Elements.{All-from_recursion}
 use Rattle.clap.proofs.WalkLemmas.{find_row, first_value-rows}
-use Rattle.crdx.specs.Program.CommandLine.{crdx_app, entered, faults, value_of, values_of, crd_input, input_of, standard_inputs, decimal_value, command_names, ReadsObjectsTwice, VariesNoObject, IsCommand, IsHelp, IsRequestOf, IsUsageErrorOrMemory, IsAsked, is_other_profile, Asks}
+use Rattle.crdx.specs.Program.CommandLine.{IsOfNoVersion, crdx_app, entered, faults, value_of, values_of, crd_input, input_of, standard_inputs, decimal_value, command_names, ReadsObjectsTwice, VariesNoObject, IsCommand, IsHelp, IsRequestOf, IsUsageErrorOrMemory, IsAsked, is_other_profile, Asks}
 use Rattle.crdx.specs.declared.arguments.request.Request.{Request}
 use Rattle.crdx.specs.declared.arguments.request.Request.TheVariants.{Check, CheckAll, Explain, Object, ObjectLines, SuggestPools, Sample, Cover, Help, UsageError, NoMemory}
 
@@ -57,9 +57,15 @@ refused_pools rows (UsageError text) is mixes = inr (inr (inr (inl (rows, refl, 
 refused_pools rows NoMemory is mixes = tt
 refused_pools rows _ is mixes = absurd is
 
+-- `check` of no version outside a cluster's profile
+pub refused_check : (rows : List Row) (o : Request) → IsUsageErrorOrMemory o → IsOfNoVersion rows → IsCommand (Some (codes "check", rows)) o
+refused_check rows (UsageError text) is none = inr (inr (inr (inr (inr (rows, refl, none)))))
+refused_check rows NoMemory is none = tt
+refused_check rows _ is none = absurd is
+
 -- a profile that there is not
 pub refused_profile : (name : Text) (rows : List Row) (o : Request) → IsUsageErrorOrMemory o → is_other_profile (first_of (codes "profile") rows) ≡ true → IsAsked (Some (name, rows)) o
-refused_profile name rows (UsageError text) is other = (inr (inr (inr (inr (name, rows, refl, other)))), λ _. tt)
+refused_profile name rows (UsageError text) is other = (inr (inr (inr (inr (inl (name, rows, refl, other))))), λ _. tt)
 refused_profile name rows NoMemory is other = (tt, λ _. tt)
 refused_profile name rows _ is other = absurd is
 

@@ -56,9 +56,10 @@ all_versions arguments document all names i said end so_far =
 
 nothing_of_all : (arguments : CommonArguments) (document : Data) (names : List (List ℕ)) (vs : List OfVersion) (said : List ℕ) → AreOfVersions arguments document names vs → AreLinesOfAll arguments.why vs said → said ≡ [] → HaveNothing vs
 nothing_of_all arguments document [] [] said are lines none = tt
-nothing_of_all arguments document (name ∷ names) (v ∷ vs) said (named, is, are) (alone, rest, mine, of_rest, same) none =
-    (nothing_said document v.name (v.name ++ codes ": ") arguments.why v.raw v.said alone is.is_said mine (empty_left alone rest (sym same ∙ none)),
-    nothing_of_all arguments document names vs rest are of_rest (empty_right alone rest (sym same ∙ none)))
+nothing_of_all arguments document (name ∷ names) (v ∷ vs) said (named, is, are) (alone, rest, mine, of_rest, same) none = (
+  nothing_said document v.name (v.name ++ codes ": ") arguments.why v.raw v.said alone is.is_said mine (empty_left alone rest (sym same ∙ none)),
+  nothing_of_all arguments document names vs rest are of_rest (empty_right alone rest (sym same ∙ none)),
+)
 nothing_of_all arguments document _ _ said are lines none = absurd are
 
 all_of_nothing : (why : Bool) (vs : List OfVersion) (said : List ℕ) → AreLinesOfAll why vs said → HaveNothing vs → said ≡ []

@@ -19,6 +19,7 @@ mod explaining;
 mod explanation;
 mod line_answers;
 mod lines;
+mod notes;
 mod object_inputs;
 mod objects;
 mod refusal;

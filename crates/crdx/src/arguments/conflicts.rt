@@ -9,8 +9,8 @@ ghost use Rattle.crdx.specs.Program.CommandLine as line;
 
 use crate::arguments::command::crdx_command;
 use crate::arguments::reading::{
-    common_arguments, cover_arguments, flag_of, is_given, object_arguments, pools_arguments, request_of,
-    sample_arguments,
+    common_arguments, cover_arguments, flag_of, is_given, object_arguments, pools_arguments,
+    request_of, sample_arguments,
 };
 use crate::arguments::request::{ObjectCommand, Request};
 use crate::inputs::InputName;
@@ -24,12 +24,12 @@ pub(crate) fn check_request<'a>(alloc: Global, found: &ArgMatches<'a>) -> Reques
     ensures { line.IsCommand (Some (codes "check", rows_of (found_of found.now))) result }
 {
     let arguments = common_arguments(found);
-    if found.get_str("VERSION").is_some() {
-        return Request::Check(arguments);
-    }
-    match arguments.profile {
-        Profile::Core => refuse(alloc, "VERSION is needed without --profile cluster"),
-        Profile::Cluster => Request::CheckAll(arguments),
+    match found.get_str("VERSION") {
+        Some(_) => Request::Check(arguments),
+        None => match arguments.profile {
+            Profile::Core => refuse(alloc, "VERSION is needed without --profile cluster"),
+            Profile::Cluster => Request::CheckAll(arguments),
+        },
     }
 }
 

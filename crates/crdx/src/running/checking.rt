@@ -16,6 +16,7 @@ use crate::running::documents::read_definition;
 use crate::running::exit_status::{DONE, NO};
 use crate::running::explanation::allowed_by;
 use crate::running::lines::{Explains, Lines, all_lines};
+use crate::running::notes::schema_notes;
 use crate::running::refusal::Refusal;
 use crate::running::said::{Manner, definition_text, schema_text};
 use jtree::Tree;
@@ -52,7 +53,9 @@ fn check_schema(
     let mut text = schema_text(alloc, document, arguments.version, raw, manner)?;
     let besides = definition_text(alloc, document, raw.profile(), why)?;
     text.push_str(besides.as_str())?;
-    verdict(alloc, text)
+    let mut answer = verdict(alloc, text)?;
+    answer.err = schema_notes(alloc, raw)?;
+    Ok(answer)
 }
 
 /// `structural` where no line is said, and else the lines.

@@ -15,6 +15,7 @@ use crate::running::causes::{Cause, Input};
 use crate::running::checking::verdict;
 use crate::running::definition_faults::part_below;
 use crate::running::documents::{read_document, reading_of};
+use crate::running::notes::version_notes;
 use crate::running::refusal::{Refusal, Subject};
 use crate::running::said::{Manner, definition_text, schema_text};
 use jtree::{Items, Tree};
@@ -56,7 +57,9 @@ fn check_versions(
     };
     let besides = definition_text(alloc, document, arguments.profile, arguments.why)?;
     text.push_str(besides.as_str())?;
-    Ok(verdict(alloc, text)?)
+    let mut answer = verdict(alloc, text)?;
+    answer.err = version_notes(alloc, document, names.as_slice())?;
+    Ok(answer)
 }
 
 /// What is said of the schemas of versions of these names.

@@ -18,12 +18,19 @@ use std::alloc::{AllocError, Global};
 pub(crate) fn has_status(document: &Tree, version: &str) -> bool
     ensures { result ≡ spec.has_status (data_of document.now) version.now }
 {
+    match version_of(document, version) {
+        Some(version) => is_there(part_below(version, "subresources", "status")),
+        None => false,
+    }
+}
+
+/// The version of this name in a definition.
+pub(crate) fn version_of<'a>(document: &'a Tree, name: &str) -> Option<&'a Tree>
+    ensures { option_map (λ t. data_of t.now) result ≡ spec.version_of name.now (under2 (data_of document.now) (codes "spec") (codes "versions")) }
+{
     match part_below(document, "spec", "versions") {
-        Some(Tree::List(versions)) => match version_in(versions, version) {
-            Some(version) => is_there(part_below(version, "subresources", "status")),
-            None => false,
-        },
-        _ => false,
+        Some(Tree::List(versions)) => version_in(versions, name),
+        _ => None,
     }
 }
 

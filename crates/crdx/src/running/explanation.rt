@@ -21,12 +21,16 @@ use crate::arguments::CommonArguments;
 use crate::inputs::{InputName, Inputs};
 use crate::running::causes::Cause;
 use crate::running::documents::{pool_limits_of, reading_of};
+pub(crate) use crate::running::explanation::allowed::allowed_by;
 use crate::running::explanation::definitions::definition_text;
 use crate::running::explanation::documents::{after_text, document_text, unread_text};
+pub(crate) use crate::running::explanation::faults::fault_reason;
 use crate::running::explanation::fields::field_text;
 use crate::running::explanation::objects::unstored_text;
 use crate::running::explanation::pools::{path_text, pools_text, suggestion_text};
+pub(crate) use crate::running::explanation::rules::{count_rules, rules_line};
 use crate::running::explanation::samples::no_sample_text;
+pub(crate) use crate::running::explanation::warnings::warning_lines;
 use crate::running::lines::all_lines;
 use crate::running::refusal::{Refusal, Subject};
 use crate::running::schema_patterns::pattern_lines;
@@ -35,11 +39,6 @@ use plan::{Plan, SizeSet};
 use schema::{Crd, read_crd_by};
 use std::alloc::{AllocError, Global};
 use stored::explained;
-
-pub(crate) use crate::running::explanation::allowed::allowed_by;
-pub(crate) use crate::running::explanation::faults::fault_reason;
-pub(crate) use crate::running::explanation::rules::{count_rules, rules_line};
-pub(crate) use crate::running::explanation::warnings::warning_lines;
 
 /// What is said of a refusal, each line with its end; nothing where there is no more to say. The lines of violations and of
 /// patterns have those of the cause in them.

@@ -25,6 +25,8 @@ const UNASKED: [&str; 9] = [
 /// A schema in another.
 #[derive(Clone, Copy)]
 struct Place<'a> {
+    /// What stands before the word `warning`.
+    front: &'a str,
     pointer: &'a str,
     /// Whether fields are pruned by it: outside of junctors and of the metadata of resources.
     prunes: bool,
@@ -34,10 +36,16 @@ struct Place<'a> {
     preserves: bool,
 }
 
-/// The warnings about a schema and all that are in it, in path order, each a line with its end. Pointers begin at the schema.
-pub(crate) fn warning_lines(alloc: Global, schema: &Tree) -> Result<String, AllocError> {
+/// The warnings about a schema and all that are in it, in path order, each a line with its end, and with this text before the word `warning`.
+/// Pointers begin at the schema.
+pub(crate) fn warning_lines(
+    alloc: Global,
+    front: &str,
+    schema: &Tree,
+) -> Result<String, AllocError> {
     let mut lines = String::new(alloc);
     let root = Place {
+        front,
         pointer: "",
         prunes: true,
         is_resource: true,
@@ -74,6 +82,7 @@ impl Place<'_> {
         let is_embedded = is_true(member_at(keywords, "x-kubernetes-embedded-resource"));
         let preserves = is_true(member_at(keywords, "x-kubernetes-preserve-unknown-fields"));
         Place {
+            front: self.front,
             pointer: self.pointer,
             prunes: self.prunes,
             is_resource: self.is_resource || is_embedded,
@@ -93,6 +102,7 @@ fn add_keyword(
     let name = keyword.name.as_str();
     let pointer = pointer_under(alloc, place.pointer, name)?;
     let below = Place {
+        front: place.front,
         pointer: pointer.as_str(),
         prunes: place.prunes && !is_junctor(name),
         is_resource: place.is_resource && name == "properties",
@@ -119,6 +129,7 @@ fn add_branches(
         let mut pointer = String::from_str(alloc, place.pointer)?;
         push_index(&mut pointer, index as u64).map_err(|_| AllocError)?;
         let branch = Place {
+            front: place.front,
             pointer: pointer.as_str(),
             prunes: false,
             is_resource: false,
@@ -141,6 +152,7 @@ fn add_properties(
         let name = member.name.as_str();
         let pointer = pointer_under(alloc, place.pointer, name)?;
         let property = Place {
+            front: place.front,
             pointer: pointer.as_str(),
             prunes: place.prunes && !(place.is_resource && is_envelope(name)),
             is_resource: false,
@@ -167,10 +179,11 @@ fn add_format(
 ) -> Result<(), AllocError> {
     match member_at(keywords, "format") {
         Some(Tree::Text(name)) if !is_known(name.as_str()) => {
+            let front = place.front;
             let pointer = json_text(alloc, place.pointer)?;
             let name = shown_name(alloc, name.as_str())?;
             let line = format!(in alloc;
-                "crdx: warning: {pointer} format {name} is not one that the API server knows, so nothing is asked\n"
+                "crdx: {front}warning: {pointer} format {name} is not one that the API server knows, so nothing is asked\n"
             )?;
             lines.push_str(line.as_str())
         }
@@ -212,10 +225,11 @@ fn add_required(
     place: Place<'_>,
     name: &str,
 ) -> Result<(), AllocError> {
+    let front = place.front;
     let pointer = json_text(alloc, place.pointer)?;
     let name = shown_name(alloc, name)?;
     let line = format!(in alloc;
-        "crdx: warning: {pointer} required names {name}, which no property declares, so no object meets it\n"
+        "crdx: {front}warning: {pointer} required names {name}, which no property declares, so no object meets it\n"
     )?;
     lines.push_str(line.as_str())
 }
