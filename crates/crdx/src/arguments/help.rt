@@ -472,7 +472,7 @@ pub(super) const CRD: &str = "A JSON file with a CustomResourceDefinition; - is 
 pub(super) const CRD_VERSION: &str = "The name of one of its versions, such as v1";
 
 pub(super) const CHECKED_VERSION: &str =
-    "The name of one of its versions, such as v1; with --profile cluster it can be left out, and all versions are checked";
+    "The name of a version; with --profile cluster, all if left out";
 
 pub(super) const PATH: &str = "The path of a field; without it all fields are listed";
 

@@ -42,7 +42,7 @@ another profile of samples | crdx sample crd.json v1 --profile Cluster --pools p
 two profiles | crdx prune crd.json v1 --profile core --profile cluster | error: the argument '--profile <NAME>' cannot be used multiple times
 a sample of nothing | crdx sample | error: the following required arguments were not provided:
 a sample of no version | crdx sample crd.json | error: the following required arguments were not provided:
-a check of no version | crdx check crd.json | error: the following required arguments were not provided:
+a check of no version | crdx check crd.json | error: VERSION is needed without --profile cluster
 no version | crdx validate crd.json | error: the following required arguments were not provided:
 leaves of no version | crdx leaves crd.json | error: the following required arguments were not provided:
 fields of nothing | crdx explain | error: the following required arguments were not provided:
@@ -85,13 +85,13 @@ a command | crdx help | Usage: crdx <COMMAND>
 an option of a command | crdx sample --help | Usage: crdx sample [OPTIONS] <CRD> <VERSION>
 a command of a command | crdx help sample | Usage: crdx sample [OPTIONS] <CRD> <VERSION>
 another name of the program | bin/crdx_cli sample --help | Usage: crdx sample [OPTIONS] <CRD> <VERSION>
-a short option | crdx check -h | Usage: crdx check [OPTIONS] <CRD> <VERSION>
+a short option | crdx check -h | Usage: crdx check [OPTIONS] <CRD> [VERSION]
 an option of another command | crdx validate --help | Usage: crdx validate [OPTIONS] <CRD> <VERSION> [OBJECT]
 a command of another command | crdx help prune | Usage: crdx prune [OPTIONS] <CRD> <VERSION> [OBJECT]
 a short option of another command | crdx default -h | Usage: crdx default [OPTIONS] <CRD> <VERSION> [OBJECT]
 a short option alone | crdx -h | Usage: crdx <COMMAND>
 a short option of a sample | crdx sample -h | Usage: crdx sample [OPTIONS] <CRD> <VERSION>
-an option of a check | crdx check --help | Usage: crdx check [OPTIONS] <CRD> <VERSION>
+an option of a check | crdx check --help | Usage: crdx check [OPTIONS] <CRD> [VERSION]
 "#;
 
 static HELP_OF_OBJECTS: &str = r#"

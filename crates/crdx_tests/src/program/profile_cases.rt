@@ -169,12 +169,10 @@ a keyword that is misspelt below a junctor | crdx check crd.json v1 --profile cl
     | {"group":"example.com","scope":"Cluster","names":{"plural":"widgets","kind":"Widget"},
     "versions":[{"name":"v1","served":true,"storage":true,
     "schema":{"openAPIV3Schema":{"type":"object","properties":{"a":{"type":"integer","not":{"minimun":1}}}}}}]} | 1
-    > V16 "/properties/a/not"
     > C03 "/spec/versions/0/schema/openAPIV3Schema/properties/a/not/minimun"
 those of the schema before those of the definition | crdx check crd.json v1 --profile cluster
     | {"group":"example.com","scope":1,"names":{"plural":"widgets","kind":"Widget"},
     "versions":[{"name":"v1","served":true,"storage":true,"schema":{"openAPIV3Schema":{"type":"object","properties":{"l":{"type":"array"}}}}}]} | 1
-    > V17 "/properties/l"
     > C19 "/properties/l"
     > C08 "/spec/scope"
 a keyword that does not go with status | crdx check crd.json v1 --profile cluster
@@ -194,23 +192,19 @@ status of another version | crdx check crd.json v2 --profile cluster
     {"name":"v2","served":true,"storage":false,
     "schema":{"openAPIV3Schema":{"type":"object","oneOf":[{"required":["a"]}],"properties":{"a":{"type":"string"}}}}}]} | 0
     > structural
-with reasons, where a violation has some | crdx check crd.json v1 --profile cluster --why
+with reasons | crdx check crd.json v1 --profile cluster --why
     | {"group":"example.com","scope":"Cluster","names":{"plural":"widgets","kind":"Widget"},
     "versions":[{"name":"v1","served":true,"storage":true,
     "schema":{"openAPIV3Schema":{"type":"object","properties":{"a":{"type":"string","minimun":1}}}}}]} | 1
-    > V17 "/properties/a"
-    >     "minimun": NotOfScalars
     > C03 "/spec/versions/0/schema/openAPIV3Schema/properties/a/minimun"
+    >     found "minimun"; nearest is "minimum"
 "#;
 
-// Patterns of a schema, each of which breaks V16 or V17 too, but where there is no type.
+// Patterns of a schema.
 static PATTERNS: &str = r#"
 13 rows: name | command | schema | second | status
 @BAD | {"type":"object","properties":{"a":{"type":"string","pattern":"^a"},"b":{"type":"string","pattern":"["},"c":{"type":"string","pattern":""}}}
 a bad one beside good ones | crdx check crd.json v1 --profile cluster | @BAD | - | 1
-    > V17 "/properties/a"
-    > V17 "/properties/b"
-    > V17 "/properties/c"
     > C01 "/properties/b"
 the same with core, which is usual | crdx check crd.json v1 | @BAD | - | 1
     > V17 "/properties/a"
@@ -222,26 +216,17 @@ the same with core, which is named | crdx check crd.json v1 --profile core --why
     >     "pattern": NotOfScalars
 two bad ones, by names and not by pointers | crdx check crd.json v1 --profile cluster
     | {"type":"object","properties":{"a-b":{"type":"string","pattern":"a{2,1}"},"a":{"type":"array","items":{"type":"string","pattern":"a(?=b)"}}}} | - | 1
-    > V17 "/properties/a/items"
-    > V17 "/properties/a-b"
     > C01 "/properties/a/items"
     > C01 "/properties/a-b"
 one too big before a bad one, with reasons | crdx check crd.json v1 --why --profile cluster
     | {"type":"object","properties":{"a/b":{"type":"string","pattern":"((a{1000}){1000}){10}"},
     "c":{"type":"object","additionalProperties":{"type":"string","pattern":"\"["}}}} | - | 1
-    > V17 "/properties/a~1b"
-    >     "pattern": NotOfScalars
-    > V17 "/properties/c/additionalProperties"
-    >     "pattern": NotOfScalars
     > C02 "/properties/a~1b"
     >     "pattern": found "((a{1000}){1000}){10}"; what a pattern compiles to may have 10 MiB
     > C01 "/properties/c/additionalProperties"
     >     "pattern": found "\"["; a pattern is a regular expression of Go's regexp (RE2 syntax)
 in branches of junctors | crdx check crd.json v1 --profile cluster
     | {"type":"object","properties":{"a":{"type":"string","not":{"pattern":")"},"anyOf":[{"pattern":"a"},{"pattern":"("}]}}} | - | 1
-    > V16 "/properties/a/anyOf/0"
-    > V16 "/properties/a/anyOf/1"
-    > V16 "/properties/a/not"
     > C01 "/properties/a/anyOf/1"
     > C01 "/properties/a/not"
 beside no type | crdx check crd.json v1 --profile cluster | {"type":"object","properties":{"a":{"pattern":"("},"b":{"type":"string","default":1}}} | - | 1
@@ -249,8 +234,8 @@ beside no type | crdx check crd.json v1 --profile cluster | {"type":"object","pr
     > C01 "/properties/a"
 what is no text | crdx check crd.json v1 --profile cluster | {"type":"object","properties":{"a":{"type":"string","pattern":1}}} | - | 3
     ! crdx: crd: S3 "/properties/a/pattern"
-good ones alone | crdx check crd.json v1 --profile cluster | @PATTERN | - | 1
-    > V17 "/properties/a"
+good ones alone | crdx check crd.json v1 --profile cluster | @PATTERN | - | 0
+    > structural
 none | crdx check crd.json v1 --profile cluster | {"type":"object","properties":{"a":{},"pattern":{"type":"string"}}} | - | 1
     > V01 "/properties/a"
 a form before them | crdx check crd.json v1 --profile cluster | {"type":"object","properties":{"a":{"type":"string","pattern":"[","minimum":"1"}}} | - | 3

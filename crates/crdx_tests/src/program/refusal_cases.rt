@@ -80,7 +80,7 @@ fn inputs(rt: HostRuntime) -> Result<(), Fail> {
 // What is wanted: a line of the help.
 static HELP: &str = r#"
 2 rows: name | command | lines
-help beside a definition that does not exist | crdx check nowhere.json v1 --help | Usage: crdx check [OPTIONS] <CRD> <VERSION>
+help beside a definition that does not exist | crdx check nowhere.json v1 --help | Usage: crdx check [OPTIONS] <CRD> [VERSION]
 help beside an object that does not exist | crdx prune crd.json v1 nowhere.json --help | Usage: crdx prune [OPTIONS] <CRD> <VERSION> [OBJECT]
 "#;
 
