@@ -46,8 +46,7 @@ def summary(schema: Relaxed) -> list[str]:
 
 
 def hidden_rules(crdx: Crdx, definition: Document, version: str, relaxed_text: str) -> list[str]:
-    """The lines on what the definition breaks as it was written, and no longer when relaxed, of the rules that a cluster has too: V01 to V11,
-    V13, C01 and those of definitions. V14 is asked of the relaxed schema."""
+    """The lines on what the definition breaks as it was written, and no longer when relaxed, of the rules that a cluster has."""
     known = broken_rules(crdx, relaxed_text, version)
     lines = [line for line in broken_rules(crdx, in_text(json.loads(definition.text)), version) if line not in known]
     return [f"as written, and a cluster refuses it too: {line}" for line in lines]
@@ -56,7 +55,7 @@ def hidden_rules(crdx: Crdx, definition: Document, version: str, relaxed_text: s
 def broken_rules(crdx: Crdx, definition: str, version: str) -> list[str]:
     with in_memory(definition) as crd:
         said = crdx.run("check", "--large", "--profile=cluster", crd, version, stdout=subprocess.PIPE, stderr=subprocess.DEVNULL)
-    return re.findall("^(?:V(?:0.|1[013])|C(?!02)..) .*", said.stdout, re.M)
+    return re.findall("^(?:V|C(?!02))[0-9]{2} .*", said.stdout, re.M)
 
 
 def values_of(words: list[str], option: str) -> list[str]:
